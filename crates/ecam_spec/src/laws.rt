@@ -1,0 +1,1 @@
+// What the definitions say, as theorems: each is the contract of a function that does nothing.

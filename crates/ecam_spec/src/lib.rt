@@ -1,0 +1,10 @@
+//! The meaning of everything that the program shows, as definitions over whole histories. No loop of
+//! the program is here: the crates above prove theirs against these definitions.
+#![tactic(auto)]
+
+mod kinds;
+mod laws;
+
+pub use kinds::{
+    Choice, Colour, Event, FaultKind, Key, Kind, Level, Op, RecordFault, Sound, Standing,
+};
