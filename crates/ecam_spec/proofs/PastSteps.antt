@@ -1,6 +1,8 @@
 -- The step of each word of past-time logic: what it says in one more moment. Every proof over histories
 -- goes by these.
 use Rattle.std.proofs.Common.{◌≡◌, ℕ, zero, suc, ◌+◌, ◌-◌, ◌<◌, ◌≤◌, Bool, true, false, not, ◌&&◌, ◌||◌, Option, Some, None, ltb, leb, cond, refl, sym, ◌∙◌, ap, subst, arith}
+use Rattle.std.proofs.lemmas.Bool.{lt-ltb, le-ltb, le-leb}
+use Rattle.std.specs.Prelude.{is_some}
 use Rattle.ecam_spec.specs.Past.{Signal, once, historically, once_from, historically_from, once_within, historically_within, since, previous, rise, last, next, begin_of, count_up_to, count_from}
 
 pub once-suc : (p : Signal) (k : ℕ) → once p (suc k) ≡ (p (suc k) || once p k)
@@ -37,3 +39,87 @@ once-nowhere (suc k) = once-nowhere k
 pub once-and : (b : Bool) (p : Signal) (k : ℕ) → once (λ i. b && p i) k ≡ (b && once p k)
 once-and true p k = refl
 once-and false p k = once-nowhere k
+
+and-true : (b : Bool) → (b && true) ≡ b
+and-true true = refl
+and-true false = refl
+
+and-swap : (a b c : Bool) → (a && (b && c)) ≡ (b && (a && c))
+and-swap true b c = refl
+and-swap false true c = refl
+and-swap false false c = refl
+
+-- what is true in each moment up to now was historically so
+pub historically-true : (p : Signal) (k : ℕ) → ((i : ℕ) → i ≤ k → p i ≡ true) → historically p k ≡ true
+unfolding historically
+historically-true p zero all = all 0 (omega arith)
+historically-true p (suc k) all =
+    let earlier : historically p k ≡ true = historically-true p k (λ i h. all i (omega arith)) in
+    let now : p (suc k) ≡ true = all (suc k) (omega arith) in
+    rw (now, earlier) refl
+
+or-first : (a b : Bool) → a ≡ true → (a || b) ≡ true
+or-first a b h = rw h refl
+
+-- no moment is left
+pub historically_from-after : (j : ℕ) (p : Signal) (k : ℕ) → k < j → historically_from j p k ≡ true
+unfolding historically_from
+historically_from-after j p k after =
+    historically-true (λ i. ltb i j || p i) k (λ i h. or-first (ltb i j) (p i) (lt-ltb i j (omega arith)))
+
+-- one more moment, which isn't before j
+pub historically_from-suc : (j : ℕ) (p : Signal) (k : ℕ) → j ≤ suc k → historically_from j p (suc k) ≡ (p (suc k) && historically_from j p k)
+unfolding historically_from historically
+historically_from-suc j p k within =
+    let past : ltb (suc k) j ≡ false = le-ltb (suc k) j within in
+    ap (λ b. (b || p (suc k)) && historically (λ i. ltb i j || p i) k) past
+
+-- one more moment, which isn't before j
+pub once_from-suc : (j : ℕ) (p : Signal) (k : ℕ) → j ≤ suc k → once_from j p (suc k) ≡ (p (suc k) || once_from j p k)
+unfolding once_from once
+once_from-suc j p k within =
+    ap (λ b. (b && p (suc k)) || once (λ i. leb j i && p i) k) (le-leb j (suc k) within)
+
+-- q since p, in moment 0 and in one more
+pub since-zero : (p q : Signal) → since p q 0 ≡ p 0
+unfolding since once
+since-zero p q = ap (λ b. p 0 && b) (historically_from-after 1 q 0 (omega arith)) ∙ and-true (p 0)
+
+pub since-suc : (p q : Signal) (k : ℕ) → since p q (suc k) ≡ (p (suc k) || (q (suc k) && since p q k))
+unfolding since
+since-suc p q k =
+    once-suc (λ j. p j && historically_from (suc j) q (suc k)) k
+    ∙ ap (λ b. (p (suc k) && b) || once (λ j. p j && historically_from (suc j) q (suc k)) k) (historically_from-after (suc (suc k)) q (suc k) (omega arith))
+    ∙ ap (λ b. b || once (λ j. p j && historically_from (suc j) q (suc k)) k) (and-true (p (suc k)))
+    ∙ ap (λ b. p (suc k) || b)
+        (once-below (λ j. p j && historically_from (suc j) q (suc k)) (λ j. q (suc k) && (p j && historically_from (suc j) q k)) k
+            (λ j h. ap (λ b. p j && b) (historically_from-suc (suc j) q k (omega arith)) ∙ and-swap (p j) (q (suc k)) (historically_from (suc j) q k))
+        ∙ once-and (q (suc k)) (λ j. p j && historically_from (suc j) q k) k)
+
+pub rise-suc : (p : Signal) (k : ℕ) → rise p (suc k) ≡ (p (suc k) && not (p k))
+unfolding rise previous
+rise-suc p k = refl
+
+pub rise-zero : (p : Signal) → rise p 0 ≡ p 0
+unfolding rise previous
+rise-zero p = and-true (p 0)
+
+pub last-suc : (p : Signal) (k : ℕ) → last p (suc k) ≡ cond (p (suc k)) (Some (suc k)) (last p k)
+unfolding last
+last-suc p k = elim (p (suc k)) as (λ b. elim b [ true ↦ Some (suc k) | false ↦ last p k ] ≡ cond b (Some (suc k)) (last p k)) [ true ↦ refl | false ↦ refl ]
+
+-- the last moment with p is there where p holds in some moment
+pub last-once : (p : Signal) (k : ℕ) → is_some (last p k) ≡ once p k
+unfolding last once
+last-once p zero = elim (p 0) as (λ b. is_some {T = ℕ} (elim b [ true ↦ Some 0 | false ↦ None ]) ≡ b) [ true ↦ refl | false ↦ refl ]
+last-once p (suc k) = elim (p (suc k)) as (λ b. is_some {T = ℕ} (elim b [ true ↦ Some (suc k) | false ↦ last p k ]) ≡ (b || once p k)) [ true ↦ refl | false ↦ last-once p k ]
+
+-- p in a row up to now, or broken off
+pub begin_of-suc : (p : Signal) (k : ℕ) → begin_of p (suc k) ≡ cond (p (suc k)) (begin_of p k) (suc (suc k))
+unfolding begin_of last
+begin_of-suc p k =
+    elim (p (suc k)) as (λ b. next (elim (not b) [ true ↦ Some (suc k) | false ↦ last (λ i. not (p i)) k ]) ≡ cond b (next (last (λ i. not (p i)) k)) (suc (suc k))) [ true ↦ refl | false ↦ refl ]
+
+pub begin_of-zero : (p : Signal) → begin_of p 0 ≡ cond (p 0) 0 1
+unfolding begin_of last
+begin_of-zero p = elim (p 0) as (λ b. next (elim (not b) [ true ↦ Some 0 | false ↦ None ]) ≡ cond b 0 1) [ true ↦ refl | false ↦ refl ]

@@ -3,3 +3,6 @@ pub mod Past
 pub mod Word
 pub mod Reading
 pub mod Book
+pub mod Value
+pub mod Term
+pub mod Phase
