@@ -1,9 +1,9 @@
 -- The step of each word of past-time logic: what it says in one more moment. Every proof over histories
 -- goes by these.
-use Rattle.std.proofs.Common.{◌≡◌, ℕ, zero, suc, ◌+◌, ◌-◌, ◌<◌, ◌≤◌, Bool, true, false, not, ◌&&◌, ◌||◌, Option, Some, None, ltb, leb, cond, refl, sym, ◌∙◌, ap, subst, arith}
+use Rattle.std.proofs.Common.{◌≡◌, ℕ, zero, suc, ◌<◌, ◌≤◌, Bool, true, false, not, ◌&&◌, ◌||◌, Some, None, ltb, leb, cond, refl, ◌∙◌, ap, arith}
 use Rattle.std.proofs.lemmas.Bool.{lt-ltb, le-ltb, le-leb}
 use Rattle.std.specs.Prelude.{is_some}
-use Rattle.ecam_spec.specs.Past.{Signal, once, historically, once_from, historically_from, once_within, historically_within, since, previous, rise, last, next, begin_of, count_up_to, count_from}
+use Rattle.ecam_spec.specs.Past.{Signal, once, historically, once_from, historically_from, since, previous, rise, last, next, begin_of}
 
 pub once-suc : (p : Signal) (k : ℕ) → once p (suc k) ≡ (p (suc k) || once p k)
 unfolding once
@@ -92,9 +92,9 @@ since-suc p q k =
     ∙ ap (λ b. (p (suc k) && b) || once (λ j. p j && historically_from (suc j) q (suc k)) k) (historically_from-after (suc (suc k)) q (suc k) (omega arith))
     ∙ ap (λ b. b || once (λ j. p j && historically_from (suc j) q (suc k)) k) (and-true (p (suc k)))
     ∙ ap (λ b. p (suc k) || b)
-        (once-below (λ j. p j && historically_from (suc j) q (suc k)) (λ j. q (suc k) && (p j && historically_from (suc j) q k)) k
-            (λ j h. ap (λ b. p j && b) (historically_from-suc (suc j) q k (omega arith)) ∙ and-swap (p j) (q (suc k)) (historically_from (suc j) q k))
-        ∙ once-and (q (suc k)) (λ j. p j && historically_from (suc j) q k) k)
+    (once-below (λ j. p j && historically_from (suc j) q (suc k)) (λ j. q (suc k) && (p j && historically_from (suc j) q k)) k
+    (λ j h. ap (λ b. p j && b) (historically_from-suc (suc j) q k (omega arith)) ∙ and-swap (p j) (q (suc k)) (historically_from (suc j) q k))
+    ∙ once-and (q (suc k)) (λ j. p j && historically_from (suc j) q k) k)
 
 pub rise-suc : (p : Signal) (k : ℕ) → rise p (suc k) ≡ (p (suc k) && not (p k))
 unfolding rise previous

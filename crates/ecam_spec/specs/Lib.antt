@@ -6,3 +6,5 @@ pub mod Book
 pub mod Value
 pub mod Term
 pub mod Phase
+pub mod TermSize
+pub mod TermNames
