@@ -8,6 +8,8 @@ pub mod Levels
 pub mod Value
 pub mod Term
 pub mod Phase
+pub mod TermSize
+pub mod TermNames
 pub mod Picture
 pub mod History
 pub mod Keys
