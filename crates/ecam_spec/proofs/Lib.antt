@@ -1,1 +1,3 @@
 pub mod PastSteps
+pub mod PastLaws
+pub mod AlertLaws
