@@ -8,6 +8,7 @@ pub mod Levels
 pub mod Value
 pub mod Term
 pub mod Phase
+pub mod PhaseRules
 pub mod Picture
 pub mod History
 pub mod Keys
