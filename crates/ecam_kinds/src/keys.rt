@@ -76,8 +76,9 @@ impl Keys {
         ensures pressed { (q : Key) → IsKey q → is_pressed self.new q ≡ (same_key q key || is_pressed self.old q) }
         ensures held { (q : Key) → IsKey q → is_held self.new q ≡ (same_key q key || is_held self.old q) }
     {
-        self.pressed[key_index(key)] = true;
-        self.held[key_index(key)] = true;
+        let place = key_index(key);
+        self.pressed[place] = true;
+        self.held[place] = true;
     }
 
     fn set_up(&mut self, key: Key)

@@ -6,3 +6,6 @@ pub mod HistoryLaws
 pub mod KeyLaws
 pub mod ReplayLaws
 pub mod PhaseLaws
+pub mod PastWithin
+pub mod PastAgree
+pub mod TermNames

@@ -39,9 +39,9 @@ since-kept p q j (suc k) within begun kept =
     ]
 
 -- p begins it now
-pub since-now : (p q : Signal) (k : ℕ) → p k ≡ true → since p q k ≡ true
-since-now p q zero h = since-zero p q ∙ h
-since-now p q (suc k) h = since-suc p q k ∙ ap (λ b. b || (q (suc k) && since p q k)) h
+pub since-begun : (p q : Signal) (k : ℕ) → p k ≡ true → since p q k ≡ true
+since-begun p q zero h = since-zero p q ∙ h
+since-begun p q (suc k) h = since-suc p q k ∙ ap (λ b. b || (q (suc k) && since p q k)) h
 
 -- without p and q it isn't so
 pub since-broken : (p q : Signal) (k : ℕ) → p k ≡ false → q k ≡ false → since p q k ≡ false

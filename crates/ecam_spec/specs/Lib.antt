@@ -9,6 +9,8 @@ pub mod Value
 pub mod Term
 pub mod Phase
 pub mod PhaseRules
+pub mod TermSize
+pub mod TermNames
 pub mod Picture
 pub mod History
 pub mod Keys
