@@ -1,9 +1,9 @@
 -- The step of each word of past-time logic: what it says in one more moment. Every proof over histories
 -- goes by these.
-use Rattle.std.proofs.Common.{◌≡◌, ℕ, zero, suc, ◌+◌, ◌-◌, ◌<◌, ◌≤◌, Bool, true, false, not, ◌&&◌, ◌||◌, Option, Some, None, ltb, leb, cond, refl, sym, ◌∙◌, ap, subst, arith}
+use Rattle.std.proofs.Common.{◌≡◌, ℕ, zero, suc, ◌<◌, ◌≤◌, Bool, true, false, not, ◌&&◌, ◌||◌, Option, Some, None, ltb, leb, cond, refl, sym, ◌∙◌, ap, arith}
 use Rattle.std.proofs.lemmas.Bool.{lt-ltb, le-ltb, le-leb, lt-leb}
 use Rattle.std.specs.Prelude.{is_some, unwrap_or}
-use Rattle.ecam_spec.specs.Past.{Signal, once, historically, once_from, historically_from, once_within, historically_within, since, previous, rise, last, next, begin_of, count_up_to, count_from}
+use Rattle.ecam_spec.specs.Past.{Signal, once, historically, once_from, historically_from, since, previous, rise, last, next, begin_of}
 
 pub once-suc : (p : Signal) (k : ℕ) → once p (suc k) ≡ (p (suc k) || once p k)
 unfolding once
@@ -138,10 +138,10 @@ pub since-below : (p q r s : Signal) (k : ℕ) → ((i : ℕ) → i ≤ k → p 
 unfolding since
 since-below p q r s k first second =
     once-below (λ j. p j && historically_from (suc j) q k) (λ j. r j && historically_from (suc j) s k) k
-        (λ j h.
-            let begun : p j ≡ r j = first j h in
-            let kept : historically_from (suc j) q k ≡ historically_from (suc j) s k = historically_from-below (suc j) q s k second in
-            cc)
+    (λ j h.
+    let begun : p j ≡ r j = first j h in
+    let kept : historically_from (suc j) q k ≡ historically_from (suc j) s k = historically_from-below (suc j) q s k second in
+    cc)
 
 or-false : (b : Bool) → (b || false) ≡ b
 or-false true = refl

@@ -8,6 +8,7 @@ pub mod Levels
 pub mod Value
 pub mod Term
 pub mod Phase
+pub mod PhaseRules
 pub mod TermSize
 pub mod TermNames
 pub mod Picture
