@@ -16,6 +16,10 @@ pub mod History
 pub mod Keys
 pub mod RecordLine
 pub mod Record
+pub mod Token
+pub mod Grammar
+pub mod TermText
+pub mod TermReading
 pub mod Output
 pub mod Alert
 pub mod Crew

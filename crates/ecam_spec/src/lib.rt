@@ -4,7 +4,9 @@
 
 mod kinds;
 pub mod laws;
+mod terms;
 
 pub use kinds::{
     Choice, Colour, Event, FaultKind, Key, Kind, Level, Op, RecordFault, Sound, Standing,
 };
+pub use terms::{Expected, Listed, NameRole, NumberRole, Reserved, Span, Step, Token};
