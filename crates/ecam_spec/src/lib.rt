@@ -6,5 +6,6 @@ mod kinds;
 mod laws;
 
 pub use kinds::{
-    Choice, Colour, Event, FaultKind, Key, Kind, Level, Op, RecordFault, Sound, Standing,
+    BookFault, Choice, Colour, Event, FaultKind, Key, Kind, Level, Op, RecordFault, Section, Sound,
+    Standing,
 };
