@@ -35,3 +35,9 @@ pub mod Situation
 pub mod Screen
 pub mod Replay
 pub mod Opened
+pub mod BookText
+pub mod Draft
+pub mod BookTerms
+pub mod Sound
+pub mod Faults
+pub mod DraftFaults
