@@ -29,4 +29,5 @@ pub mod Standing
 pub mod Situation
 pub mod Screen
 pub mod Replay
+pub mod Titles
 pub mod Opened
