@@ -2,3 +2,5 @@ pub mod PastSteps
 pub mod PastWithin
 pub mod PastAgree
 pub mod TermNames
+pub mod PastLaws
+pub mod AlertLaws

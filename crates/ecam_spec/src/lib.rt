@@ -3,7 +3,7 @@
 #![tactic(auto)]
 
 mod kinds;
-mod laws;
+pub mod laws;
 
 pub use kinds::{
     Choice, Colour, Event, FaultKind, Key, Kind, Level, Op, RecordFault, Sound, Standing,
