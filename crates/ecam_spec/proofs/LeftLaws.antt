@@ -98,10 +98,11 @@ module _ (stands : Line → Bool) (alerts : ℕ → Alert) where
   joined-titled : (xs : List ℕ) → EachTitled (joined xs)
   unfolding alert_rows
   joined-titled [] = tt
-  joined-titled (x ∷ xs) =
-      ((λ a e. ap title_of_alert (sym (eqb-true a x e))),
-       titled-append (map (λ (l : Line). plain (row l.colour l.text)) (filter stands (alerts x).lines)) (joined xs)
-           (lines-titled (filter stands (alerts x).lines)) (joined-titled xs))
+  joined-titled (x ∷ xs) = (
+    (λ a e. ap title_of_alert (sym (eqb-true a x e))),
+    titled-append (map (λ (l : Line). plain (row l.colour l.text)) (filter stands (alerts x).lines)) (joined xs)
+        (lines-titled (filter stands (alerts x).lines)) (joined-titled xs),
+  )
 
   left-titled : (xs : List ℕ) (normal : Bool) (memos : List Row) → EachTitled (left_rows (joined xs) normal memos)
   unfolding left_rows alert_rows
@@ -118,9 +119,10 @@ module _ (stands : Line → Bool) (alerts : ℕ → Alert) where
   place-within : (p : LeftRow → Bool) (rows : List LeftRow) (r : ℕ) → option_map (λ i. i + 1) (position p rows) ≡ Some r → (position_or_len p rows < length rows) × (r ≡ position_or_len p rows + 1)
   place-within p rows r e =
       (elim (ltb (position_or_len p rows) (length rows)) as
-           (λ b. ltb (position_or_len p rows) (length rows) ≡ b → option_map (λ i. i + 1) (cond b (Some (position_or_len p rows)) None) ≡ Some r → (position_or_len p rows < length rows) × (r ≡ position_or_len p rows + 1)) [
-           true ↦ λ t g. (ltb-true (position_or_len p rows) (length rows) t, sym (some-inj (position_or_len p rows + 1) r g))
-         | false ↦ λ t g. absurd (none-some r g) ]) refl e
+      (λ b. ltb (position_or_len p rows) (length rows) ≡ b → option_map (λ i. i + 1) (cond b (Some (position_or_len p rows)) None) ≡ Some r → (position_or_len p rows < length rows) × (r ≡ position_or_len p rows + 1)) [
+        | true ↦ λ t g. (ltb-true (position_or_len p rows) (length rows) t, sym (some-inj (position_or_len p rows + 1) r g))
+        | false ↦ λ t g. absurd (none-some r g)
+      ]) refl e
 
   -- the row of an alert's title, by its number, is its title
   pub title_stands : (a r : ℕ) (xs : List ℕ) (normal : Bool) (memos : List Row) → title_row a (left_rows (joined xs) normal memos) ≡ Some r → (1 ≤ r) × (r ≤ length (left_rows (joined xs) normal memos)) × (get_or (map (λ (x : LeftRow). x.row) (left_rows (joined xs) normal memos)) (r - 1) blank_row ≡ title_of_alert a)
@@ -130,11 +132,13 @@ module _ (stands : Line → Bool) (alerts : ℕ → Alert) where
       let place = position_or_len (is_title a) rows in
       let within = place-within (is_title a) rows r e in
       let low : place < length rows = within.0 in
-      let number : r ≡ place + 1 = within.1 in
-      (omega arith, omega arith,
-       ap (λ n. get_or (map (λ (x : LeftRow). x.row) rows) n blank_row) (let m : r - 1 ≡ place = omega arith in m)
-       ∙ get_or-map (λ (x : LeftRow). x.row) rows place (plain blank_row) blank_row low
-       ∙ titled-at rows place (plain blank_row) low (left-titled xs normal memos) a (passes_at_first (is_title a) rows (plain blank_row) low))
+      let number : r ≡ place + 1 = within.1 in (
+        omega arith,
+        omega arith,
+        ap (λ n. get_or (map (λ (x : LeftRow). x.row) rows) n blank_row) (let m : r - 1 ≡ place = omega arith in m)
+            ∙ get_or-map (λ (x : LeftRow). x.row) rows place (plain blank_row) blank_row low
+            ∙ titled-at rows place (plain blank_row) low (left-titled xs normal memos) a (passes_at_first (is_title a) rows (plain blank_row) low),
+      )
 
   -- and where that is one of the first seven, it is that row of the zone
   pub title_in_zone : (a r : ℕ) (xs : List ℕ) (normal : Bool) (memos : List Row) → title_row a (left_rows (joined xs) normal memos) ≡ Some r → r ≤ 7 → get_or (left_zone (left_rows (joined xs) normal memos)) (r - 1) blank_row ≡ title_of_alert a

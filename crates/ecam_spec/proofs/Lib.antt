@@ -3,6 +3,7 @@ pub mod PastLaws
 pub mod ListLaws
 pub mod LeftLaws
 pub mod OverflowLaws
+pub mod AccountLaws
 pub mod AlertLaws
 pub mod CrewLaws
 pub mod HistoryLaws

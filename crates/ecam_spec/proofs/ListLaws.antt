@@ -45,8 +45,8 @@ pub distinct-filter : (p : ℕ → Bool) (xs : List ℕ) → distinct xs ≡ tru
 distinct-filter p [] d = refl
 distinct-filter p (x ∷ xs) d =
     filter-cons (p x) p x xs
-        (mem-filter p x xs ∙ ap (λ b. p x && b) (not-true (mem x xs) (and-left (not (mem x xs)) (distinct xs) d)) ∙ and-false (p x))
-        (distinct-filter p xs (and-right (not (mem x xs)) (distinct xs) d))
+    (mem-filter p x xs ∙ ap (λ b. p x && b) (not-true (mem x xs) (and-left (not (mem x xs)) (distinct xs) d)) ∙ and-false (p x))
+    (distinct-filter p xs (and-right (not (mem x xs)) (distinct xs) d))
 
 pub mem-append : (a : ℕ) (xs ys : List ℕ) → mem a (xs ++ ys) ≡ (mem a xs || mem a ys)
 mem-append a xs ys = list_any-append (λ i. a == i) xs ys
@@ -62,10 +62,10 @@ pub distinct-append : (xs ys : List ℕ) → distinct xs ≡ true → distinct y
 distinct-append [] ys d e apart = e
 distinct-append (x ∷ xs) ys d e apart =
     let fresh : not (mem x (xs ++ ys)) ≡ true =
-        ap not (mem-append x xs ys)
-        ∙ head-fresh (mem x xs) (mem x ys) (not-true (mem x xs) (and-left (not (mem x xs)) (distinct xs) d)) (apart x (ap (λ b. b || mem x xs) (eqb-self x))) in
+    ap not (mem-append x xs ys)
+    ∙ head-fresh (mem x xs) (mem x ys) (not-true (mem x xs) (and-left (not (mem x xs)) (distinct xs) d)) (apart x (ap (λ b. b || mem x xs) (eqb-self x))) in
     let rest : distinct (xs ++ ys) ≡ true =
-        distinct-append xs ys (and-right (not (mem x xs)) (distinct xs) d) e (λ a h. apart a (later (a == x) (mem a xs) h)) in
+    distinct-append xs ys (and-right (not (mem x xs)) (distinct xs) d) e (λ a h. apart a (later (a == x) (mem a xs) h)) in
     rw (fresh, rest) refl
 
 not-eq : (a n : ℕ) → a ≢ n → (a == n) ≡ false
@@ -88,7 +88,7 @@ unfolding below
 distinct-below zero = refl
 distinct-below (suc n) =
     distinct-append (below n) (n ∷ []) (distinct-below n) refl
-        (λ a h. ap (λ b. b || false) (not-eq a n (below-differs a n h)))
+    (λ a h. ap (λ b. b || false) (not-eq a n (below-differs a n h)))
 
 pub count_by-cons : {X : Type 0} (p : X → Bool) (x : X) (xs : List X) → count_by p (x ∷ xs) ≡ cond (p x) 1 0 + count_by p xs
 count_by-cons p x xs = sum_by-cons (λ y. cond (p y) 1 0) x xs
@@ -106,11 +106,12 @@ pub count_by-filter : (p q : ℕ → Bool) (xs : List ℕ) → count_by p (filte
 count_by-filter p q [] = refl
 count_by-filter p q (x ∷ xs) =
     (elim (q x) as (λ b. count_by p (cond b (x ∷ filter q xs) (filter q xs)) ≡ cond (b && p x) 1 0 + count_by (λ a. q a && p a) xs) [
-         true ↦ count_by-cons p x (filter q xs) ∙ ap (λ n. cond (p x) 1 0 + n) (count_by-filter p q xs)
-       | false ↦ count_by-filter p q xs ∙ omega arith ])
+      | true ↦ count_by-cons p x (filter q xs) ∙ ap (λ n. cond (p x) 1 0 + n) (count_by-filter p q xs)
+      | false ↦ count_by-filter p q xs ∙ omega arith
+    ])
     ∙ sym (count_by-cons (λ a. q a && p a) x xs)
 
-is_some-cond : (b : Bool) (n : ℕ) → is_some {T = ℕ} (cond b (Some n) None) ≡ b
+pub is_some-cond : (b : Bool) (n : ℕ) → is_some {T = ℕ} (cond b (Some n) None) ≡ b
 is_some-cond true n = refl
 is_some-cond false n = refl
 
@@ -118,8 +119,9 @@ pub within-any : {X : Type 0} (p : X → Bool) (xs : List X) → ltb (position_o
 within-any p [] = refl
 within-any p (x ∷ xs) =
     elim (p x) as (λ b. ltb (cond (not b) (1 + position_or_len p xs) 0) (suc (length xs)) ≡ (b || list_any p xs)) [
-        true ↦ lt-ltb 0 (suc (length xs)) (omega arith)
-      | false ↦ ap (λ n. ltb n (suc (length xs))) (one-add (position_or_len p xs)) ∙ leb-suc-suc (suc (position_or_len p xs)) (length xs) ∙ within-any p xs ]
+      | true ↦ lt-ltb 0 (suc (length xs)) (omega arith)
+      | false ↦ ap (λ n. ltb n (suc (length xs))) (one-add (position_or_len p xs)) ∙ leb-suc-suc (suc (position_or_len p xs)) (length xs) ∙ within-any p xs
+    ]
 
 -- the first place of a test is there where some element passes it
 pub is_some-position : {X : Type 0} (p : X → Bool) (xs : List X) → is_some (position p xs) ≡ list_any p xs

@@ -53,25 +53,26 @@ own-place t c rows = ap (λ b. cond (not b) (1 + title-place rows t) 0) (eqb-sel
 other-title : (t a : ℕ) (as' : List ℕ) → mem t as' ≡ false → mem a as' ≡ true → (a == t) ≡ false
 other-title t a as' none some =
     elim (a == t) as (λ b. (a == t) ≡ b → b ≡ false) [
-        true ↦ λ e. absurd (true-false (sym some ∙ ap (λ n. mem n as') (eqb-true a t e) ∙ none))
-      | false ↦ λ e. refl ] refl
+      | true ↦ λ e. absurd (true-false (sym some ∙ ap (λ n. mem n as') (eqb-true a t e) ∙ none))
+      | false ↦ λ e. refl
+    ] refl
 
 counted-with : (n : ℕ) (c : Row) (o : Option ℕ) (rows : List LeftRow) → distinct (titles-with o (titles rows)) ≡ true → count_by is-title (drop n rows) ≡ count_by (λ a. leb n (title-place rows a)) (titles rows)
     → count_by is-title (drop n rows) ≡ count_by (λ a. leb (suc n) (title-place (record { row = c; title_of = o } ∷ rows) a)) (titles-with o (titles rows))
 counted-with n c None rows d rest =
     rest
     ∙ count_by-agree (λ a. leb n (title-place rows a)) (λ a. leb (suc n) (title-place (record { row = c; title_of = None } ∷ rows) a)) (titles rows)
-        (λ a h. sym (beyond-cons n None c rows a refl))
+    (λ a h. sym (beyond-cons n None c rows a refl))
 counted-with n c (Some t) rows d rest =
     let fresh : mem t (titles rows) ≡ false = not-true (mem t (titles rows)) (and-left (not (mem t (titles rows))) (distinct (titles rows)) d) in
     rest
     ∙ count_by-agree (λ a. leb n (title-place rows a)) (λ a. leb (suc n) (title-place (record { row = c; title_of = Some t } ∷ rows) a)) (titles rows)
-        (λ a h. sym (beyond-cons n (Some t) c rows a (other-title t a (titles rows) fresh h)))
+    (λ a h. sym (beyond-cons n (Some t) c rows a (other-title t a (titles rows) fresh h)))
     ∙ sym
-        (count_by-cons (λ a. leb (suc n) (title-place (record { row = c; title_of = Some t } ∷ rows) a)) t (titles rows)
-         ∙ ap (λ m. cond (leb (suc n) m) 1 0 + count_by (λ a. leb (suc n) (title-place (record { row = c; title_of = Some t } ∷ rows) a)) (titles rows)) (own-place t c rows)
-         ∙ ap (λ b. cond b 1 0 + count_by (λ a. leb (suc n) (title-place (record { row = c; title_of = Some t } ∷ rows) a)) (titles rows)) (leb-suc-zero n)
-         ∙ omega arith)
+    (count_by-cons (λ a. leb (suc n) (title-place (record { row = c; title_of = Some t } ∷ rows) a)) t (titles rows)
+    ∙ ap (λ m. cond (leb (suc n) m) 1 0 + count_by (λ a. leb (suc n) (title-place (record { row = c; title_of = Some t } ∷ rows) a)) (titles rows)) (own-place t c rows)
+    ∙ ap (λ b. cond b 1 0 + count_by (λ a. leb (suc n) (title-place (record { row = c; title_of = Some t } ∷ rows) a)) (titles rows)) (leb-suc-zero n)
+    ∙ omega arith)
 
 rest-distinct : (o : Option ℕ) (as' : List ℕ) → distinct (titles-with o as') ≡ true → distinct as' ≡ true
 rest-distinct None as' d = d
@@ -93,6 +94,10 @@ memos-plain : (ms : List Row) → titles (map plain ms) ≡ []
 memos-plain [] = refl
 memos-plain (m ∷ ms) = memos-plain ms
 
+-- an alert's title stands beyond the seventh row
+abbrev pub stands_beyond : List LeftRow → ℕ → Bool
+stands_beyond rows a = leb 7 (position_or_len (λ (r : LeftRow). is_number a r.title_of) rows)
+
 module _ (stands : Line → Bool) (alerts : ℕ → Alert) where
   joined-titled : (xs : List ℕ) → titles (joined stands alerts xs) ≡ xs
   unfolding alert_rows
@@ -106,10 +111,6 @@ module _ (stands : Line → Bool) (alerts : ℕ → Alert) where
   titles-shown [] true memos = refl
   titles-shown [] false memos = memos-plain memos
   titles-shown (x ∷ xs) normal memos = joined-titled (x ∷ xs)
-
-  -- an alert's title stands beyond the seventh row
-  abbrev pub stands_beyond : List LeftRow → ℕ → Bool
-  stands_beyond rows a = leb 7 (position_or_len (λ (r : LeftRow). is_number a r.title_of) rows)
 
   -- OVF is the number of shown alerts whose titles stand beyond the seventh row
   pub overflow_counts : (xs : List ℕ) (normal : Bool) (memos : List Row) → distinct xs ≡ true → overflow (left_rows (joined stands alerts xs) normal memos) ≡ count_by (stands_beyond (left_rows (joined stands alerts xs) normal memos)) xs
