@@ -1,31 +1,29 @@
 -- Each active alert is accounted for: starred, cancelled, cleared, titled, or counted by OVF.
-use Rattle.std.proofs.Common.{◌≡◌, ℕ, zero, suc, ◌+◌, ◌-◌, ◌<◌, ◌≤◌, Bool, true, false, not, ◌&&◌, ◌||◌, ◌==◌, List, [], ◌∷◌, ◌++◌, map, length, get_or, take, replicate, Option, Some, None, refl, sym, ◌∙◌, ap, cond, eqb, ltb, leb, min, arith}
-use Rattle.std.specs.Prelude.{filter, find, count_by, is_some, option_map, position, flat_map}
+use Rattle.std.proofs.Common.{◌≡◌, ℕ, ◌+◌, ◌-◌, ◌<◌, ◌≤◌, Bool, true, false, not, ◌&&◌, ◌||◌, ◌==◌, List, [], ◌∷◌, ◌++◌, map, length, get_or, replicate, Option, Some, None, refl, sym, ◌∙◌, ap, cond, ltb, leb, min, arith}
+use Rattle.std.specs.Prelude.{find, count_by, is_some, option_map}
 use Rattle.std.specs.List.{list_any, position_or_len}
 use Rattle.std.proofs.lemmas.Bool.Decides.{nat_tests}
-use Rattle.std.proofs.lemmas.Bool.{leb-true, le-leb, lt-leb}
-use Rattle.std.proofs.lemmas.List.{get_or_append_left, length-map, length-append, length-replicate, length-take}
+use Rattle.std.proofs.lemmas.Bool.{leb-true}
+use Rattle.std.proofs.lemmas.List.{get_or_append_left, length-append, length-take}
 use Rattle.std.proofs.lemmas.List.Sums.{sum_by-append}
 use Rattle.ecam_spec.specs.declared.kinds.Level.{Level}
 use Rattle.ecam_spec.specs.declared.kinds.Level.TheVariants.{One, Two, Three}
-use Rattle.ecam_spec.specs.declared.kinds.Standing.{Standing}
-use Rattle.ecam_spec.specs.declared.kinds.Standing.TheVariants.{Dead, Quiet, Waiting, Starred, Cancelled, Cleared, Titled, Counted}
+use Rattle.ecam_spec.specs.declared.kinds.Standing.TheVariants.{Titled, Counted}
 use Rattle.ecam_spec.specs.Levels.{is_three, is_two, is_one}
-use Rattle.ecam_spec.specs.Places.{below}
-use Rattle.ecam_spec.specs.Book.{Book, Alert, Memo}
+use Rattle.ecam_spec.specs.Book.{Book, Memo}
 use Rattle.ecam_spec.specs.Picture.{Row, row, blank_row, zone}
 use Rattle.ecam_spec.specs.History.{Moment}
 use Rattle.ecam_spec.specs.Alert.{starred, starred_by, up}
-use Rattle.ecam_spec.specs.Crew.{is_number, cleared, cancelled, is_shown, shown, normal}
+use Rattle.ecam_spec.specs.Crew.{is_number, is_shown, shown, normal}
 use Rattle.ecam_spec.specs.LeftZone.{LeftRow, title_colour, overflow, title_row, left_zone}
-use Rattle.ecam_spec.specs.Standing.{Facts, standing_of, accounts, is_counted}
+use Rattle.ecam_spec.specs.Standing.{standing_of, accounts, is_counted}
 use Rattle.ecam_spec.specs.Situation.{alert_at, primaries, inhibited, known_below, present_knowing, present_in, active_knowing, active_in, starred_in, up_in}
 use Rattle.ecam_spec.specs.Screen.{alert_numbers, of_level, order, cockpit, shown_in, cleared_in, cancelled_in, line_stands, memo_rows, left_in, picture_in}
 use Rattle.ecam_spec.specs.Replay.{standing_in}
-use Rattle.ecam_spec.proofs.PastLaws.{and-false, and-left}
+use Rattle.ecam_spec.proofs.PastLaws.{and-left}
 use Rattle.ecam_spec.proofs.AlertLaws.{active_present}
 use Rattle.ecam_spec.proofs.CrewLaws.{shown_filter, listed_shown}
-use Rattle.ecam_spec.proofs.ListLaws.{mem, mem-append, distinct, mem-filter, distinct-filter, distinct-append, distinct-below, count_by-cons, count_by-agree, count_by-filter, within-any, true-false}
+use Rattle.ecam_spec.proofs.ListLaws.{mem, mem-append, distinct, mem-filter, distinct-filter, distinct-append, distinct-below, count_by-cons, count_by-agree, count_by-filter, true-false}
 use Rattle.ecam_spec.proofs.LeftLaws.{titled_where_shown, title_stands, title_in_zone}
 use Rattle.ecam_spec.proofs.OverflowLaws.{stands_beyond, overflow_counts}
 

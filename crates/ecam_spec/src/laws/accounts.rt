@@ -19,7 +19,6 @@ pub fn each_active_alert_is_accounted_for()
 {}
 
 /// A titled alert's row, 1 to 7, is its title.
-#[tactic(auto, using(crate::proofs::AccountLaws::titled_stands))]
 pub fn a_titled_alert_stands_in_its_row()
     ensures { (b : Book) (moments : ℕ → Moment) (a k r : ℕ) → standing_in b moments k a ≡ Titled r →
         (1 ≤ r) × (r ≤ 7) ×
