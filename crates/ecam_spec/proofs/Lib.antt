@@ -1,1 +1,4 @@
 pub mod PastSteps
+pub mod PastWithin
+pub mod PastAgree
+pub mod TermNames

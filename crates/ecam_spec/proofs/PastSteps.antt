@@ -128,6 +128,21 @@ pub begin_of-zero : (p : Signal) → begin_of p 0 ≡ cond (p 0) 0 1
 unfolding begin_of last
 begin_of-zero p = elim (p 0) as (λ b. next (elim (not b) [ true ↦ Some 0 | false ↦ None ]) ≡ cond b 0 1) [ true ↦ refl | false ↦ refl ]
 
+pub historically_from-below : (j : ℕ) (p q : Signal) (k : ℕ) → ((i : ℕ) → i ≤ k → p i ≡ q i) → historically_from j p k ≡ historically_from j q k
+unfolding historically_from
+historically_from-below j p q k same =
+    historically-below (λ i. ltb i j || p i) (λ i. ltb i j || q i) k (λ i h. ap (λ b. ltb i j || b) (same i h))
+
+-- signals that agree up to now agree in one since the other
+pub since-below : (p q r s : Signal) (k : ℕ) → ((i : ℕ) → i ≤ k → p i ≡ r i) → ((i : ℕ) → i ≤ k → q i ≡ s i) → since p q k ≡ since r s k
+unfolding since
+since-below p q r s k first second =
+    once-below (λ j. p j && historically_from (suc j) q k) (λ j. r j && historically_from (suc j) s k) k
+        (λ j h.
+            let begun : p j ≡ r j = first j h in
+            let kept : historically_from (suc j) q k ≡ historically_from (suc j) s k = historically_from-below (suc j) q s k second in
+            cc)
+
 or-false : (b : Bool) → (b || false) ≡ b
 or-false true = refl
 or-false false = refl

@@ -1,6 +1,6 @@
 -- The keys in each moment: pressed, held, and the long recall. The keys are the A320's (DSC-31); what counts
 -- as a press, and how long a long one is, are this project's own.
-use Rattle.std.specs.Prelude.{ℕ, suc, ◌+◌, Bool, false, ◌&&◌, ◌==◌, List, [], ◌∷◌, get_or, Option, Some, None, is_none, unwrap_or, if◌then◌else◌}
+use Rattle.std.specs.Prelude.{ℕ, ◌+◌, Bool, false, ◌&&◌, ◌==◌, List, [], ◌∷◌, Option, Some, None, is_none, unwrap_or, if◌then◌else◌}
 use Rattle.std.specs.List.{list_any}
 use Rattle.std.specs.Option.{option_or}
 use Rattle.ecam_spec.specs.declared.kinds.Key.{Key}
