@@ -1,6 +1,5 @@
 use Rattle.std.proofs.Common.{◌≡◌, suc, inl, inr, sym, ◌∙◌, ap}
-use Rattle.flight_phases.specs.declared.climb.Climb.TheVariants.{Initial, Above, Below}
-use Rattle.flight_phases.specs.Climbs.{climb_at}
+use Rattle.flight_phases.specs.declared.climb.Climb.TheVariants.{Below}
 use Rattle.flight_phases.proofs.Climbing.{climb-high, climb-unmarked, begins-go_around, climb-low, lowered}
 use Rattle.flight_phases.proofs.climb.Climb.next.Goals as goal
 
