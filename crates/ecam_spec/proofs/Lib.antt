@@ -1,4 +1,11 @@
 pub mod PastSteps
+pub mod PastLaws
+pub mod AlertLaws
+pub mod CrewLaws
+pub mod HistoryLaws
+pub mod KeyLaws
+pub mod ReplayLaws
+pub mod PhaseLaws
 pub mod PastWithin
 pub mod PastAgree
 pub mod TermNames

@@ -1,9 +1,9 @@
 -- The step of each word of past-time logic: what it says in one more moment. Every proof over histories
 -- goes by these.
-use Rattle.std.proofs.Common.{◌≡◌, ℕ, zero, suc, ◌+◌, ◌-◌, ◌<◌, ◌≤◌, Bool, true, false, not, ◌&&◌, ◌||◌, Option, Some, None, ltb, leb, cond, refl, sym, ◌∙◌, ap, subst, arith}
+use Rattle.std.proofs.Common.{◌≡◌, ℕ, zero, suc, ◌<◌, ◌≤◌, Bool, true, false, not, ◌&&◌, ◌||◌, Option, Some, None, ltb, leb, cond, refl, sym, ◌∙◌, ap, arith}
 use Rattle.std.proofs.lemmas.Bool.{lt-ltb, le-ltb, le-leb, lt-leb}
 use Rattle.std.specs.Prelude.{is_some, unwrap_or}
-use Rattle.ecam_spec.specs.Past.{Signal, once, historically, once_from, historically_from, once_within, historically_within, since, previous, rise, last, next, begin_of, count_up_to, count_from}
+use Rattle.ecam_spec.specs.Past.{Signal, once, historically, once_from, historically_from, since, previous, rise, last, next, begin_of}
 
 pub once-suc : (p : Signal) (k : ℕ) → once p (suc k) ≡ (p (suc k) || once p k)
 unfolding once

@@ -3,8 +3,11 @@
 #![tactic(auto)]
 
 mod kinds;
-mod laws;
+pub mod laws;
+mod terms;
 
 pub use kinds::{
-    Choice, Colour, Event, FaultKind, Key, Kind, Level, Op, RecordFault, Sound, Standing,
+    BookFault, Choice, Colour, Event, FaultKind, Key, Kind, Level, Op, RecordFault, Section, Sound,
+    Standing,
 };
+pub use terms::{Expected, Listed, NameRole, NumberRole, Reserved, Span, Step, Token};
