@@ -13,3 +13,4 @@ pub mod PhaseLaws
 pub mod PastWithin
 pub mod PastAgree
 pub mod TermNames
+pub mod PhaseAgree
