@@ -1,1 +1,3 @@
-// What the definitions say, as theorems: each is the contract of a function that does nothing.
+//! What the definitions say, as theorems: each is the contract of a function that does nothing.
+
+pub mod conditions;

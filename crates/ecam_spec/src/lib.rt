@@ -3,7 +3,7 @@
 #![tactic(auto)]
 
 mod kinds;
-mod laws;
+pub mod laws;
 mod terms;
 
 pub use kinds::{
