@@ -4,6 +4,7 @@ pub mod Places
 pub mod Word
 pub mod Reading
 pub mod Book
+pub mod Levels
 pub mod Value
 pub mod Term
 pub mod Phase
@@ -19,3 +20,17 @@ pub mod Grammar
 pub mod TermText
 pub mod TermReading
 pub mod Output
+pub mod Alert
+pub mod Crew
+pub mod LeftZone
+pub mod RightZone
+pub mod StatusPage
+pub mod Selection
+pub mod SystemDisplay
+pub mod Lamps
+pub mod LampRows
+pub mod Standing
+pub mod Situation
+pub mod Screen
+pub mod Replay
+pub mod Opened
