@@ -14,3 +14,7 @@ pub mod PastWithin
 pub mod PastAgree
 pub mod TermNames
 pub mod PhaseAgree
+pub mod TermPieces
+pub mod TermMoves
+pub mod TermReadings
+pub mod TermVerdict
