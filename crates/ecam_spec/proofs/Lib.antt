@@ -4,3 +4,8 @@ pub mod PastAgree
 pub mod TermNames
 pub mod PastLaws
 pub mod AlertLaws
+pub mod Nowhere
+pub mod TitleAlerts
+pub mod TitleKeys
+pub mod TitleRows
+pub mod TitleBooks

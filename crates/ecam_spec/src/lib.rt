@@ -4,6 +4,7 @@
 
 mod kinds;
 pub mod laws;
+pub mod title_laws;
 
 pub use kinds::{
     Choice, Colour, Event, FaultKind, Key, Kind, Level, Op, RecordFault, Sound, Standing,
