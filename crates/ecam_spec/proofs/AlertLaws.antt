@@ -1,8 +1,8 @@
 -- What follows for an alert's life from its definitions.
-use Rattle.std.proofs.Common.{◌≡◌, ℕ, zero, suc, ◌<◌, ◌≤◌, Bool, true, false, not, ◌&&◌, ◌||◌, refl, sym, ◌∙◌, ap, arith}
-use Rattle.ecam_spec.specs.Past.{Signal, since, historically_within}
+use Rattle.std.proofs.Common.{◌≡◌, ℕ, zero, suc, ◌≤◌, Bool, true, false, not, ◌&&◌, ◌||◌, refl, ◌∙◌, ap}
+use Rattle.ecam_spec.specs.Past.{Signal, since}
 use Rattle.ecam_spec.specs.Term.{latch}
-use Rattle.ecam_spec.specs.Alert.{present, active, up, starred}
+use Rattle.ecam_spec.specs.Alert.{present, active}
 use Rattle.ecam_spec.proofs.PastSteps.{since-zero, since-suc, since-below}
 use Rattle.ecam_spec.proofs.PastLaws.{and-left, since-implies}
 
@@ -38,7 +38,7 @@ pub active_present : (inhibited present : Signal) (k : ℕ) → active inhibited
 unfolding active
 active_present inhibited present k h =
     since-implies (λ j. present j && not (inhibited j)) present (present k) k
-        (λ e. and-left (present k) (not (inhibited k)) e) (λ e. e) h
+    (λ e. and-left (present k) (not (inhibited k)) e) (λ e. e) h
 
 -- where the two never meet, the reset of the same moment needn't be asked
 apart-step : (s r : Bool) → (s && r) ≡ false → (s && not r) ≡ s
@@ -48,7 +48,7 @@ apart-step false r e = refl
 pub latch_apart : (s r : Signal) (k : ℕ) → ((i : ℕ) → i ≤ k → (s i && r i) ≡ false) → latch s r k ≡ since s (λ i. not (r i)) k
 latch_apart s r k apart =
     since-below (λ i. s i && not (r i)) (λ i. not (r i)) s (λ i. not (r i)) k
-        (λ i h. apart-step (s i) (r i) (apart i h)) (λ i h. refl)
+    (λ i h. apart-step (s i) (r i) (apart i h)) (λ i h. refl)
 
 latch-step : (s r l : Bool) → ((s && not r) || (not r && l)) ≡ (not r && (s || l))
 latch-step true true l = refl

@@ -1,9 +1,14 @@
 pub mod PastSteps
+pub mod PastLaws
+pub mod AlertLaws
+pub mod CrewLaws
+pub mod HistoryLaws
+pub mod KeyLaws
+pub mod ReplayLaws
+pub mod PhaseLaws
 pub mod PastWithin
 pub mod PastAgree
 pub mod TermNames
-pub mod PastLaws
-pub mod AlertLaws
 pub mod Nowhere
 pub mod TitleAlerts
 pub mod TitleKeys

@@ -1,9 +1,9 @@
 -- What follows over a stretch of moments: what keeps `since`, what breaks it, and what it says now.
-use Rattle.std.proofs.Common.{◌≡◌, ℕ, zero, suc, ◌<◌, ◌≤◌, Bool, true, false, not, ◌&&◌, ◌||◌, ◌⊎◌, inl, inr, refl, sym, ◌∙◌, ap, arith, ltb, leb, ◌-◌}
+use Rattle.std.proofs.Common.{◌≡◌, ℕ, zero, suc, ◌<◌, ◌≤◌, Bool, true, false, ◌&&◌, ◌||◌, inl, inr, refl, sym, ◌∙◌, ap, arith, ltb, leb, ◌-◌}
 use Rattle.std.proofs.Math.Nat.{le-suc_iff}
 use Rattle.std.proofs.lemmas.Bool.{le-ltb}
-use Rattle.ecam_spec.specs.Past.{Signal, once, historically, once_from, historically_from, once_within, historically_within, since}
-use Rattle.ecam_spec.proofs.PastSteps.{since-zero, since-suc, once-suc, historically-suc}
+use Rattle.ecam_spec.specs.Past.{Signal, historically, historically_from, historically_within, since}
+use Rattle.ecam_spec.proofs.PastSteps.{since-zero, since-suc}
 
 pub or-true : (a : Bool) → (a || true) ≡ true
 or-true true = refl
@@ -31,16 +31,17 @@ pub since-kept : (p q : Signal) (j k : ℕ) → j ≤ k → since p q j ≡ true
 since-kept p q j zero within begun kept = let e : j ≡ 0 = omega arith in rw e at begun
 since-kept p q j (suc k) within begun kept =
     elim (le-suc_iff.0 within) [
-        inl h ↦
-            let earlier : since p q k ≡ true = since-kept p q j k h begun (λ i a b. kept i a (omega arith)) in
-            let now : q (suc k) ≡ true = kept (suc k) (omega arith) (omega arith) in
-            since-suc p q k ∙ keep-step (p (suc k)) (q (suc k)) (since p q k) now earlier
-      | inr e ↦ rw e at begun ]
+      | inl h ↦
+          let earlier : since p q k ≡ true = since-kept p q j k h begun (λ i a b. kept i a (omega arith)) in
+          let now : q (suc k) ≡ true = kept (suc k) (omega arith) (omega arith) in
+          since-suc p q k ∙ keep-step (p (suc k)) (q (suc k)) (since p q k) now earlier
+      | inr e ↦ rw e at begun
+    ]
 
 -- p begins it now
-pub since-now : (p q : Signal) (k : ℕ) → p k ≡ true → since p q k ≡ true
-since-now p q zero h = since-zero p q ∙ h
-since-now p q (suc k) h = since-suc p q k ∙ ap (λ b. b || (q (suc k) && since p q k)) h
+pub since-begun : (p q : Signal) (k : ℕ) → p k ≡ true → since p q k ≡ true
+since-begun p q zero h = since-zero p q ∙ h
+since-begun p q (suc k) h = since-suc p q k ∙ ap (λ b. b || (q (suc k) && since p q k)) h
 
 -- without p and q it isn't so
 pub since-broken : (p q : Signal) (k : ℕ) → p k ≡ false → q k ≡ false → since p q k ≡ false
@@ -55,11 +56,12 @@ pub since-none : (p q : Signal) (j k : ℕ) → j ≤ k → since p q j ≡ fals
 since-none p q j zero within over none = let e : j ≡ 0 = omega arith in rw e at over
 since-none p q j (suc k) within over none =
     elim (le-suc_iff.0 within) [
-        inl h ↦
-            let earlier : since p q k ≡ false = since-none p q j k h over (λ i a b. none i a (omega arith)) in
-            let now : p (suc k) ≡ false = none (suc k) (omega arith) (omega arith) in
-            since-suc p q k ∙ none-step (p (suc k)) (q (suc k)) (since p q k) now earlier
-      | inr e ↦ rw e at over ]
+      | inl h ↦
+          let earlier : since p q k ≡ false = since-none p q j k h over (λ i a b. none i a (omega arith)) in
+          let now : p (suc k) ≡ false = none (suc k) (omega arith) (omega arith) in
+          since-suc p q k ∙ none-step (p (suc k)) (q (suc k)) (since p q k) now earlier
+      | inr e ↦ rw e at over
+    ]
 
 -- what p and q both imply, `since` implies
 either-step : (p q s b : Bool) → (p ≡ true → b ≡ true) → (q ≡ true → b ≡ true) → (p || (q && s)) ≡ true → b ≡ true
@@ -86,4 +88,4 @@ pub historically_within-now : (n : ℕ) (p : Signal) (k : ℕ) → historically_
 unfolding historically_within historically_from
 historically_within-now n p k h =
     or-second (ltb k (k - n)) (p k) (le-ltb k (k - n) (omega arith))
-        (historically-now (λ i. ltb i (k - n) || p i) k (and-right (leb n k) _ h))
+    (historically-now (λ i. ltb i (k - n) || p i) k (and-right (leb n k) _ h))

@@ -1,0 +1,4 @@
+pub mod Trips
+pub mod Stretches
+pub mod Climbing
+pub mod Numbers

@@ -1,0 +1,4 @@
+//! The replay of a record by a book, and the program's commands.
+#![tactic(auto)]
+
+mod block;
