@@ -14,3 +14,5 @@ pub mod TitleAlerts
 pub mod TitleKeys
 pub mod TitleRows
 pub mod TitleBooks
+pub mod ReplaySteps
+pub mod MomentSteps

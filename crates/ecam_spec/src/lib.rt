@@ -4,6 +4,7 @@
 
 mod kinds;
 pub mod laws;
+pub mod replay_laws;
 mod terms;
 pub mod title_laws;
 
