@@ -16,3 +16,5 @@ pub mod TitleRows
 pub mod TitleBooks
 pub mod ReplaySteps
 pub mod MomentSteps
+pub mod ValueAgree
+pub mod TitleReplay

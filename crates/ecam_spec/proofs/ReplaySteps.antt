@@ -1,5 +1,5 @@
 -- One more event of a record: what is written then, and the picture with which that of the next Tick is compared.
-use Rattle.std.proofs.Common.{◌≡◌, ℕ, zero, suc, ◌+◌, ◌-◌, ◌<◌, ◌≤◌, Bool, true, false, ◌&&◌, List, [], ◌∷◌, ◌++◌, length, refl, sym, ◌∙◌, ap, cond, arith, add-zero, add-one, append_assoc}
+use Rattle.std.proofs.Common.{◌≡◌, ℕ, zero, suc, ◌+◌, ◌-◌, ◌<◌, Bool, true, false, List, [], ◌∷◌, ◌++◌, length, refl, sym, ◌∙◌, ap, cond, arith, add-zero, add-one, append_assoc}
 use Rattle.std.proofs.lemmas.List.{append-nil, length_push}
 use Rattle.std.proofs.lemmas.List.Sums.{sum_by_push}
 use Rattle.ecam_spec.specs.declared.kinds.Event.{Event}
@@ -82,7 +82,7 @@ module _ (b : Book) (h : List Event) where
   picture_at_up up =
       let of : Bool → Era → Picture = λ f e. cond f dead (picture_in b (moment_of e) (length e.moments - 1)) in
       let place : length ((era h).moments ++ (era h).open_moment ∷ []) - 1 ≡ length (era h).moments =
-          omega (arith, length_push (era h).moments (era h).open_moment) in
+      omega (arith, length_push (era h).moments (era h).open_moment) in
       ap (λ f. of (none_up f) (era (h ++ Tick ∷ []))) (flags_step h Tick)
       ∙ ap (λ f. of f (era (h ++ Tick ∷ []))) up
       ∙ ap (of false) (era_goes_on h Tick refl)
@@ -98,7 +98,7 @@ module _ (b : Book) (h : List Event) where
 begun_step : (b : Book) (h : List Event) (e : Event) → (more : Text) × (history_blocks b (h ++ e ∷ []) ≡ history_blocks b h ++ more)
 begun_step b h e =
     let kept : (x : Event) → is_tick x ≡ false → (more : Text) × (history_blocks b (h ++ x ∷ []) ≡ history_blocks b h ++ more) =
-        λ x quiet. ([], history_blocks_kept b h x quiet ∙ sym (append-nil (history_blocks b h))) in
+    λ x quiet. ([], history_blocks_kept b h x quiet ∙ sym (append-nil (history_blocks b h))) in
     elim e as (λ x. (more : Text) × (history_blocks b (h ++ x ∷ []) ≡ history_blocks b h ++ more)) [
       | Word bus bits ↦ kept (Word bus bits) refl
       | Tick ↦ (block (tick_count h) (last_picture b h) (picture_at b (h ++ Tick ∷ [])), history_blocks_tick b h)
@@ -113,9 +113,10 @@ pub history_blocks_begun : (b : Book) (h g : List Event) → (more : Text) × (h
 history_blocks_begun b h [] = ([], ap (history_blocks b) (append-nil h) ∙ sym (append-nil (history_blocks b h)))
 history_blocks_begun b h (e ∷ g) =
     let first = begun_step b h e in
-    let rest = history_blocks_begun b (h ++ e ∷ []) g in
-    (first.0 ++ rest.0,
-    ap (history_blocks b) (sym (append_assoc h (e ∷ []) g))
-    ∙ rest.1
-    ∙ ap (λ text. text ++ rest.0) first.1
-    ∙ append_assoc (history_blocks b h) first.0 rest.0)
+    let rest = history_blocks_begun b (h ++ e ∷ []) g in (
+      first.0 ++ rest.0,
+      ap (history_blocks b) (sym (append_assoc h (e ∷ []) g))
+          ∙ rest.1
+          ∙ ap (λ text. text ++ rest.0) first.1
+          ∙ append_assoc (history_blocks b h) first.0 rest.0,
+    )
