@@ -1,5 +1,9 @@
 pub mod PastSteps
 pub mod PastLaws
+pub mod ListLaws
+pub mod LeftLaws
+pub mod OverflowLaws
+pub mod AccountLaws
 pub mod AlertLaws
 pub mod CrewLaws
 pub mod HistoryLaws

@@ -1,5 +1,6 @@
 //! What the definitions say, as theorems: each is the contract of a function that does nothing.
 
+pub mod accounts;
 pub mod alerts;
 pub mod crew;
 pub mod history;
