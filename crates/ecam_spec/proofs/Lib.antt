@@ -22,3 +22,5 @@ pub mod ReplaySteps
 pub mod MomentSteps
 pub mod ValueAgree
 pub mod TitleReplay
+pub mod ValueSteps
+pub mod SignalSteps

@@ -15,12 +15,12 @@ use Rattle.ecam_spec.proofs.HistoryLaws.{last-below}
 chosen : {X : Type 0} (f g : ℕ → Option X) (b : Bool) (k : ℕ) (o : Option ℕ) → f k ≡ g k → option_and_then f o ≡ option_and_then g o → option_and_then f (cond b (Some k) o) ≡ option_and_then g (cond b (Some k) o)
 chosen f g b k o now before = elim b as (λ x. option_and_then f (cond x (Some k) o) ≡ option_and_then g (cond x (Some k) o)) [ true ↦ now | false ↦ before ]
 
-at_last : {X : Type 0} (f g : ℕ → Option X) (p : Signal) (k : ℕ) → ((i : ℕ) → i ≤ k → f i ≡ g i) → option_and_then f (last p k) ≡ option_and_then g (last p k)
+pub at_last : {X : Type 0} (f g : ℕ → Option X) (p : Signal) (k : ℕ) → ((i : ℕ) → i ≤ k → f i ≡ g i) → option_and_then f (last p k) ≡ option_and_then g (last p k)
 at_last f g p zero same = rw last-zero (chosen f g (p 0) 0 None (same 0 (omega arith)) refl)
 at_last f g p (suc k) same = rw last-suc (chosen f g (p (suc k)) (suc k) (last p k) (same (suc k) (omega arith)) (at_last f g p k (λ i h. same i (omega arith))))
 
 module _ (v w : ℕ → List BusWord) (k : ℕ) (same : (i : ℕ) → i ≤ k → v i ≡ w i) where
-  word_of-below : (s : Source) → word_of s v k ≡ word_of s w k
+  pub word_of-below : (s : Source) → word_of s v k ≡ word_of s w k
   unfolding word_of
   word_of-below s =
       ap (option_and_then (λ m. last_taken s (v m))) (last-below (arrives s v) (arrives s w) k (λ i h. ap (list_any (takes s)) (same i h)))
