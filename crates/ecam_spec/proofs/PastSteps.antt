@@ -138,10 +138,10 @@ pub since-below : (p q r s : Signal) (k : ℕ) → ((i : ℕ) → i ≤ k → p 
 unfolding since
 since-below p q r s k first second =
     once-below (λ j. p j && historically_from (suc j) q k) (λ j. r j && historically_from (suc j) s k) k
-        (λ j h.
-            let begun : p j ≡ r j = first j h in
-            let kept : historically_from (suc j) q k ≡ historically_from (suc j) s k = historically_from-below (suc j) q s k second in
-            cc)
+    (λ j h.
+    let begun : p j ≡ r j = first j h in
+    let kept : historically_from (suc j) q k ≡ historically_from (suc j) s k = historically_from-below (suc j) q s k second in
+    cc)
 
 or-false : (b : Bool) → (b || false) ≡ b
 or-false true = refl
