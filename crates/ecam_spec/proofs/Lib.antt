@@ -18,3 +18,14 @@ pub mod TermPieces
 pub mod TermMoves
 pub mod TermReadings
 pub mod TermVerdict
+pub mod Nowhere
+pub mod TitleAlerts
+pub mod TitleKeys
+pub mod TitleRows
+pub mod TitleBooks
+pub mod ReplaySteps
+pub mod MomentSteps
+pub mod ValueAgree
+pub mod TitleReplay
+pub mod ValueSteps
+pub mod SignalSteps
