@@ -1,0 +1,190 @@
+// The ends over the real system. They tell nothing of content.
+ghost use Rattle.std.specs.Prelude.{◌≡◌, ◌<◌, ◌≤◌, ⊤, None, length, IfOk, OnErr};
+ghost use Rattle.ecam_io.specs.Outside.{Rose};
+
+use crate::{Failed, Shelf, Sink, Source};
+use std::fs::File;
+use std::io;
+use std::io::{ErrorKind, Read, Stderr, Stdin, Stdout, Write};
+
+// How often a call that a signal broke off is made.
+const TRIES: usize = 64;
+
+// What a shelf over the system has open.
+#[derive(Drop)]
+enum Opened {
+    Nothing,
+    File(File),
+    Input(Stdin),
+}
+
+impl Read for Opened {
+    fn read(&mut self, into: &mut [u8]) -> io::Result<usize> {
+        match self {
+            Opened::Nothing => Ok(0),
+            Opened::File(file) => file.read(into),
+            Opened::Input(input) => input.read(into),
+        }
+    }
+}
+
+// Reads once, or again where a signal broke the read off. Each error raises the count.
+fn read_counted<R: Read>(from: &mut R, faults: &mut u64, into: &mut [u8]) -> Result<usize, Failed>
+    ensures bound { IfOk result (λ n. n ≤ length into.old) }
+    ensures faults { faults.old ≤ faults.new }
+    ensures cause { OnErr result (Rose faults.old faults.new) }
+{
+    for _try in 0..TRIES {
+        match from.read(into) {
+            Ok(n) => return Ok(n),
+            Err(e) => {
+                *faults = faults.saturating_add(1);
+                if e.kind() != ErrorKind::Interrupted {
+                    return Err(Failed);
+                }
+            }
+        }
+    }
+    Err(Failed)
+}
+
+// Writes once, or again where a signal broke the write off. Each error, and a write that takes nothing, raises the count.
+fn write_counted<W: Write>(to: &mut W, faults: &mut u64, bytes: &[u8]) -> Result<usize, Failed>
+    ensures some { IfOk result (λ n. 0 < n) }
+    ensures bound { IfOk result (λ n. n ≤ length bytes.now) }
+    ensures faults { faults.old ≤ faults.new }
+    ensures cause { OnErr result (Rose faults.old faults.new) }
+{
+    for _try in 0..TRIES {
+        match to.write(bytes) {
+            Ok(0) => {
+                *faults = faults.saturating_add(1);
+                return Err(Failed);
+            }
+            Ok(n) => return Ok(n),
+            Err(e) => {
+                *faults = faults.saturating_add(1);
+                if e.kind() != ErrorKind::Interrupted {
+                    return Err(Failed);
+                }
+            }
+        }
+    }
+    Err(Failed)
+}
+
+/// The system's files by their paths, and `-` as standard input. A file that is missing is a fault like any other
+/// that can't be opened.
+#[derive(Drop)]
+pub struct OsShelf {
+    rt: HostRuntime,
+    opened: Opened,
+    opens: u64,
+    faults: u64,
+}
+
+impl OsShelf {
+    /// A shelf with nothing open.
+    pub fn new(rt: HostRuntime) -> OsShelf
+        ensures opens { ⟦<OsShelf as Source>⟧.opens result ≡ 0 }
+        ensures faults { ⟦<OsShelf as Source>⟧.faults result ≡ 0 }
+    {
+        OsShelf {
+            rt,
+            opened: Opened::Nothing,
+            opens: 0,
+            faults: 0,
+        }
+    }
+}
+
+impl Source for OsShelf {
+    ghost left = { λ _. None };
+
+    ghost opens = { λ s. s.opens };
+
+    ghost faults = { λ s. s.faults };
+
+    fn read(&mut self, into: &mut [u8]) -> Result<usize, Failed> {
+        read_counted(&mut self.opened, &mut self.faults, into)
+    }
+}
+
+impl Shelf for OsShelf {
+    fn open(&mut self, name: &str) -> Result<(), Failed> {
+        self.opens = self.opens.saturating_add(1);
+        self.opened = Opened::Nothing;
+        if name == "-" {
+            self.opened = Opened::Input(self.rt.stdin());
+            return Ok(());
+        }
+        match File::open(&self.rt, name) {
+            Ok(file) => {
+                self.opened = Opened::File(file);
+                Ok(())
+            }
+            Err(_) => {
+                self.faults = self.faults.saturating_add(1);
+                Err(Failed)
+            }
+        }
+    }
+}
+
+/// Standard output.
+#[derive(Drop)]
+pub struct OsOut {
+    to: Stdout,
+    faults: u64,
+}
+
+impl OsOut {
+    /// Standard output, with no fault so far.
+    pub fn new(rt: HostRuntime) -> OsOut
+        ensures { ⟦<OsOut as Sink>⟧.faults result ≡ 0 }
+    {
+        OsOut {
+            to: rt.stdout(),
+            faults: 0,
+        }
+    }
+}
+
+impl Sink for OsOut {
+    ghost agrees = { λ _ _. ⊤ };
+
+    ghost faults = { λ s. s.faults };
+
+    fn write(&mut self, bytes: &[u8]) -> Result<usize, Failed> {
+        write_counted(&mut self.to, &mut self.faults, bytes)
+    }
+}
+
+/// Standard error.
+#[derive(Drop)]
+pub struct OsErr {
+    to: Stderr,
+    faults: u64,
+}
+
+impl OsErr {
+    /// Standard error, with no fault so far.
+    pub fn new(rt: HostRuntime) -> OsErr
+        ensures { ⟦<OsErr as Sink>⟧.faults result ≡ 0 }
+    {
+        OsErr {
+            to: rt.stderr(),
+            faults: 0,
+        }
+    }
+}
+
+impl Sink for OsErr {
+    ghost agrees = { λ _ _. ⊤ };
+
+    ghost faults = { λ s. s.faults };
+
+    fn write(&mut self, bytes: &[u8]) -> Result<usize, Failed> {
+        write_counted(&mut self.to, &mut self.faults, bytes)
+    }
+}
