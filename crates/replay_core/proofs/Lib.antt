@@ -1,3 +1,4 @@
 mod Blocks
 mod Limits
 mod Forms
+mod TitleRows

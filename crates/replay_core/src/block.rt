@@ -56,8 +56,8 @@ fn are_same(old: &[Row], new: &[Row]) -> bool
 }
 
 // Appends bytes for which there is room.
-fn put(out: &mut Block, bytes: &[u8])
-    requires { length out.old.items + length bytes.now ≤ BLOCK }
+pub(crate) fn put<const CAP: usize>(out: &mut ArrayVec<u8, CAP>, bytes: &[u8])
+    requires { length out.old.items + length bytes.now ≤ CAP }
     ensures { out.new.items ≡ out.old.items ++ bytes.now }
 {
     let _ = out.try_extend_from_slice(bytes);
