@@ -1,15 +1,10 @@
 -- What the program knows of the keys, and when that is what the definitions say of the strokes so far.
 use Rattle.std.specs.Prelude.{◌≡◌, ℕ, ◌<◌, ◌≤◌, Bool, false, List, [], ◌∷◌, ◌++◌, slice_index_or}
 use Rattle.ecam_spec.specs.declared.kinds.Key.{Key}
-use Rattle.ecam_spec.specs.declared.kinds.Key.TheVariants.{Page}
 use Rattle.ecam_spec.specs.History.{Stroke}
 use Rattle.ecam_spec.specs.Keys as spec
+pub use Rattle.ecam_spec.specs.Keys.{IsKey}
 use Rattle.ecam_kinds.specs.declared.keys.Keys.{Keys}
-
--- a page's key has a number from 1 to 16
-abbrev pub IsKey : Key → Type 0
-IsKey (Page i) = (1 ≤ i) × (i ≤ 16)
-IsKey _ = Unit {0}
 
 -- the key counts as pressed, and as held
 abbrev pub is_pressed : Keys → Key → Bool

@@ -216,3 +216,8 @@ begin_of-le p zero = rw (begin_of-zero p) (cond-le (p 0) 0 1 1 (omega arith) (om
 begin_of-le p (suc k) =
     let before : begin_of p k ≤ suc k = begin_of-le p k in
     rw (begin_of-suc p k) (cond-le (p (suc k)) (begin_of p k) (suc (suc k)) (suc (suc k)) (omega arith) (omega arith))
+
+-- a stretch that is there begins no later than now
+pub begin_of-on-le : (p : Signal) (k : ℕ) → p k ≡ true → begin_of p k ≤ k
+begin_of-on-le p zero on = rw (begin_of-zero p) (rw on (omega arith))
+begin_of-on-le p (suc k) on = rw (begin_of-on p k on) (begin_of-le p k)

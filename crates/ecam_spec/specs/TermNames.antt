@@ -3,13 +3,7 @@
 use Rattle.std.specs.Prelude.{◌≡◌, ℕ, ◌<◌, ◌≤◌}
 use Rattle.ecam_spec.specs.Book.{Tree, Trees, constant, discrete, valid, compared, in_phase, alert, press, computer, negation, all, any, at_least, confirmed, held, risen, latched, none, more}
 use Rattle.ecam_spec.specs.Term.{World}
-use Rattle.ecam_spec.specs.declared.kinds.Key.{Key}
-use Rattle.ecam_spec.specs.declared.kinds.Key.TheVariants.{Page}
-
--- a page's key has a number from 1 to 16
-abbrev pub IsKey : Key → Type 0
-IsKey (Page i) = (1 ≤ i) × (i ≤ 16)
-IsKey _ = Unit {0}
+use Rattle.ecam_spec.specs.Keys.{IsKey}
 
 unfoldable mutual
   -- it names parameters and alerts by places below these numbers, and each key and computer that it names

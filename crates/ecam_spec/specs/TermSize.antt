@@ -1,7 +1,7 @@
 -- How large a condition is, and where its slots lie. A slot is what one temporal operator remembers from
 -- moment to moment: each `confirmed`, `held`, `risen` and `latched` has one. The slots of a condition lie in
 -- preorder: a node's own comes first, then its children's, in order.
-use Rattle.std.specs.Prelude.{ℕ, ◌+◌, max, List, [], ◌∷◌}
+use Rattle.std.specs.Prelude.{ℕ, ◌+◌, ◌≤◌, max, List, [], ◌∷◌}
 use Rattle.ecam_spec.specs.Book.{Tree, Trees, constant, discrete, valid, compared, in_phase, alert, press, computer, negation, all, any, at_least, confirmed, held, risen, latched, none, more}
 
 -- some conditions, in order
@@ -115,3 +115,11 @@ children _ = none
 -- the children of a node whose slots begin at a place, with the places where theirs begin
 unfoldable pub placed_children : ℕ → Tree → List Placed
 placed_children at c = placed (at + own_slots c) (children c)
+
+-- the slots of the one end before those of the other begin
+abbrev pub EndsBefore : Placed → Placed → Type 0
+EndsBefore p q = p.at + slots p.tree ≤ q.at
+
+-- its slots lie in the range from one number up to another
+abbrev pub LiesIn : ℕ → ℕ → Placed → Type 0
+LiesIn from to p = (from ≤ p.at) × (p.at + slots p.tree ≤ to)

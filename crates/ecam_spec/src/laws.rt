@@ -2,6 +2,7 @@
 
 pub mod accounts;
 pub mod alerts;
+pub mod conditions;
 pub mod crew;
 pub mod history;
 pub mod phases;
