@@ -2,5 +2,6 @@
 #![tactic(auto)]
 
 mod block;
+mod file;
 mod titles;
 mod words;
