@@ -17,8 +17,8 @@ pub taken-end : (left mid now : Option (List ℕ)) (v none : List ℕ) (n : ℕ)
     → IfSome left (λ l. v ≡ take n l)
 taken-end left mid now v none n came last nothing end few =
     all left now (subst (λ bytes. Consumes left now bytes) (ap (λ bytes. v ++ bytes) nothing ∙ append-nil v) (Consumes-trans left mid now v none came last)) end where
-  all : (left now : Option (List ℕ)) → Consumes left now v → IsAtEnd now → IfSome left (λ l. v ≡ take n l)
-  all None now came end = tt
-  all (Some l) None came end = absurd came
-  all (Some l) (Some rest) came end =
-      sym (ap (take n) (came ∙ ap (λ bytes. v ++ bytes) end ∙ append-nil v) ∙ take_all n v few)
+      all : (left now : Option (List ℕ)) → Consumes left now v → IsAtEnd now → IfSome left (λ l. v ≡ take n l)
+      all None now came end = tt
+      all (Some l) None came end = absurd came
+      all (Some l) (Some rest) came end =
+          sym (ap (take n) (came ∙ ap (λ bytes. v ++ bytes) end ∙ append-nil v) ∙ take_all n v few)

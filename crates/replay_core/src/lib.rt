@@ -3,5 +3,8 @@
 
 mod block;
 mod file;
+mod outcome;
 mod titles;
 mod words;
+
+pub use outcome::Status;
