@@ -75,7 +75,7 @@ event_of-empty (a ∷ line) empty = absurd (omega arith)
 abbrev is_blank : ℕ → Bool
 is_blank b = b == 32
 
-nowhere-len : {X : Type 0} (p : X → Bool) (xs : List X) → position p xs ≡ None → length xs ≤ position_or_len p xs
+pub nowhere-len : {X : Type 0} (p : X → Bool) (xs : List X) → position p xs ≡ None → length xs ≤ position_or_len p xs
 nowhere-len p xs none =
     elim (cases_lt (position_or_len p xs) (length xs)) [
       | inl inside ↦ let some = ap (λ b. cond b (Some (position_or_len p xs)) None) (lt-ltb (position_or_len p xs) (length xs) inside) in let clash : None ≡ Some (position_or_len p xs) = sym none ∙ some in cc

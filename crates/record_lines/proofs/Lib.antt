@@ -8,3 +8,4 @@ pub mod Numbers
 pub mod Bits
 pub mod Forms
 pub mod Pieces
+pub mod Readers
