@@ -1,6 +1,6 @@
 -- What each step of a reader tells, over every history of bytes taken and events answered.
-use Rattle.std.proofs.Common.{◌≡◌, ◌≢◌, ℕ, zero, suc, ◌+◌, ◌-◌, ◌*◌, ◌<◌, ◌≤◌, min, inl, inr, Bool, true, false, not, ◌==◌, List, [], ◌∷◌, ◌++◌, length, get_or, take, drop, Option, Some, None, Result, Ok, Err, cond, ltb, refl, sym, ◌∙◌, ap, subst, arith, length-append, length-take, length-drop, append-nil, append_assoc, take-append-drop}
-use Rattle.std.proofs.lemmas.Bool.{ltb-true, ltb-false, eqb-true, cases_lt}
+use Rattle.std.proofs.Common.{◌≡◌, ◌≢◌, ℕ, zero, suc, ◌+◌, ◌-◌, ◌*◌, ◌<◌, ◌≤◌, min, inl, inr, Bool, true, false, not, ◌&&◌, ◌==◌, List, [], ◌∷◌, ◌++◌, length, get_or, take, drop, Option, Some, None, Result, Ok, Err, cond, ltb, refl, sym, ◌∙◌, ap, subst, arith, length-append, length-take, length-drop, append-nil, append_assoc, take-append-drop}
+use Rattle.std.proofs.lemmas.Bool.{both_ways, ltb-true, ltb-false, eqb-true, cases_lt, le-ltb, eq-eqb}
 use Rattle.std.proofs.lemmas.Bool.Decides.{nat_tests}
 use Rattle.std.proofs.Math.Seq.{take-append-add}
 use Rattle.std.proofs.lemmas.List.{take_all, drop_more, get_or-take, length-take-le}
@@ -14,13 +14,17 @@ use Rattle.ecam_spec.specs.declared.kinds.FaultKind.{FaultKind}
 use Rattle.ecam_spec.specs.declared.kinds.FaultKind.TheVariants.{Long, Form, Cut, NoEnd, AfterEnd, Limit}
 use Rattle.ecam_spec.specs.declared.kinds.RecordFault.{RecordFault}
 use Rattle.ecam_spec.specs.RecordLine.{event_of, is_end_event}
-use Rattle.ecam_spec.specs.Record.{wrong_place, fault, events}
+use Rattle.ecam_spec.specs.Record.{wrong_place, sound_length, line_begin, line_before, line_number, fault, events}
+use Rattle.ecam_spec.specs.Past.{previous}
+use Rattle.ecam_spec.specs.Places.{below, first_place}
 use Rattle.record_lines.specs.declared.outcome.Stage.{Stage}
 use Rattle.record_lines.specs.declared.outcome.Stage.TheVariants.{Lines, Closing, Ended, Faulty}
 use Rattle.record_lines.specs.declared.outcome.LineError.{LineError}
 use Rattle.record_lines.specs.declared.outcome.LineError.TheVariants.{Failed, Record}
-use Rattle.record_lines.specs.Reader.{ReaderState, room, settled, settled_at, kept_answer, cost, fault_in, carried, filled}
-use Rattle.record_lines.specs.Reads.{last_line, last_number, is_over, IsWhole, IsFaulty, HasFault, BeginEvents, WentThrough, ReadsAt, Reads, TellsAfter, Tells, Goes, Gives, Advances}
+use Rattle.record_lines.specs.Reader.{ReaderState, room, settled, settled_at, kept_answer, cost, fault_in, carried, filled, wait}
+use Rattle.record_lines.specs.Reads.{last_line, last_number, is_over, IsWhole, IsFaulty, HasFault, BeginEvents, WentThrough, ReadsAt, Reads, TellsAfter, Tells, Goes, Gives, Advances, Takes, IsFromBytes, MeetsEnd, IsSpent, is_shown_at_end}
+use Rattle.std.specs.Io.KnownBytes.{Consumes}
+use Rattle.std.proofs.KnownBytes.{Consumes-trans, Consumes-nil}
 use Rattle.record_lines.proofs.Sound.{verdict, fault-here, events-here}
 use Rattle.record_lines.proofs.Grows.{verdict-limit, verdict-after_end, verdict-long, verdict-form, added, Grows, IsFeedless, grow, grow_line}
 use Rattle.record_lines.proofs.Ends.{fault-cut, fault-none, fault-no_end, begin_events}
@@ -49,7 +53,7 @@ split_at xs at some =
     let byte : get_or xs at 0 ≡ 10 = eqb-true (get_or xs at 0) 10 found.1 in
     sym (take-append-drop at xs) ∙ ap (λ l. take at xs ++ l) (drop_more xs at 0 found.0 ∙ ap (λ b. b ∷ drop (at + 1) xs) byte)
 
-inside : (xs : List ℕ) (at : ℕ) → position (λ b. b == 10) xs ≡ Some at → at < length xs
+pub inside : (xs : List ℕ) (at : ℕ) → position (λ b. b == 10) xs ≡ Some at → at < length xs
 inside xs at some = (position-Some (λ b. b == 10) xs at 0 some).0
 
 -- ---- a reader that went through some bytes
@@ -105,6 +109,20 @@ BeginEvents-here limit text rest taken sound split more =
     let begin = begin_events limit text sound (rest ++ more) in
     (begin.0, ap (λ l. events l limit) whole ∙ begin.1)
 
+-- nothing was taken yet
+pub begins : (limit : ℕ) (r : ReaderState) → r.pending ≡ [] → r.line ≡ [] → r.number ≡ 1 → r.allowance ≡ limit → r.over ≡ false → WentThrough limit [] [] [] false r
+unfolding wrong_place events sound_length line_before line_number line_begin first_place previous below
+begins limit r pending line number allowance over = record {
+  sound = refl;
+  closing_is = refl;
+  answered_is = refl;
+  line_is = line;
+  number_is = number;
+  pending_is = take_all limit [] (omega arith) ∙ sym pending;
+  allowance_is = omega arith;
+  over_is = over ∙ sym (le-ltb limit 0 (omega arith));
+}
+
 -- ---- faults
 
 -- a reader refuses what has this fault whatever it took before
@@ -125,6 +143,42 @@ same_fault : (limit : ℕ) (taken : List ℕ) (a b : List Event) (kind : FaultKi
 same_fault limit taken a b kind n m events_same number_same h =
     let H : List Event → ℕ → Type 0 = λ e k. HasFault limit taken e (record { kind = kind; line = k }) in
     subst (λ k. H b k) number_same (subst (λ e. H e n) events_same h)
+
+-- a number by a test
+pub pos_from : (n : ℕ) → (n == 0) ≡ false → 0 < n
+pos_from zero none_left = absurd (let w : ⊥ = cc in w)
+pos_from (suc n) some_left = omega arith
+
+pub empty_from : (xs : List ℕ) → (length xs == 0) ≡ true → xs ≡ []
+empty_from [] none_left = refl
+empty_from (x ∷ xs) none_left = absurd (let zero_length = eqb-true (length (x ∷ xs)) 0 none_left in let w : ⊥ = omega arith in w)
+
+-- a reader that isn't at the end or at a fault, and not in the lines, is after the line that ends the record
+pub closing_from : (s : Stage) → settled_at s ≡ None → (s ≡ Lines → ⊥) → s ≡ Closing
+closing_from Lines unsettled other = absurd (other refl)
+closing_from Closing unsettled other = refl
+closing_from Ended unsettled other = absurd (let clash : settled_at Ended ≡ None = unsettled in let w : ⊥ = cc in w)
+closing_from (Faulty f) unsettled other = absurd (let clash : settled_at (Faulty f) ≡ None = unsettled in let w : ⊥ = cc in w)
+
+pub lines_from : (s : Stage) → settled_at s ≡ None → (s ≡ Closing → ⊥) → s ≡ Lines
+lines_from Lines unsettled other = refl
+lines_from Closing unsettled other = absurd (other refl)
+lines_from Ended unsettled other = absurd (let clash : settled_at Ended ≡ None = unsettled in let w : ⊥ = cc in w)
+lines_from (Faulty f) unsettled other = absurd (let clash : settled_at (Faulty f) ≡ None = unsettled in let w : ⊥ = cc in w)
+
+-- readers with the same fields
+pub same_reader : (a b : ReaderState) → a.pending ≡ b.pending → a.line ≡ b.line → a.number ≡ b.number → a.allowance ≡ b.allowance → a.over ≡ b.over → a.stage ≡ b.stage → a ≡ b
+same_reader a b p l n w o s = λ i. record { pending = p i; line = l i; number = n i; allowance = w i; over = o i; stage = s i }
+
+-- a reader fails with a fault of its line
+pub fails : (old mid new : ReaderState) (kind : FaultKind) (e : LineError) → e ≡ Record (fault_in kind mid) → new ≡ record mid { stage = Faulty (fault_in kind mid) } → mid.number ≡ old.number → room mid ≤ room old
+    → ((limit : ℕ) (taken : List ℕ) (answered : List Event) → Reads limit taken answered old → HasFault limit taken answered (fault_in kind old)) → Gives old new (Err e)
+fails old mid new kind e is state number less told =
+    let P : LineError → Type 0 = λ x. Gives old new (Err x) in
+    let F : ℕ → Type 0 = λ n. Gives old new (Err (Record (record { kind = kind; line = n }))) in
+    let same : new.stage ≡ Faulty (fault_in kind old) = ap (λ r. r.stage) state ∙ ap (λ n. Faulty (record { kind = kind; line = n })) number in
+    let size : room new ≡ room mid = ap room state in
+    subst P (sym is) (subst F (sym number) (refused old new (fault_in kind old) same (omega arith) told))
 
 pub after_end : (r : ReaderState) → r.stage ≡ Closing → 0 < length r.pending → (limit : ℕ) (taken : List ℕ) (answered : List Event) → Reads limit taken answered r → HasFault limit taken answered (fault_in AfterEnd r)
 after_end r stage some limit taken answered reads =
@@ -181,7 +235,28 @@ too_long r stage begun many feedless limit taken answered reads =
       ∙ ap (λ l. gone ++ l) (append_assoc line (byte ∷ drop (n + 1) r.pending) (drop limit taken)) ∙ sym (append_assoc gone line (byte ∷ rest)) in
     same_fault limit taken _ _ Long _ _ (lasting.events_are ∙ append-nil (events gone limit) ∙ w.answered_is) (lasting.number_is ∙ sym w.number_is) (HasFault-here limit text lasting.sound byte rest taken Long wrong split)
 
+-- where a line feed stands beyond the line's 32 bytes, or none stands in what is left, which goes on beyond them
+abbrev pub GoesBeyond : ReaderState → Type 0
+GoesBeyond r = (32 - length r.line < length r.pending) × ((k : ℕ) → k ≤ 32 - length r.line → (get_or r.pending k 0 == 10) ≡ false)
+
+pub beyond_some : (r : ReaderState) (at : ℕ) → position (λ b. b == 10) r.pending ≡ Some at → 32 < length r.line + at → length r.line ≤ 32 → GoesBeyond r
+beyond_some r at some far begun =
+    let found = position-Some (λ b. b == 10) r.pending at 0 some in
+    let within = found.0 in
+    (omega arith, λ k h. found.2 k (omega arith))
+
+pub beyond_none : (r : ReaderState) → position (λ b. b == 10) r.pending ≡ None → 32 < length r.line + length r.pending → length r.line ≤ 32 → GoesBeyond r
+beyond_none r none far begun = (omega arith, λ k h. feedless-nowhere r.pending none k (omega arith))
+
 -- ---- lines
+
+-- a line with an event has a byte
+pub begun_line : (line : List ℕ) (event : Event) → event_of line ≡ Some event → 0 < length line
+begun_line line event some =
+    elim (cases_lt 0 (length line)) [
+      | inl h ↦ h
+      | inr h ↦ absurd (let none = event_of-empty line (omega arith) in let clash : None ≡ Some event = sym none ∙ some in let w : ⊥ = cc in w)
+    ]
 
 -- the reader went past the line whose line feed stands at this place of what was left
 pub record IsPast (at : ℕ) (old new : ReaderState) : Type 0 where
@@ -222,18 +297,14 @@ module _ (at : ℕ) (old new : ReaderState) (event : Event) (feed : position (λ
         over_is = past.over_is ∙ w.over_is;
       }
 
-  -- a line with an event has a byte
+  -- an event costs two bytes
   two_bytes : room new + 2 ≤ room old
   two_bytes =
       let within = inside old.pending at feed in
       let line = take at old.pending in
       let len : length line ≡ at = length-take-le at old.pending (omega arith) in
       let whole = length-append old.line line in
-      let begun : 0 < length (old.line ++ line) =
-        elim (cases_lt 0 (length (old.line ++ line))) [
-          | inl h ↦ h
-          | inr h ↦ absurd (let none = event_of-empty (old.line ++ line) (omega arith) in let clash : None ≡ Some event = sym none ∙ some in let w : ⊥ = cc in w)
-        ] in
+      let begun : 0 < length (old.line ++ line) = begun_line (old.line ++ line) event some in
       let a = ap length past.line_is in
       let b = ap length past.pending_is in
       let c = length-drop (at + 1) old.pending in
@@ -406,6 +477,29 @@ ends old new before after less none within whole = record {
 
 -- ---- one step after another
 
+pub advances_none : (r : ReaderState) → settled r ≡ None → Advances r r
+advances_none r unsettled = record {
+  goes = λ limit taken answered reads. let P : List ℕ → Type 0 = λ l. Reads limit l answered r in subst P (sym (append-nil taken)) reads;
+  unsettled = unsettled;
+  room_is = omega arith;
+  allowance_is = refl;
+  over_is = refl;
+}
+
+-- with each piece that was gone through the reader waits for less
+pub nearer : (old new : ReaderState) → Advances old new → new.pending ≡ [] → new.over ≡ false → 2 * new.allowance < wait old
+nearer old new advances empty within =
+    let allowance = advances.allowance_is in
+    let over = sym advances.over_is ∙ within in
+    elim (cases_lt 0 (length old.pending)) [
+      | inl some ↦ omega arith
+      | inr none ↦
+          let zero_left = eq-eqb (length old.pending) 0 (omega arith) in
+          let flag : cond {A = ℕ} (length old.pending == 0 && not old.over) 1 0 ≡ 1 =
+            ap (λ b. cond {A = ℕ} (b && not old.over) 1 0) zero_left ∙ ap (λ b. cond {A = ℕ} (not b) 1 0) over in
+          omega arith
+    ]
+
 pub goes-then-tells : (old mid new : ReaderState) (first second : List ℕ) (answer : Result Event LineError) → Goes old mid first → Tells mid new second answer → Tells old new (first ++ second) answer
 goes-then-tells old mid new first second answer goes tells limit taken answered reads =
     let P : List ℕ → Type 0 = λ l. TellsAfter limit l answered answer new in
@@ -415,3 +509,88 @@ pub goes-then-goes : (old mid new : ReaderState) (first second : List ℕ) → G
 goes-then-goes old mid new first second one two limit taken answered reads =
     let P : List ℕ → Type 0 = λ l. Reads limit l answered new in
     subst P (append_assoc taken first second) (two limit (taken ++ first) answered (one limit taken answered reads))
+
+pub advances-then-gives : (old mid new : ReaderState) (answer : Result Event LineError) → Advances old mid → Gives mid new answer → Gives old new answer
+advances-then-gives old mid new answer first second = record {
+  tells = goes-then-tells old mid new [] [] answer first.goes second.tells;
+  settled_is = second.settled_is;
+  room_is = let less = first.room_is in let rest = second.room_is in omega arith;
+}
+
+-- ---- a whole call
+
+-- the reader gave an answer after it took some bytes
+abbrev pub TakesAndTells : Option (List ℕ) → Option (List ℕ) → ReaderState → ReaderState → Result Event LineError → Type 0
+TakesAndTells before after old new answer = Takes before after (λ more. Tells old new more answer)
+
+abbrev pub TakesAndGoes : Option (List ℕ) → Option (List ℕ) → ReaderState → ReaderState → Type 0
+TakesAndGoes before after old new = Takes before after (λ more. Goes old new more)
+
+module _ (before between after : Option (List ℕ)) (old mid found new : ReaderState) (took : TakesAndGoes before between old mid) where
+  goes_advanced : Advances mid found → Goes old found took.more
+  goes_advanced advances =
+      let P : List ℕ → Type 0 = λ l. Goes old found l in
+      subst P (append-nil took.more) (goes-then-goes old mid found took.more [] took.tells advances.goes)
+
+  -- one more piece
+  pub takes_piece : Advances mid found → found.pending ≡ [] → found.over ≡ false → Takes between after (λ more. new ≡ filled more found) → TakesAndGoes before after old new
+  takes_piece advances empty within piece = record {
+    more = took.more ++ piece.more;
+    moved = Consumes-trans before between after took.more piece.more took.moved piece.moved;
+    tells = goes-then-goes old found new took.more piece.more (goes_advanced advances)
+      (subst (λ r. Goes found r piece.more) (sym piece.tells) (goes_filled found piece.more advances.unsettled empty within));
+  }
+
+  -- an answer that needed no more reading
+  pub takes_given : (answer : Result Event LineError) → Gives mid new answer → TakesAndTells before between old new answer
+  takes_given answer gives =
+      let P : List ℕ → Type 0 = λ l. Tells old new l answer in
+      record { more = took.more; moved = took.moved; tells = subst P (append-nil took.more) (goes-then-tells old mid new took.more [] answer took.tells gives.tells) }
+
+  -- an answer at the source's end
+  pub takes_end : (answer : Result Event LineError) → Advances mid found → Consumes between after [] → Gives found new answer → TakesAndTells before after old new answer
+  takes_end answer advances moved gives = record {
+    more = took.more ++ [];
+    moved = Consumes-trans before between after took.more [] took.moved moved;
+    tells = goes-then-tells old found new took.more [] answer (goes_advanced advances) gives.tells;
+  }
+
+  -- the source failed
+  pub takes_failure : Advances mid found → found.pending ≡ [] → found.over ≡ false → new ≡ found → after ≡ between → TakesAndTells before after old new (Err Failed)
+  takes_failure advances empty within same kept =
+      let P : List ℕ → Type 0 = λ l. Tells old found l (Err Failed) in
+      let tells : Tells old found took.more (Err Failed) = subst P (append-nil took.more) (goes-then-tells old found found took.more [] (Err Failed) (goes_advanced advances) (tells_failure found advances.unsettled empty within)) in
+      record {
+        more = took.more;
+        moved = subst (λ o. Consumes before o took.more) (sym kept) took.moved;
+        tells = subst (λ r. Tells old r took.more (Err Failed)) (sym same) tells;
+      }
+
+-- nothing was taken yet
+pub takes_none : (left : Option (List ℕ)) (r : ReaderState) → TakesAndGoes left left r r
+takes_none left r = record {
+  more = [];
+  moved = Consumes-nil left;
+  tells = λ limit taken answered reads. let P : List ℕ → Type 0 = λ l. Reads limit l answered r in subst P (sym (append-nil taken)) reads;
+}
+
+pub room-filled : (r : ReaderState) (bytes : List ℕ) → r.pending ≡ [] → room (filled bytes r) ≡ room r
+room-filled r bytes empty =
+    let none = ap length empty in
+    let len = length-take r.allowance bytes in
+    omega arith
+
+pub from_bytes-end : (before after : Option (List ℕ)) (answer : Result Event LineError) → IsFromBytes answer → MeetsEnd before after answer
+from_bytes-end before after (Ok e) from = λ end. absurd (both_ways (is_end_event e) from end)
+from_bytes-end before after (Err Failed) from = tt
+from_bytes-end before after (Err (Record f)) from = λ end. absurd (both_ways (is_shown_at_end f.kind) from end)
+
+pub from_bytes-answer : (answer : Result Event LineError) → IsFromBytes answer → answer ≢ Err Failed
+from_bytes-answer (Ok e) from same = cc
+from_bytes-answer (Err Failed) from same = from
+from_bytes-answer (Err (Record f)) from same = cc
+
+pub spent-end : (before after : Option (List ℕ)) (answer : Result Event LineError) → IsSpent before after → MeetsEnd before after answer
+spent-end before after (Ok e) spent = λ end. spent
+spent-end before after (Err Failed) spent = tt
+spent-end before after (Err (Record f)) spent = λ end. spent

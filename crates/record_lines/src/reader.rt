@@ -2,7 +2,7 @@
 ghost use Rattle.std.specs.Prelude.{◌≡◌, ◌≢◌, ℕ, ◌+◌, ◌*◌, ◌<◌, ◌≤◌, ◌==◌, true, false, List, [], ◌++◌, take, length, position, IfOk, IfSome, IfNone, OnErr};
 ghost use Rattle.arrayvec.specs.ArrayVec.{array_vec_len};
 ghost use Rattle.ecam_io.specs.Outside.{Rose};
-ghost use Rattle.ecam_spec.specs.RecordLine.{event_of};
+ghost use Rattle.ecam_spec.specs.RecordLine.{event_of, is_end_event};
 ghost use Rattle.record_lines.specs.Reader.{room, settled, kept_answer, cost, fault_in, carried, filled, wait};
 ghost use Rattle.record_lines.specs.Reads.{Reads, Tells, Takes, MeetsEnd, Gives, IsFromBytes, Advances, IsSpent};
 ghost use Rattle.std.specs.Io.KnownBytes.{Consumes};
@@ -72,27 +72,80 @@ impl LineReader {
         }
     }
 
-    // What is answered without reading.
+    /// The next event of the record. `End` comes only once the record's last line was read and the source answered
+    /// its end; it is answered again without reading, as is a fault of the record. After `Failed` all bytes taken so
+    /// far are kept, and the next call reads again.
+    pub fn next<S: Source>(&mut self, source: &mut S) -> Result<Event, LineError>
+        // Some bytes were taken, which tell this, whatever bytes were taken and events answered before.
+        ensures told { Takes (S.left source.old) (S.left source.new) (λ more. Tells self.old self.new more result) }
+        ensures end { settled self.old ≡ None → MeetsEnd (S.left source.old) (S.left source.new) result }
+
+        // What is answered again, and nothing is read.
+        ensures again { IfSome (settled self.old) (λ a. (result ≡ a) × (self.new ≡ self.old) × (source.new ≡ source.old)) }
+        ensures settled { settled self.new ≡ kept_answer result }
+
+        // Each event costs two bytes of the limit at least.
+        ensures fewer { room self.new + cost result ≤ room self.old }
+
+        ensures cause { result ≡ Err LineError.Failed → Rose (S.faults source.old) (S.faults source.new) }
+        ensures faults { S.faults source.old ≤ S.faults source.new }
+        ensures files { S.files source.new ≡ S.files source.old }
+        ensures opens { S.opens source.new ≡ S.opens source.old }
+    {
+        if let Some(answer) = self.settled() {
+            return answer;
+        }
+        'pieces: loop {
+            if let Some(answer) = self.found() {
+                return answer;
+            }
+            match self.fill(source) {
+                Ok(true) => {}
+                Ok(false) => return self.finish(),
+                Err(Failed) => return Err(LineError::Failed),
+            }
+        }
+    }
+
+    // What is answered again without reading.
+    fn settled(&self) -> Option<Result<Event, LineError>>
+        ensures { result ≡ settled self.now }
+    {
+        match self.stage {
+            Stage::Lines | Stage::Closing => None,
+            Stage::Ended => Some(Ok(Event::End)),
+            Stage::Faulty(fault) => Some(Err(LineError::Record(fault))),
+        }
+    }
+
+    // What is answered without reading; if there is nothing, the piece is gone through.
     fn found(&mut self) -> Option<Result<Event, LineError>>
-        ensures again { IfSome (settled self.old) (λ a. (result ≡ Some a) × (self.new ≡ self.old)) }
-        ensures given { settled self.old ≡ None → IfSome result (Gives self.old self.new) }
-        ensures from_bytes { settled self.old ≡ None → IfSome result IsFromBytes }
+        requires { settled self.old ≡ None }
+        ensures given { IfSome result (Gives self.old self.new) }
+        ensures from_bytes { IfSome result IsFromBytes }
         ensures none { IfNone result (Advances self.old self.new) }
         ensures empty { IfNone result (self.new.pending ≡ []) }
         ensures within { IfNone result (self.new.over ≡ false) }
         ensures nearer { IfNone result (2 * self.new.allowance < wait self.old) }
     {
-        match self.stage {
-            Stage::Ended => return Some(Ok(Event::End)),
-            Stage::Faulty(fault) => return Some(Err(LineError::Record(fault))),
-            Stage::Lines => {
-                if let Some(answer) = self.read_line() {
-                    return Some(answer);
-                }
-            }
-            Stage::Closing => {}
+        if let Some(answer) = self.next_line() {
+            return Some(answer);
         }
         self.excess()
+    }
+
+    // The answer of the line that ends in the piece, before the end of the record.
+    fn next_line(&mut self) -> Option<Result<Event, LineError>>
+        requires { settled self.old ≡ None }
+        ensures given { IfSome result (Gives self.old self.new) }
+        ensures from_bytes { IfSome result IsFromBytes }
+        ensures none { IfNone result (Advances self.old self.new) }
+        ensures gone { IfNone result (self.new.stage ≡ Stage.Lines → self.new.pending ≡ []) }
+    {
+        match self.stage {
+            Stage::Lines => self.read_line(),
+            _ => None,
+        }
     }
 
     // The answer to bytes after the record's end, or beyond the limit.
@@ -121,7 +174,6 @@ impl LineReader {
         ensures from_bytes { IfSome result IsFromBytes }
         ensures none { IfNone result (Advances self.old self.new) }
         ensures gone { IfNone result (self.new.stage ≡ Stage.Lines → self.new.pending ≡ []) }
-        ensures nearer { IfNone result (2 * (length self.new.pending + self.new.allowance) < wait self.old) }
     {
         let begun = self.line.len();
         let bytes = self.piece.bytes();
@@ -155,7 +207,6 @@ impl LineReader {
         ensures from_bytes { IfSome result IsFromBytes }
         ensures none { IfNone result (Advances self.old self.new) }
         ensures gone { IfNone result (self.new.stage ≡ Stage.Closing) }
-        ensures nearer { IfNone result (2 * (length self.new.pending + self.new.allowance) < wait self.old) }
     {
         let event = event_across(&mut self.line, &self.piece.bytes()[..at]);
         self.piece.skip(at + 1);
@@ -163,7 +214,7 @@ impl LineReader {
             return Some(Err(self.fail(FaultKind::Form)));
         };
         self.number += 1;
-        if event == Event::End {
+        if is_end(&event) {
             self.stage = Stage::Closing;
             return None;
         }
@@ -172,7 +223,8 @@ impl LineReader {
 
     // Reads the next piece, and keeps of it what the limit allows. False is the source's end.
     fn fill<S: Source>(&mut self, source: &mut S) -> Result<bool, Failed>
-        requires { self.old.pending ≡ [] }
+        requires empty { self.old.pending ≡ [] }
+        requires within { self.old.over ≡ false }
         ensures moved { IfOk result (λ _. Takes (S.left source.old) (S.left source.new) (λ more. self.new ≡ filled more self.old)) }
         ensures end { result ≡ Ok false → IsSpent (S.left source.old) (S.left source.new) × (self.new ≡ self.old) × Consumes (S.left source.old) (S.left source.new) [] }
         ensures nearer { result ≡ Ok true → wait self.new ≡ 2 * self.old.allowance }
@@ -227,6 +279,13 @@ impl LineReader {
         self.stage = Stage::Faulty(fault);
         LineError::Record(fault)
     }
+}
+
+// Whether an event is the record's end.
+fn is_end(event: &Event) -> bool
+    ensures { result ≡ is_end_event event.now }
+{
+    matches!(event, Event::End)
 }
 
 // The event of the line that begins with these bytes and ends with the rest; the line is empty afterwards.
