@@ -34,6 +34,7 @@ pub mod Standing
 pub mod Situation
 pub mod Screen
 pub mod Replay
+pub mod Computers
 pub mod Command
 pub mod Complaint
 pub mod Titles
