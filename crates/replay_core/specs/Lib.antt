@@ -1,3 +1,4 @@
 pub mod Words
 pub mod TitleList
 pub mod Outcomes
+pub mod Standing
