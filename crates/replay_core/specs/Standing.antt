@@ -7,7 +7,7 @@ use Rattle.ecam_spec.specs.Situation.{words_in}
 use Rattle.ecam_spec.specs.Titles.{is_titled}
 use Rattle.ecam_spec.specs.Replay.{moment_of, tick_count, last_picture}
 use Rattle.ecam_kinds.specs.Shown.{picture_of}
-use Rattle.param_table.specs.Standing.{ParamsFit, ParamsStand}
+use Rattle.replay_core.specs.Stub.{ParamsFit, ParamsStand}
 use Rattle.replay_core.specs.declared.replay.Replay.{Replay}
 
 -- it was made for the book

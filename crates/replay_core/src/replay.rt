@@ -8,14 +8,14 @@ ghost use Rattle.ecam_spec.specs.Situation.{words_in};
 ghost use Rattle.ecam_spec.specs.Titles.{IsTitleBook, IsTitleEvent, is_titled};
 ghost use Rattle.ecam_spec.specs.Replay.{tick_count, last_picture, picture_at};
 ghost use Rattle.book_model.specs.Sealed.{the_book};
-ghost use Rattle.param_table.specs.Standing.{ParamsFit, ParamsStand};
+ghost use Rattle.replay_core.specs.Stub.{ParamsFit, ParamsStand};
 ghost use Rattle.replay_core.specs.Standing.{Fits, Stands, AreShown};
 
 use crate::block::{Block, block};
+use crate::stub::Params;
 use crate::titles::draw_titles;
 use book_model::{Alert, Book};
 use ecam_kinds::Picture;
-use param_table::Params;
 use std::alloc::{AllocError, Global};
 use std::mem;
 use term_tree::Cond;
