@@ -2,7 +2,7 @@
 -- phase inputs, the alerts' own, each line's `when` and then its `done`, and the memos'.
 use Rattle.std.specs.Prelude.{ℕ, ◌+◌, List, [], ◌∷◌, ◌++◌, map}
 use Rattle.std.specs.List.{flat_map}
-use Rattle.ecam_spec.specs.Book.{Tree, PhaseTerms, Line, Alert, Memo, Book}
+use Rattle.ecam_spec.specs.Book.{Tree, PhaseTerms, Line, Alert, Book}
 use Rattle.ecam_spec.specs.TermSize.{slots}
 
 abbrev pub phase_terms : PhaseTerms → List Tree

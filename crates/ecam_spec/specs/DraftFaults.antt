@@ -1,16 +1,15 @@
 -- The faults of a draft, codes 20 to 26: it keeps its limits, and yet is no book.
-use Rattle.std.specs.Prelude.{ℕ, Bool, true, false, not, ◌&&◌, ◌||◌, ◌==◌, nat_le, List, [], ◌∷◌, ◌++◌, map, length, slice_get, position, Option, Some, None}
-use Rattle.std.specs.List.{list_any, flat_map}
+use Rattle.std.specs.Prelude.{ℕ, Bool, true, false, not, ◌||◌, ◌==◌, nat_le, List, [], ◌∷◌, map, slice_get, Option, Some, None}
+use Rattle.std.specs.List.{list_any}
 use Rattle.ecam_spec.specs.declared.kinds.Kind.{Kind}
-use Rattle.ecam_spec.specs.declared.kinds.Kind.TheVariants.{Disc, Bnr, Bcd}
+use Rattle.ecam_spec.specs.declared.kinds.Kind.TheVariants.{Disc}
 use Rattle.ecam_spec.specs.declared.kinds.Level.{Level}
 use Rattle.ecam_spec.specs.declared.kinds.Level.TheVariants.{One, Two, Three}
 use Rattle.ecam_spec.specs.declared.kinds.Sound.{Sound}
-use Rattle.ecam_spec.specs.declared.kinds.Sound.TheVariants.{Quiet, Chime, Repetitive, Cavalry, Cricket}
-use Rattle.ecam_spec.specs.declared.kinds.Section.{Section}
+use Rattle.ecam_spec.specs.declared.kinds.Sound.TheVariants.{Quiet, Chime}
 use Rattle.ecam_spec.specs.declared.kinds.Section.TheVariants as section
 use Rattle.ecam_spec.specs.declared.kinds.BookFault.{BookFault}
-use Rattle.ecam_spec.specs.Book.{Text, Tree, Trees, constant, discrete, valid, compared, in_phase, alert, press, computer, negation, all, any, at_least, confirmed, held, risen, latched, none, more, Parameter, Line, Memo}
+use Rattle.ecam_spec.specs.Book.{Text, Tree, Trees, constant, discrete, valid, compared, in_phase, alert, press, computer, negation, all, any, at_least, confirmed, held, risen, latched, none, more}
 use Rattle.ecam_spec.specs.BookText.{same_text}
 use Rattle.ecam_spec.specs.BookTerms.{phase_terms, line_terms}
 use Rattle.ecam_spec.specs.Draft.{DraftAlert, Draft, place_of, alert_names}

@@ -1,7 +1,6 @@
 -- What is so of each draft that is read: its places are there, and its numbers, texts, lists and conditions keep
 -- their limits.
-use Rattle.std.specs.Prelude.{◌≡◌, ◌≢◌, ℕ, suc, ℤ, pos, negsuc, ◌<◌, ◌≤◌, nat_lt, ◌≤ℤ◌, Bool, true, false, List, [], ◌∷◌, length, map, count_by, Option, Some, None, All, IfSome}
-use Rattle.ecam_spec.specs.declared.kinds.Colour.{Colour}
+use Rattle.std.specs.Prelude.{◌≡◌, ◌≢◌, ℕ, suc, pos, negsuc, ◌<◌, ◌≤◌, nat_lt, ◌≤ℤ◌, Bool, true, false, List, length, map, count_by, Option, Some, None, All, IfSome}
 use Rattle.ecam_spec.specs.declared.kinds.Colour.TheVariants.{Blank}
 use Rattle.ecam_spec.specs.Book.{Text, Tree, Trees, constant, discrete, valid, compared, in_phase, alert, press, computer, negation, all, any, at_least, confirmed, held, risen, latched, none, more, Source, Parameter, PhaseTerms, Line, StatusLine, Memo, PageRow, Page}
 use Rattle.ecam_spec.specs.BookText.{is_name, is_text, same_text}
