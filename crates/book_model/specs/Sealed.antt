@@ -1,12 +1,13 @@
 -- What is so of each book that is sealed.
-use Rattle.std.specs.Prelude.{◌≡◌, Option, None, map}
+use Rattle.std.specs.Prelude.{◌≡◌, None}
 use Rattle.ecam_spec.specs.Book as book
 use Rattle.ecam_spec.specs.Draft.{book_of}
 use Rattle.ecam_spec.specs.Sound.{IsSound}
 use Rattle.ecam_spec.specs.DraftFaults.{draft_fault}
 use Rattle.ecam_spec.specs.BookTerms.{terms_of}
 use Rattle.ecam_spec.specs.TermSize.{trees, placed}
-use Rattle.book_model.specs.View.{draft_of, conditions_of, placed_of}
+use Rattle.book_model.specs.View.{draft_of}
+use Rattle.book_model.specs.Slots.{draft_places}
 use Rattle.book_model.specs.declared.draft.Draft.{Draft}
 
 -- the book that a sealed draft is
@@ -17,4 +18,4 @@ the_book d = book_of (draft_of d)
 pub record IsSealed (d : Draft) : Type 0 where
   pub sound : IsSound (draft_of d)
   pub faultless : draft_fault (draft_of d) ≡ None
-  pub placed : map placed_of (conditions_of d) ≡ placed 0 (trees (terms_of (the_book d)))
+  pub placed : draft_places d ≡ placed 0 (trees (terms_of (the_book d)))

@@ -1,7 +1,6 @@
 -- What a draft of the program means: a draft of plain data, in which a text is its bytes, a list its members and a
 -- condition its tree.
-use Rattle.std.specs.Prelude.{ℕ, List, [], ◌∷◌, ◌++◌, map, Option, option_map}
-use Rattle.std.specs.List.{flat_map}
+use Rattle.std.specs.Prelude.{map, option_map}
 use Rattle.arrayvec.specs.ArrayString.{ArrayString}
 use Rattle.ecam_spec.specs.Book as book
 use Rattle.ecam_spec.specs.Draft as plain
@@ -22,6 +21,9 @@ use Rattle.book_model.specs.declared.draft.Draft.{Draft}
 abbrev pub bytes_of : ArrayString → book.Text
 bytes_of t = t.bytes
 
+abbrev pub name_of : Alert → book.Text
+name_of a = a.name.bytes
+
 abbrev pub tree_in : Term → book.Tree
 tree_in t = tree_of t.cond
 
@@ -33,7 +35,12 @@ parameter_of p = record { name = p.name.bytes; kind = p.kind; stale = p.stale; s
 
 abbrev pub phase_of : PhaseTerms → book.PhaseTerms
 phase_of p = record {
-  gnd = tree_in p.gnd; run = tree_in p.run; tp = tree_in p.tp; fast = tree_in p.fast; high = tree_in p.high; low = tree_in p.low
+  gnd = tree_in p.gnd;
+  run = tree_in p.run;
+  tp = tree_in p.tp;
+  fast = tree_in p.fast;
+  high = tree_in p.high;
+  low = tree_in p.low;
 }
 
 abbrev pub line_of : Line → book.Line
@@ -44,9 +51,18 @@ status_of s = record { section = s.section; text = s.text.bytes }
 
 abbrev pub alert_of : Alert → plain.DraftAlert
 alert_of a = record {
-  name = a.name.bytes; title = a.title.bytes; system = a.system; level = a.level; when = tree_in a.when;
-  page = a.page; confirm = a.confirm; sound = a.sound; inhibit = a.inhibit.0; secondary = map bytes_of a.secondary.items;
-  lines = map line_of a.lines.items; status = map status_of a.status.items
+  name = a.name.bytes;
+  title = a.title.bytes;
+  system = a.system;
+  level = a.level;
+  when = tree_in a.when;
+  page = a.page;
+  confirm = a.confirm;
+  sound = a.sound;
+  inhibit = a.inhibit.0;
+  secondary = map bytes_of a.secondary.items;
+  lines = map line_of a.lines.items;
+  status = map status_of a.status.items;
 }
 
 abbrev pub memo_of : Memo → book.Memo
@@ -60,25 +76,14 @@ page_of p = record { name = p.name.bytes; title = p.title.bytes; phases = p.phas
 
 unfoldable pub draft_of : Draft → plain.Draft
 draft_of d = record {
-  systems = map bytes_of d.systems.items; pages = map page_of d.pages.items; parameters = map parameter_of d.params.items;
-  phase = phase_of d.phase; alerts = map alert_of d.alerts.items; memos = map memo_of d.memos.items
+  systems = map bytes_of d.systems.items;
+  pages = map page_of d.pages.items;
+  parameters = map parameter_of d.params.items;
+  phase = phase_of d.phase;
+  alerts = map alert_of d.alerts.items;
+  memos = map memo_of d.memos.items;
 }
 
 -- a condition, and where its slots begin
 abbrev pub placed_of : Term → Placed
 placed_of t = record { tree = tree_in t; at = t.at }
-
-abbrev pub phase_conditions : PhaseTerms → List Term
-phase_conditions p = p.gnd ∷ p.run ∷ p.tp ∷ p.fast ∷ p.high ∷ p.low ∷ []
-
-abbrev pub line_conditions : List Line → List Term
-line_conditions lines = flat_map (λ l. l.when ∷ l.done ∷ []) lines
-
-abbrev pub alerts_line_conditions : List Alert → List Term
-alerts_line_conditions alerts = flat_map (λ a. line_conditions a.lines.items) alerts
-
--- the conditions in the order in which a moment steps them
-unfoldable pub conditions_of : Draft → List Term
-conditions_of d =
-    phase_conditions d.phase ++ map (λ a. a.when) d.alerts.items ++ alerts_line_conditions d.alerts.items
-    ++ map (λ m. m.when) d.memos.items

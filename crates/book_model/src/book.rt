@@ -1,9 +1,11 @@
 // A book that has no fault, ready to be replayed.
-ghost use Rattle.std.specs.Prelude.{◌≡◌, ◌<◌, ◌+◌, length, map, take, slice_get, Some, get_or};
 ghost use Rattle.ecam_spec.specs.Screen.{order};
 ghost use Rattle.ecam_spec.specs.BookTerms.{terms_of, slots_in, lines_of};
 
 use crate::draft::{Alert, Draft, Memo, Page, Param, PhaseTerms, Text};
+use crate::parts::{line_starts_of, order_of, secondaries_of};
+use crate::slots::place;
+use std::alloc::{AllocError, Global};
 use std::marker::Model;
 
 /// A book: a draft without a fault, in which each condition has its place among the slots, with the order of
@@ -36,8 +38,34 @@ impl Model for Book {
 }
 
 impl Book {
-    ghost use Rattle.std.specs.Prelude.{◌≡◌, ◌<◌, ◌+◌, length, map, take, slice_get, Some};
+    ghost use Rattle.std.specs.Prelude.{◌≡◌, ◌<◌, length, map, take, slice_get, Some, None, IfOk};
+    ghost use Rattle.ecam_spec.specs.Sound.{IsSound};
+    ghost use Rattle.ecam_spec.specs.DraftFaults.{draft_fault};
+    ghost use Rattle.book_model.specs.View.{draft_of};
     ghost use Rattle.book_model.specs.Sealed.{IsSealed, the_book};
+
+    /// Seals a draft that has no fault: gives each condition its place among the slots, and changes nothing
+    /// else. Fails only where memory runs out.
+    pub fn build(alloc: Global, draft: Draft) -> Result<Book, AllocError>
+        requires sound { IsSound (draft_of draft) }
+        requires faultless { draft_fault (draft_of draft) ≡ None }
+        ensures same { IfOk result (λ b. draft_of b ≡ draft_of draft) }
+        ensures sealed { IfOk result IsSealed }
+    {
+        let order = order_of(alloc, draft.alerts.as_slice())?;
+        let secondaries = secondaries_of(alloc, draft.alerts.as_slice())?;
+        let (line_starts, line_count) = line_starts_of(alloc, draft.alerts.as_slice())?;
+        let mut draft = draft;
+        let slots = place(&mut draft);
+        Ok(Book {
+            draft,
+            order,
+            secondaries,
+            line_starts,
+            line_count,
+            slots,
+        })
+    }
 
     /// The systems, in the book's order.
     pub fn systems(&self) -> &[Text]

@@ -5,6 +5,10 @@
 mod book;
 mod draft;
 mod error;
+mod laws;
+mod names;
+mod parts;
+mod slots;
 
 pub use book::Book;
 pub use draft::{
@@ -12,3 +16,5 @@ pub use draft::{
 };
 pub use ecam_spec::{BookFault, Kind, Section};
 pub use error::LoadError;
+pub use laws::conditions_have_slots_of_their_own;
+pub use names::{AlertPlaces, alert_places, place_of};

@@ -1,7 +1,7 @@
 -- A draft: a book as it is read, in which an alert's secondaries still go by name. The book is the draft with
 -- these names resolved.
-use Rattle.std.specs.Prelude.{ℕ, List, map, position, Option}
-use Rattle.std.specs.List.{filter_map}
+use Rattle.std.specs.Prelude.{ℕ, List, map, Option}
+use Rattle.std.specs.List.{filter_map, position_from}
 use Rattle.ecam_spec.specs.declared.kinds.Level.{Level}
 use Rattle.ecam_spec.specs.declared.kinds.Sound.{Sound}
 use Rattle.ecam_spec.specs.Book.{Text, Tree, Parameter, PhaseTerms, Line, StatusLine, Alert, Memo, Page, Book}
@@ -31,7 +31,7 @@ pub record Draft : Type 0 where
 
 -- the place, from 0, of a name among names
 abbrev pub place_of : List Text → Text → Option ℕ
-place_of names name = position (same_text name) names
+place_of names name = position_from (same_text name) 0 names
 
 abbrev pub alert_names : List DraftAlert → List Text
 alert_names alerts = map (λ a. a.name) alerts

@@ -36,6 +36,7 @@ pub mod Screen
 pub mod Replay
 pub mod Computers
 pub mod Command
+pub mod Complaint
 pub mod Titles
 pub mod Opened
 pub mod BookText

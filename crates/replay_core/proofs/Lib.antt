@@ -1,3 +1,5 @@
 mod Blocks
 mod Limits
 mod Forms
+mod TitleRows
+mod Files

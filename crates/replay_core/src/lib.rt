@@ -2,5 +2,9 @@
 #![tactic(auto)]
 
 mod block;
+mod file;
+mod outcome;
 mod titles;
 mod words;
+
+pub use outcome::Status;

@@ -3,3 +3,4 @@ pub mod Nodes
 pub mod Members
 pub mod Atoms
 pub mod Arms
+pub mod Fresh

@@ -1,5 +1,5 @@
 -- What the cells of a condition hold after some moments, slot by slot.
-use Rattle.std.specs.Prelude.{◌≡◌, ◌≢◌, ℕ, suc, ◌+◌, ◌<◌, ◌≤◌, min, Bool, true, false, List, slice_index}
+use Rattle.std.specs.Prelude.{◌≡◌, ◌≢◌, ℕ, suc, ◌+◌, ◌<◌, ◌≤◌, min, Bool, true, false, List, length, slice_index}
 use Rattle.ecam_spec.specs.Past.{run_length, moments_left, previous}
 use Rattle.ecam_spec.specs.Book.{Tree, Trees, constant, discrete, valid, compared, in_phase, alert, press, computer, negation, all, any, at_least, confirmed, held, risen, latched, none, more}
 use Rattle.ecam_spec.specs.Term.{World, holds, latch}
@@ -40,3 +40,7 @@ unfoldable mutual
   pub StandAll : World → ℕ → Trees → ℕ → List ℕ → Type 0
   StandAll w k none at cells = Unit {0}
   StandAll w k (more c cs) at cells = Stand w k c at cells × StandAll w k cs (at + slots c) cells
+
+-- the cells stand for no moment, of whichever conditions and world
+abbrev pub StandForNone : List ℕ → Type 0
+StandForNone cells = (w : World) (c : Tree) (at : ℕ) → at + slots c ≤ length cells → Stand w 0 c at cells

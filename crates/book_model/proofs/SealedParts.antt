@@ -1,19 +1,19 @@
 -- How many alerts a sealed book has, and where the lines of each begin.
-use Rattle.std.proofs.Common.{◌≡◌, ℕ, zero, suc, ◌+◌, ◌<◌, List, [], ◌∷◌, ◌++◌, map, length, take, get_or, refl, ap, ◌∙◌, sym, arith, length-append, slice_get, Option, Some}
+use Rattle.std.proofs.Common.{◌≡◌, ℕ, zero, suc, ◌+◌, ◌<◌, List, [], ◌∷◌, map, length, take, get_or, refl, ap, ◌∙◌, arith, length-append, slice_get, Some}
 use Rattle.std.proofs.lemmas.List.{length-map}
-use Rattle.ecam_spec.specs.Book.{Alert, Line}
+use Rattle.ecam_spec.specs.Book.{Alert}
 use Rattle.ecam_spec.specs.BookTerms.{lines_of}
-use Rattle.ecam_spec.specs.Draft.{book_of, resolved, alert_names}
+use Rattle.ecam_spec.specs.Draft.{book_of}
 use Rattle.book_model.specs.View.{draft_of, alert_of}
 use Rattle.book_model.specs.Sealed.{the_book}
-use Rattle.book_model.specs.Inside.{starts}
+use Rattle.book_model.specs.Parts.{starts}
 use Rattle.book_model.specs.declared.draft.Draft.{Draft}
 
-pub length-starts : (n : ℕ) (alerts : List Alert) → length (starts n alerts) ≡ length alerts
+pub length-starts : (n : ℕ) (counts : List ℕ) → length (starts n counts) ≡ length counts
 length-starts n [] = refl
-length-starts n (a ∷ alerts) = ap suc (length-starts (n + length a.lines) alerts)
+length-starts n (k ∷ ks) = ap suc (length-starts (n + k) ks)
 
-pub starts-at : (n : ℕ) (alerts : List Alert) (i d : ℕ) → i < length alerts → get_or (starts n alerts) i d ≡ n + length (lines_of (take i alerts))
+pub starts-at : (n : ℕ) (alerts : List Alert) (i d : ℕ) → i < length alerts → get_or (starts n (map (λ a. length a.lines) alerts)) i d ≡ n + length (lines_of (take i alerts))
 starts-at n [] i d h = absurd (omega arith)
 starts-at n (a ∷ alerts) zero d h = omega arith
 starts-at n (a ∷ alerts) (suc i) d h = omega (arith, starts-at (n + length a.lines) alerts i d (omega arith), length-append a.lines (lines_of (take i alerts)))
