@@ -35,6 +35,7 @@ pub mod Situation
 pub mod Screen
 pub mod Replay
 pub mod Computers
+pub mod Stage
 pub mod Command
 pub mod Complaint
 pub mod Titles

@@ -4,6 +4,8 @@
 mod block;
 mod file;
 mod outcome;
+mod replay;
+mod stub;
 mod titles;
 mod words;
 
