@@ -1,9 +1,9 @@
 -- The step of each word of past-time logic: what it says in one more moment. Every proof over histories
 -- goes by these.
-use Rattle.std.proofs.Common.{◌≡◌, ℕ, zero, suc, ◌+◌, ◌-◌, ◌<◌, ◌≤◌, Bool, true, false, not, ◌&&◌, ◌||◌, Option, Some, None, ltb, leb, cond, refl, sym, ◌∙◌, ap, subst, arith}
+use Rattle.std.proofs.Common.{◌≡◌, ℕ, zero, suc, ◌<◌, ◌≤◌, Bool, true, false, not, ◌&&◌, ◌||◌, Option, Some, None, ltb, leb, cond, refl, sym, ◌∙◌, ap, arith}
 use Rattle.std.proofs.lemmas.Bool.{lt-ltb, le-ltb, le-leb, lt-leb}
 use Rattle.std.specs.Prelude.{is_some, unwrap_or}
-use Rattle.ecam_spec.specs.Past.{Signal, once, historically, once_from, historically_from, once_within, historically_within, since, previous, rise, last, next, begin_of, count_up_to, count_from}
+use Rattle.ecam_spec.specs.Past.{Signal, once, historically, once_from, historically_from, since, previous, rise, last, next, begin_of}
 
 pub once-suc : (p : Signal) (k : ℕ) → once p (suc k) ≡ (p (suc k) || once p k)
 unfolding once
@@ -138,10 +138,10 @@ pub since-below : (p q r s : Signal) (k : ℕ) → ((i : ℕ) → i ≤ k → p 
 unfolding since
 since-below p q r s k first second =
     once-below (λ j. p j && historically_from (suc j) q k) (λ j. r j && historically_from (suc j) s k) k
-        (λ j h.
-            let begun : p j ≡ r j = first j h in
-            let kept : historically_from (suc j) q k ≡ historically_from (suc j) s k = historically_from-below (suc j) q s k second in
-            cc)
+    (λ j h.
+    let begun : p j ≡ r j = first j h in
+    let kept : historically_from (suc j) q k ≡ historically_from (suc j) s k = historically_from-below (suc j) q s k second in
+    cc)
 
 or-false : (b : Bool) → (b || false) ≡ b
 or-false true = refl
@@ -216,3 +216,8 @@ begin_of-le p zero = rw (begin_of-zero p) (cond-le (p 0) 0 1 1 (omega arith) (om
 begin_of-le p (suc k) =
     let before : begin_of p k ≤ suc k = begin_of-le p k in
     rw (begin_of-suc p k) (cond-le (p (suc k)) (begin_of p k) (suc (suc k)) (suc (suc k)) (omega arith) (omega arith))
+
+-- a stretch that is there begins no later than now
+pub begin_of-on-le : (p : Signal) (k : ℕ) → p k ≡ true → begin_of p k ≤ k
+begin_of-on-le p zero on = rw (begin_of-zero p) (rw on (omega arith))
+begin_of-on-le p (suc k) on = rw (begin_of-on p k on) (begin_of-le p k)

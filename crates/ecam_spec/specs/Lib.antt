@@ -8,6 +8,7 @@ pub mod Levels
 pub mod Value
 pub mod Term
 pub mod Phase
+pub mod PhaseRules
 pub mod TermSize
 pub mod TermNames
 pub mod Picture
@@ -15,6 +16,10 @@ pub mod History
 pub mod Keys
 pub mod RecordLine
 pub mod Record
+pub mod Token
+pub mod Grammar
+pub mod TermText
+pub mod TermReading
 pub mod Output
 pub mod Alert
 pub mod Crew
@@ -29,4 +34,12 @@ pub mod Standing
 pub mod Situation
 pub mod Screen
 pub mod Replay
+pub mod Command
+pub mod Titles
 pub mod Opened
+pub mod BookText
+pub mod Draft
+pub mod BookTerms
+pub mod Sound
+pub mod Faults
+pub mod DraftFaults

@@ -41,3 +41,7 @@ five_flights =
     ∷ codes "FL" ∷ codes "TFL" ∷ codes "FH" ∷ codes "F"
     ∷ codes "FL" ∷ codes "GRF" ∷ codes "GR"
     ∷ []
+
+-- the same, then on ground with no engine running for 3001 moments, and then with one
+abbrev pub five_flights_and_a_stay : ℕ → Text
+five_flights_and_a_stay = then_long five_flights (codes "G") 3001 (codes "GR" ∷ [])

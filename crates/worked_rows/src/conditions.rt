@@ -1,9 +1,26 @@
-// Conditions over time: confirmation, and a key.
+// Conditions over time, by themselves and as an alert's.
 
-ghost use Rattle.std.specs.Prelude.{◌≡◌, codes};
+ghost use Rattle.std.specs.Prelude.{◌≡◌, ◌∷◌, [], true, false, codes};
+ghost use Rattle.ecam_spec.specs.Book.{constant, discrete, all, at_least, confirmed, held, risen, latched, none, more};
+ghost use Rattle.worked_rows.specs.Signals.{answers};
 ghost use Rattle.ecam_spec.specs.declared.kinds.Level.TheVariants.{One, Two};
 ghost use Rattle.worked_rows.specs.Rows.{lines, written};
 ghost use Rattle.worked_rows.specs.Books.{book_confirmed, book_when, low_for_two, take_off_test};
+
+/// `all(a, conf(d, 2))` in five moments, with d 1 in each and a in moment 4 alone.
+pub fn confirmation_beside_another_condition()
+    ensures { answers ((4 ∷ []) ∷ (0 ∷ 1 ∷ 2 ∷ 3 ∷ 4 ∷ []) ∷ []) (all (more (discrete 0) (more (confirmed (discrete 1) 2) none))) 5
+        ≡ false ∷ false ∷ false ∷ false ∷ true ∷ [] }
+{}
+
+/// Over a in moment 0 alone and b in moment 3 alone: `latch(hold(a, 1), b)`, `rise(a)`, `atleast(2, a, b, true)`.
+pub fn conditions_over_five_moments()
+    ensures latch { answers ((0 ∷ []) ∷ (3 ∷ []) ∷ []) (latched (held (discrete 0) 1) (discrete 1)) 5
+        ≡ true ∷ true ∷ true ∷ false ∷ false ∷ [] }
+    ensures rise { answers ((0 ∷ []) ∷ (3 ∷ []) ∷ []) (risen (discrete 0)) 5 ≡ true ∷ false ∷ false ∷ false ∷ false ∷ [] }
+    ensures at_least_two { answers ((0 ∷ []) ∷ (3 ∷ []) ∷ []) (at_least 2 (more (discrete 0) (more (discrete 1) (more (constant true) none)))) 5
+        ≡ true ∷ false ∷ false ∷ true ∷ false ∷ [] }
+{}
 
 /// A caution is confirmed by three moments in a row after its first; an interruption begins it anew.
 pub fn an_interruption_begins_confirmation_anew()

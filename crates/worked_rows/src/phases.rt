@@ -1,16 +1,20 @@
 // The flight phases, and alerts that they inhibit.
 
-ghost use Rattle.std.specs.Prelude.{◌≡◌, ◌∷◌, ◌++◌, [], replicate, codes};
+ghost use Rattle.std.specs.Prelude.{◌≡◌, ℕ, ◌<◌, ◌≤◌, ◌∷◌, [], codes};
+ghost use Rattle.ecam_spec.specs.Phase.{phase};
 ghost use Rattle.ecam_spec.specs.declared.kinds.Level.TheVariants.{One, Two};
 ghost use Rattle.worked_rows.specs.Rows.{lines, written};
 ghost use Rattle.worked_rows.specs.Books.{book_d};
-ghost use Rattle.worked_rows.specs.Flights.{then_long, phases_of, five_flights};
+ghost use Rattle.worked_rows.specs.Flights.{flight, phases_of, five_flights_and_a_stay};
 
 /// Five flights one after the other, as their inputs and phases: a rejected start of take-off, a rejected take-off,
-/// a flight with a go-around, a landing, and the first ten seconds parked.
+/// a flight with a go-around, a landing; then five minutes parked, and one moment more; then the next start.
 pub fn phases_of_five_flights()
-    ensures { phases_of (then_long five_flights (codes "G") 3000 (codes "G" ∷ codes "GR" ∷ [])) 119
-        ≡ (1 ∷ 2 ∷ 3 ∷ 2 ∷ 3 ∷ 4 ∷ 8 ∷ 9 ∷ 3 ∷ 4 ∷ 5 ∷ 6 ∷ 7 ∷ 5 ∷ 6 ∷ 6 ∷ 7 ∷ 8 ∷ 9 ∷ []) ++ replicate 100 10 }
+    ensures flights { phases_of five_flights_and_a_stay 19
+        ≡ 1 ∷ 2 ∷ 3 ∷ 2 ∷ 3 ∷ 4 ∷ 8 ∷ 9 ∷ 3 ∷ 4 ∷ 5 ∷ 6 ∷ 7 ∷ 5 ∷ 6 ∷ 6 ∷ 7 ∷ 8 ∷ 9 ∷ [] }
+    ensures parked { (k : ℕ) → 19 ≤ k → k < 3019 → phase (flight five_flights_and_a_stay) k ≡ 10 }
+    ensures parked_longer { phase (flight five_flights_and_a_stay) 3019 ≡ 1 }
+    ensures started { phase (flight five_flights_and_a_stay) 3020 ≡ 2 }
 {}
 
 /// An alert that occurs in an inhibited phase waits for one that isn't.

@@ -1,0 +1,4 @@
+mod Blocks
+mod Limits
+mod Forms
+mod TitleRows
