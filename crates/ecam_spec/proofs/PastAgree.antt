@@ -1,7 +1,7 @@
 -- Signals that agree up to now agree in every word of past-time logic: what comes later has no bearing.
-use Rattle.std.proofs.Common.{◌≡◌, ℕ, zero, suc, ◌-◌, ◌≤◌, true, not, ◌&&◌, ◌||◌, ltb, leb, ap, ◌∙◌, arith}
-use Rattle.ecam_spec.specs.Past.{Signal, once_from, historically_from, once_within, historically_within, since, previous, rise}
-use Rattle.ecam_spec.proofs.PastSteps.{once-below, historically-below}
+use Rattle.std.proofs.Common.{◌≡◌, ℕ, zero, suc, ◌-◌, ◌<◌, ◌≤◌, true, not, ◌&&◌, ◌||◌, Some, None, cond, ltb, leb, refl, sym, ap, ◌∙◌, arith}
+use Rattle.ecam_spec.specs.Past.{Signal, once_from, historically_from, once_within, historically_within, since, previous, rise, last, next, begin_of}
+use Rattle.ecam_spec.proofs.PastSteps.{once-below, historically-below, last-zero, last-suc}
 
 pub once_from-below : (j : ℕ) (p q : Signal) (k : ℕ) → ((i : ℕ) → i ≤ k → p i ≡ q i) → once_from j p k ≡ once_from j q k
 unfolding once_from
@@ -30,3 +30,20 @@ unfolding since
 since-below p p' q q' k first rest =
     once-below (λ j. p j && historically_from (suc j) q k) (λ j. p' j && historically_from (suc j) q' k) k
     (λ j h. ap (λ b. b && historically_from (suc j) q k) (first j h) ∙ ap (λ b. p' j && b) (historically_from-below (suc j) q q' k rest))
+
+pub previous-below : (p q : Signal) (k : ℕ) → ((i : ℕ) → i < k → p i ≡ q i) → previous p k ≡ previous q k
+unfolding previous
+previous-below p q zero same = refl
+previous-below p q (suc k) same = same k (omega arith)
+
+pub last-below : (p q : Signal) (k : ℕ) → ((i : ℕ) → i ≤ k → p i ≡ q i) → last p k ≡ last q k
+last-below p q zero same = last-zero p ∙ ap (λ b. cond b (Some 0) None) (same 0 (omega arith)) ∙ sym (last-zero q)
+last-below p q (suc k) same =
+    last-suc p k
+    ∙ ap (λ b. cond b (Some (suc k)) (last p k)) (same (suc k) (omega arith))
+    ∙ ap (λ l. cond (q (suc k)) (Some (suc k)) l) (last-below p q k (λ i h. same i (omega arith)))
+    ∙ sym (last-suc q k)
+
+pub begin_of-below : (p q : Signal) (k : ℕ) → ((i : ℕ) → i ≤ k → p i ≡ q i) → begin_of p k ≡ begin_of q k
+unfolding begin_of
+begin_of-below p q k same = ap next (last-below (λ i. not (p i)) (λ i. not (q i)) k (λ i h. ap not (same i h)))

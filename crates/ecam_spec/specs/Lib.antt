@@ -34,6 +34,7 @@ pub mod Standing
 pub mod Situation
 pub mod Screen
 pub mod Replay
+pub mod Command
 pub mod Titles
 pub mod Opened
 pub mod BookText

@@ -9,7 +9,7 @@ use Rattle.ecam_spec.specs.Book.{Text, Book}
 use Rattle.ecam_spec.specs.History.{none_up, flags_after, Moment, Era, era}
 use Rattle.ecam_spec.specs.Record.{fault, events}
 use Rattle.ecam_spec.specs.Picture.{Picture, dead}
-use Rattle.ecam_spec.specs.Output.{line, blocks, end_line}
+use Rattle.ecam_spec.specs.Output.{line, picture_before, blocks, end_line}
 use Rattle.ecam_spec.specs.Alert.{starred_by}
 use Rattle.ecam_spec.specs.LeftZone.{title_row}
 use Rattle.ecam_spec.specs.Standing.{standing_of, standing_text}
@@ -43,6 +43,10 @@ module _ (b : Book) where
   -- the picture of Tick number t
   unfoldable pub picture : List Event → ℕ → Picture
   picture h t = picture_at (through (t + 1) h)
+
+  -- the picture with which that of the next Tick is compared: that of the last Tick, blank before the first
+  unfoldable pub last_picture : List Event → Picture
+  last_picture h = picture_before (picture h) (tick_count h)
 
   -- what is written of a history
   unfoldable pub history_blocks : List Event → Text

@@ -1,5 +1,5 @@
 -- Where an alert stands, as `why` tells it: the first of the standings that applies.
-use Rattle.std.specs.Prelude.{ℕ, Bool, not, ◌++◌, nat_le, Option, Some, None, codes, decimal, if◌then◌else◌}
+use Rattle.std.specs.Prelude.{ℕ, Bool, true, false, not, ◌++◌, nat_le, Option, Some, None, codes, decimal, if◌then◌else◌}
 use Rattle.ecam_spec.specs.declared.kinds.Standing.{Standing}
 use Rattle.ecam_spec.specs.declared.kinds.Standing.TheVariants.{Dead, Quiet, Waiting, Starred, Cancelled, Cleared, Titled, Counted}
 use Rattle.ecam_spec.specs.Book.{Text}
@@ -32,6 +32,19 @@ standing_of f =
     (if f.cancelled then Cancelled
     else (if f.cleared then Cleared
     else standing_by_row f.title_row)))
+
+-- the standings that an active alert has
+abbrev pub accounts : Standing → Bool
+accounts (Starred p) = true
+accounts Cancelled = true
+accounts Cleared = true
+accounts (Titled r) = true
+accounts Counted = true
+accounts _ = false
+
+abbrev pub is_counted : Standing → Bool
+is_counted Counted = true
+is_counted _ = false
 
 -- how `why` prints it, where `names` tells the alerts' names
 unfoldable pub standing_text : (ℕ → Text) → Standing → Text

@@ -1,6 +1,6 @@
 -- What a condition's text means: its tree, or the fault for which it is refused. The language of conditions is
 -- this project's own.
-use Rattle.std.specs.Prelude.{◌≡◌, ◌⊎◌, ℕ, suc, ◌+◌, ◌-◌, ◌*◌, ◌^◌, ◌<◌, Bool, true, false, ◌&&◌, ◌==◌, nat_le, nat_lt, List, [], ◌∷◌, ◌++◌, length, drop, fold, map, position, Option, Some, None, unwrap_or, is_some, slice_index, bit_or, ℤ, pos, neg_ℤ, int_le}
+use Rattle.std.specs.Prelude.{◌≡◌, ◌⊎◌, ℕ, suc, ◌+◌, ◌-◌, ◌*◌, ◌^◌, Bool, true, false, ◌&&◌, ◌==◌, nat_le, nat_lt, List, [], ◌∷◌, ◌++◌, length, drop, fold, map, position, Option, Some, None, unwrap_or, is_some, slice_index, bit_or, ℤ, pos, neg_ℤ, int_le}
 use Rattle.std.specs.Str.{bytes_eq}
 use Rattle.std.specs.List.{flat_map}
 use Rattle.ecam_spec.specs.declared.terms.Span.{Span}

@@ -1,13 +1,16 @@
 -- The books that use nothing but titles, and what they show: an amber title for each alert whose discrete is one.
 -- They are this project's own.
-use Rattle.std.specs.Prelude.{◌≡◌, ℕ, ◌-◌, true, false, nat_lt, pos, List, [], ◌∷◌, ◌++◌, map, length, filter, All, replicate, Option, Some, None, option_and_then}
+use Rattle.std.specs.Prelude.{◌≡◌, ℕ, ◌-◌, true, false, nat_lt, pos, List, [], ◌∷◌, ◌++◌, map, length, filter, ⊤, All, replicate, Option, Some, None, option_and_then}
 use Rattle.std.specs.Ordering.{int_eq}
 use Rattle.ecam_spec.specs.declared.kinds.Colour.TheVariants.{Amber}
+use Rattle.ecam_spec.specs.declared.kinds.Event.{Event}
+use Rattle.ecam_spec.specs.declared.kinds.Event.TheVariants.{Word, Tick, Press, Release}
+use Rattle.ecam_spec.specs.declared.kinds.Key.TheVariants.{ToCfg}
 use Rattle.ecam_spec.specs.declared.kinds.Level.TheVariants.{One}
 use Rattle.ecam_spec.specs.Past.{Signal}
 use Rattle.ecam_spec.specs.Book.{Tree, constant, discrete, PhaseTerms, Alert, Book}
 use Rattle.ecam_spec.specs.Term.{is_so}
-use Rattle.ecam_spec.specs.History.{Moment}
+use Rattle.ecam_spec.specs.History.{Stroke, Moment}
 use Rattle.ecam_spec.specs.Picture.{row, blank_row, zone, Picture}
 use Rattle.ecam_spec.specs.StatusPage.{flags, flags_row}
 use Rattle.ecam_spec.specs.Situation.{alert_at, value_in}
@@ -57,3 +60,15 @@ title_picture b alerts =
     ++ replicate 7 blank_row
     ++ flags_row (flags (nat_lt 7 (length alerts)) (length alerts - 7) 0 []) ∷ []
     ++ replicate 21 blank_row
+
+-- of all keys T.O. CONFIG alone goes down or up in the moment
+abbrev pub OnlyToCfg : Moment → Type 0
+OnlyToCfg m = All (λ (s : Stroke). s.key ≡ ToCfg) m.strokes
+
+-- an event of such a moment, while both computers stay up
+abbrev pub IsTitleEvent : Event → Type 0
+IsTitleEvent (Word b w) = ⊤
+IsTitleEvent Tick = ⊤
+IsTitleEvent (Press k) = k ≡ ToCfg
+IsTitleEvent (Release k) = k ≡ ToCfg
+IsTitleEvent _ = ⊥

@@ -1,6 +1,6 @@
 -- The tokens of a condition's text: at each place that no token before it covers and that has no blank begins
 -- the longest token that can. The language of conditions is this project's own.
-use Rattle.std.specs.Prelude.{ℕ, zero, suc, ◌+◌, ◌-◌, Bool, true, false, ◌&&◌, ◌||◌, ◌==◌, nat_le, List, [], ◌∷◌, length, take, drop, find, Option, Some, None, option_map, slice_index, slice_range, codes}
+use Rattle.std.specs.Prelude.{ℕ, zero, suc, ◌+◌, Bool, true, false, ◌&&◌, ◌||◌, ◌==◌, nat_le, List, [], ◌∷◌, take, find, Option, Some, None, option_map, slice_index, slice_range, codes}
 use Rattle.std.specs.Str.{bytes_eq}
 use Rattle.std.specs.List.{list_all}
 use Rattle.ecam_spec.specs.declared.kinds.Key.{Key}

@@ -1,6 +1,8 @@
 //! What the definitions say, as theorems: each is the contract of a function that does nothing.
 
+pub mod accounts;
 pub mod alerts;
+pub mod conditions;
 pub mod crew;
 pub mod history;
 pub mod phases;

@@ -4,7 +4,9 @@
 
 mod kinds;
 pub mod laws;
+pub mod replay_laws;
 mod terms;
+pub mod title_laws;
 
 pub use kinds::{
     BookFault, Choice, Colour, Event, FaultKind, Key, Kind, Level, Op, RecordFault, Section, Sound,

@@ -40,6 +40,10 @@ none-begins true false low high tp b l = cc
 pub begins-lift_off : (f : Flight) (k : ℕ) → IsTrue (airborne f k) → previous (airborne f) k ≡ false → IsTrue (climb_begins f k)
 begins-lift_off f k air before = begins-now f k ∙ lift_off-begins (airborne f k) (previous (airborne f) k) (f.low k) (f.high k) (f.tp k) air before
 
+-- a climb begins where the aircraft is low with take-off power
+pub begins-go_around : (f : Flight) (k : ℕ) → IsTrue (airborne f k) → f.high k ≡ false → f.low k ≡ true → f.tp k ≡ true → IsTrue (climb_begins f k)
+begins-go_around f k air h l t = begins-now f k ∙ go_around-begins (airborne f k) (previous (airborne f) k) (f.low k) (f.high k) (f.tp k) air l h t
+
 climb_begin-here : (f : Flight) (k : ℕ) → climb_begins f k ≡ true → climb_begin f k ≡ k
 unfolding climb_begin
 climb_begin-here f k h = ap (λ s. unwrap_or s 0) (last-here (climb_begins f) k h)
@@ -85,11 +89,6 @@ pub climb-begins : (f : Flight) (k : ℕ) → IsTrue (climb_begins f k) → f.hi
 climb-begins f k begins h =
     let passed : has_high_mark f k ≡ false = has_high_mark-here f k begins ∙ h in
     ap (λ b. climb_of b (is_latest_high f k)) passed
-
--- a go-around
-pub climb-anew : (f : Flight) (k : ℕ) → IsTrue (airborne f k) → f.high k ≡ false → f.low k ≡ true → f.tp k ≡ true → climb_at f k ≡ Initial
-climb-anew f k air h l t =
-    climb-begins f k (begins-now f k ∙ go_around-begins (airborne f k) (previous (airborne f) k) (f.low k) (f.high k) (f.tp k) air l h t) h
 
 -- the climb goes on without a high mark
 climb-on : (f : Flight) (k : ℕ) → IsTrue (airborne f k) → f.high (suc k) ≡ false → (f.low (suc k) && f.tp (suc k)) ≡ false → climb_at f (suc k) ≡ climb_of (has_high_mark f k) (not (f.low (suc k)) && is_latest_high f k)

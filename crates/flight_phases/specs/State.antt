@@ -1,5 +1,5 @@
 -- What the state says of the moments so far.
-use Rattle.std.specs.Prelude.{◌≡◌, ℕ, zero, suc, Option, Some, None}
+use Rattle.std.specs.Prelude.{◌≡◌, ℕ, suc, Option, Some, None}
 use Rattle.ecam_spec.specs.Phase.{Flight}
 use Rattle.flight_phases.specs.declared.situation.Situation.{Situation}
 use Rattle.flight_phases.specs.declared.state.PhaseState.{PhaseState}

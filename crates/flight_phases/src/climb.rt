@@ -40,7 +40,7 @@ impl Climb {
         } else if !inputs.low {
             self
         } else if inputs.tp {
-            Climb::Initial
+            Climb::first(inputs)
         } else {
             match self {
                 Climb::Initial => Climb::Initial,

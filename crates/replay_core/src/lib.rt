@@ -2,3 +2,5 @@
 #![tactic(auto)]
 
 mod block;
+mod titles;
+mod words;

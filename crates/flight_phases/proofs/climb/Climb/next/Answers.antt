@@ -1,7 +1,6 @@
 use Rattle.std.proofs.Common.{◌≡◌, suc, inl, inr, sym, ◌∙◌, ap}
-use Rattle.flight_phases.specs.declared.climb.Climb.TheVariants.{Initial, Above, Below}
-use Rattle.flight_phases.specs.Climbs.{climb_at}
-use Rattle.flight_phases.proofs.Climbing.{climb-high, climb-unmarked, climb-anew, climb-low, lowered}
+use Rattle.flight_phases.specs.declared.climb.Climb.TheVariants.{Below}
+use Rattle.flight_phases.proofs.Climbing.{climb-high, climb-unmarked, begins-go_around, climb-low, lowered}
 use Rattle.flight_phases.proofs.climb.Climb.next.Goals as goal
 
 pub returns-then-inputs : goal.returns-then-inputs
@@ -13,7 +12,8 @@ returns-then-not-inputs c = λ f k before is air inputs.
 
 pub returns-then-inputs-2 : goal.returns-then-inputs-2
 returns-then-inputs-2 c = λ f k before is air inputs.
-    sym (climb-anew f (suc k) air (sym inputs.high ∙ c.if-inputs.false) (sym inputs.low ∙ c.if-not-inputs.false) (sym inputs.tp ∙ c.if-inputs-2.true))
+    let begins = begins-go_around f (suc k) air (sym inputs.high ∙ c.if-inputs.false) (sym inputs.low ∙ c.if-not-inputs.false) (sym inputs.tp ∙ c.if-inputs-2.true) in
+    c.first.ensures f (suc k) begins inputs
 
 pub returns-in-Initial : goal.returns-in-Initial
 returns-in-Initial c = λ f k before is air inputs.

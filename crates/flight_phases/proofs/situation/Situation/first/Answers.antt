@@ -1,4 +1,4 @@
-use Rattle.std.proofs.Common.{◌≡◌, true, false, not, sym, ◌∙◌, ap, refl, IsTrue}
+use Rattle.std.proofs.Common.{not, sym, ◌∙◌, ap, refl, IsTrue}
 use Rattle.ecam_spec.specs.Past.{previous}
 use Rattle.ecam_spec.specs.Phase.{airborne}
 use Rattle.flight_phases.proofs.Trips.{trip-first}

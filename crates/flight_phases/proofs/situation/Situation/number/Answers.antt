@@ -1,5 +1,4 @@
-use Rattle.std.proofs.Common.{◌≡◌, true, false, sym, ◌∙◌, ap}
-use Rattle.flight_phases.specs.Situations.{StandsAs}
+use Rattle.std.proofs.Common.{sym, ◌∙◌, ap}
 use Rattle.flight_phases.proofs.Numbers.{phase-shutdown, phase-stand, phase-running, phase-climb, number_of}
 use Rattle.flight_phases.proofs.situation.Situation.number.Goals as goal
 

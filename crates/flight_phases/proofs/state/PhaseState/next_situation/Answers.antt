@@ -1,5 +1,4 @@
-use Rattle.std.proofs.Common.{◌≡◌, suc}
-use Rattle.flight_phases.specs.Situations.{StandsAs}
+use Rattle.std.proofs.Common.{◌≡◌}
 use Rattle.flight_phases.specs.State.{Stands}
 use Rattle.flight_phases.proofs.state.PhaseState.next_situation.Goals as goal
 

@@ -1,0 +1,5 @@
+pub mod Frames
+pub mod Nodes
+pub mod Members
+pub mod Atoms
+pub mod Arms
