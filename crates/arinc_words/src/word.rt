@@ -1,4 +1,4 @@
-ghost use Rattle.std.specs.Prelude.{◌≡◌, ◌≤◌, ◌<◌, ◌+◌, ◌^◌, pos, neg_ℤ, ◌≤ℤ◌, ◌*ℤ◌};
+ghost use Rattle.std.specs.Prelude.{◌≡◌, ◌≤◌, ◌<◌, ◌+◌, ◌-◌, ◌^◌, pos, neg_ℤ, ◌≤ℤ◌, ◌*ℤ◌, IfSome, IsTrue};
 ghost use Rattle.std.specs.Int.{int_div_euclid};
 
 use std::marker::Model;
@@ -95,7 +95,9 @@ impl Word {
         requires highest { low ≤ 28 }
         requires some { 1 ≤ range }
         requires at_most { range ≤ 1000000 }
-        ensures { result ≡ binary low range self.now }
+        ensures value { result ≡ binary low range self.now }
+        ensures least { IfSome result (λ v. neg_ℤ (pos range) ≤ℤ v) }
+        ensures greatest { IfSome result (λ v. v ≤ℤ pos range) }
     {
         if self.ssm() == 3 {
             Some(scaled(self.signed(low), range, 29 - low))
@@ -108,7 +110,9 @@ impl Word {
     /// 01 or 10, or a digit is above 9.
     #[tactic(auto, unfolding(ecam_spec::specs::Reading::decimal))]
     pub fn bcd(&self) -> Option<i64>
-        ensures { result ≡ decimal self.now }
+        ensures value { result ≡ decimal self.now }
+        ensures least { IfSome result (λ v. neg_ℤ (pos 79999) ≤ℤ v) }
+        ensures greatest { IfSome result (λ v. v ≤ℤ pos 79999) }
     {
         if !self.has_digits() {
             return None;
@@ -138,8 +142,8 @@ impl Word {
         requires lowest { 11 ≤ low }
         requires highest { low ≤ 28 }
         ensures value { result ≡ raw low self.now }
-        ensures least { neg_ℤ (pos (2 ^ 18)) ≤ℤ result }
-        ensures greatest { result ≤ℤ pos (2 ^ 18) }
+        ensures least { neg_ℤ (pos (2 ^ (29 - low))) ≤ℤ result }
+        ensures greatest { result ≤ℤ pos (2 ^ (29 - low)) }
     {
         let magnitude = i64::from(self.field(low, 29 - low));
         let sign = i64::from(self.field(29, 1) << (29 - low));
@@ -158,7 +162,8 @@ impl Word {
 
     // The number that the five decimal digits are.
     fn number(&self) -> u32
-        ensures { result ≡ decimal_number self.now }
+        ensures value { result ≡ decimal_number self.now }
+        ensures bound { IsTrue (has_digits self.now) → result ≤ 79999 }
     {
         self.field(27, 3) * 10000
             + self.field(23, 4) * 1000
@@ -170,11 +175,13 @@ impl Word {
 
 // A number of 2^`bits` steps to the range, rounded down.
 fn scaled(steps: i64, range: u32, bits: u8) -> i64
-    requires least { neg_ℤ (pos (2 ^ 18)) ≤ℤ steps }
-    requires greatest { steps ≤ℤ pos (2 ^ 18) }
+    requires least { neg_ℤ (pos (2 ^ bits)) ≤ℤ steps }
+    requires greatest { steps ≤ℤ pos (2 ^ bits) }
     requires range { range ≤ 1000000 }
     requires bits { bits ≤ 18 }
-    ensures { result ≡ int_div_euclid (steps *ℤ pos range) (pos (2 ^ bits)) }
+    ensures value { result ≡ int_div_euclid (steps *ℤ pos range) (pos (2 ^ bits)) }
+    ensures least { neg_ℤ (pos range) ≤ℤ result }
+    ensures greatest { result ≤ℤ pos range }
 {
     (steps * i64::from(range)).div_euclid(1 << bits)
 }
