@@ -1,0 +1,11 @@
+use Rattle.std.proofs.Common.{sym, ◌∙◌, rules, arith}
+use Rattle.std.proofs.lemmas.Grind.{common_steps}
+use Rattle.std.proofs.lemmas.List.Folds.{list_any_at}
+use Rattle.title_reader.proofs.Items.{any_text}
+use Rattle.title_reader.proofs.texts.is_one_of.Goals as goal
+
+pub returns-then-eq : goal.returns-then-eq
+returns-then-eq c = grind (arith, common_steps, any_text c.args.text.now c.args.known.now)
+
+pub returns : goal.returns
+returns c = grind (arith, common_steps, any_text c.args.text.now c.args.known.now)

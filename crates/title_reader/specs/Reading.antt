@@ -1,0 +1,23 @@
+-- How what a function of the reader returns stands to what a definition reads.
+use Rattle.std.specs.Prelude.{◌≡◌, ℕ, List, map, Option, Some, None, Result, Ok, Err}
+use Rattle.std.specs.Borrow.{Bor}
+use Rattle.arrayvec.specs.ArrayString.{ArrayString}
+use Rattle.ecam_spec.specs.declared.kinds.Section.TheVariants.{Top}
+use Rattle.ecam_spec.specs.declared.kinds.BookFault.{BookFault}
+use Rattle.ecam_spec.specs.Book.{Text}
+use Rattle.book_model.specs.declared.error.LoadError.{LoadError}
+use Rattle.book_model.specs.declared.error.LoadError.TheVariants.{Fault, Memory}
+
+-- the fault of a document that is no title book
+abbrev pub no_title_book : BookFault
+no_title_book = record { code = 0; section = Top; item = 0 }
+
+-- what a function returned, seen by `view`, is what is read, unless memory ran out
+abbrev pub Reads : {X Y : Type 0} → (X → Y) → Option Y → Result X LoadError → Type 0
+Reads view read (Ok x) = read ≡ Some (view x)
+Reads view read (Err (Fault f)) = (f ≡ no_title_book) × (read ≡ None)
+Reads view read (Err Memory) = Unit {0}
+
+-- the texts that strings are
+abbrev pub texts_of : List (Bor (List ℕ)) → List Text
+texts_of strings = map (λ s. s.now) strings

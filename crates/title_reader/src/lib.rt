@@ -1,0 +1,5 @@
+//! Reads the smallest kind of book, a title book: discretes and the amber titles that wait for them.
+#![tactic(auto)]
+
+mod fields;
+mod texts;
