@@ -78,9 +78,13 @@ alert_in systems parameters value = do
 abbrev pub parameter_names : List Parameter → List Text
 parameter_names parameters = map (λ p. p.name) parameters
 
+-- a system: a text of 1 to 16 bytes
+abbrev pub system_in : Data → Option Text
+system_in value = text_in 16 value
+
 -- 1 to 64 systems, each once
 unfoldable pub systems_in : Members → Option (List Text)
-systems_in table = list_at 64 (codes "systems") table >>= each (text_in 16) >>= passing are_distinct
+systems_in table = list_at 64 (codes "systems") table >>= each system_in >>= passing are_distinct
 
 -- 1 to 1024 parameters, each name once
 unfoldable pub parameters_in : Members → Option (List Parameter)

@@ -1,10 +1,15 @@
 -- How what a function of the reader returns stands to what a definition reads.
-use Rattle.std.specs.Prelude.{◌≡◌, ℕ, List, map, Option, Some, None, Result, Ok, Err}
+use Rattle.std.specs.Prelude.{◌≡◌, ℕ, List, map, Option, Some, None, Vec, Result, Ok, Err}
 use Rattle.std.specs.Borrow.{Bor}
+use Rattle.std.specs.declared.alloc.Global.{Global}
 use Rattle.arrayvec.specs.ArrayString.{ArrayString}
 use Rattle.ecam_spec.specs.declared.kinds.Section.TheVariants.{Top}
 use Rattle.ecam_spec.specs.declared.kinds.BookFault.{BookFault}
-use Rattle.ecam_spec.specs.Book.{Text}
+use Rattle.ecam_spec.specs.Book.{Text, Parameter}
+use Rattle.ecam_spec.specs.Draft.{DraftAlert}
+use Rattle.book_model.specs.View.{bytes_of, parameter_of, alert_of}
+use Rattle.book_model.specs.declared.draft.Alert.{Alert}
+use Rattle.book_model.specs.declared.draft.Param.{Param}
 use Rattle.book_model.specs.declared.error.LoadError.{LoadError}
 use Rattle.book_model.specs.declared.error.LoadError.TheVariants.{Fault, Memory}
 
@@ -21,3 +26,16 @@ Reads view read (Err Memory) = Unit {0}
 -- the texts that strings are
 abbrev pub texts_of : List (Bor (List ℕ)) → List Text
 texts_of strings = map (λ s. s.now) strings
+
+abbrev pub param_name : Param → Text
+param_name p = p.name.bytes
+
+-- what lists of the program are
+abbrev pub texts_in : Vec ArrayString Global → List Text
+texts_in texts = map bytes_of texts.items
+
+abbrev pub params_in : Vec Param Global → List Parameter
+params_in params = map parameter_of params.items
+
+abbrev pub drafts_in : Vec Alert Global → List DraftAlert
+drafts_in alerts = map alert_of alerts.items

@@ -2,4 +2,8 @@
 #![tactic(auto)]
 
 mod fields;
+mod names;
+mod records;
+mod refusal;
+mod sections;
 mod texts;
