@@ -1,5 +1,5 @@
 -- How what a function of the reader returns stands to what a definition reads.
-use Rattle.std.specs.Prelude.{◌≡◌, ℕ, List, map, Option, Some, None, Vec, Result, Ok, Err}
+use Rattle.std.specs.Prelude.{◌≡◌, Bool, ◌&&◌, is_some, codes, ℕ, List, map, Option, Some, None, Vec, Result, Ok, Err}
 use Rattle.std.specs.Borrow.{Bor}
 use Rattle.std.specs.declared.alloc.Global.{Global}
 use Rattle.arrayvec.specs.ArrayString.{ArrayString}
@@ -7,6 +7,9 @@ use Rattle.ecam_spec.specs.declared.kinds.Section.TheVariants.{Top}
 use Rattle.ecam_spec.specs.declared.kinds.BookFault.{BookFault}
 use Rattle.ecam_spec.specs.Book.{Text, Parameter}
 use Rattle.ecam_spec.specs.Draft.{DraftAlert}
+use Rattle.toml.specs.Data.{Members}
+use Rattle.book_spec.specs.Fields.{has_only, number_at}
+use Rattle.book_spec.specs.TitleDocument.{top_keys}
 use Rattle.book_model.specs.View.{bytes_of, parameter_of, alert_of}
 use Rattle.book_model.specs.declared.draft.Alert.{Alert}
 use Rattle.book_model.specs.declared.draft.Param.{Param}
@@ -39,3 +42,7 @@ params_in params = map parameter_of params.items
 
 abbrev pub drafts_in : Vec Alert Global → List DraftAlert
 drafts_in alerts = map alert_of alerts.items
+
+-- the top has no key but its four, and the version is 1
+abbrev pub has_form : Members → Bool
+has_form table = has_only top_keys table && is_some (number_at 1 1 (codes "version") table)

@@ -1,5 +1,5 @@
 // What stands in a table of a document.
-ghost use Rattle.std.specs.Prelude.{◌≡◌, ◌≤◌, option_map, option_copied, IfSome};
+ghost use Rattle.std.specs.Prelude.{◌≡◌, ◌≤◌, length, option_map, option_copied, IfSome};
 ghost use Rattle.toml.specs.Data.{get_member};
 ghost use Rattle.toml.specs.View.{view, table_view, items_view};
 ghost use Rattle.book_model.specs.View.{bytes_of};
@@ -105,7 +105,8 @@ pub(crate) fn label_at(table: &Table, key: &str) -> Option<u8>
 
 #[tactic(auto, using(crate::proofs::Items::count_view))]
 fn at_most(items: &[Value], most: usize) -> Option<&[Value]>
-    ensures { option_map (λ s. items_view s.now) result ≡ spec.passing (λ s. is_between 1 most (spec.count s)) (items_view items.now) }
+    ensures value { option_map (λ s. items_view s.now) result ≡ spec.passing (λ s. is_between 1 most (spec.count s)) (items_view items.now) }
+    ensures within { IfSome result (λ s. length s.now ≤ most) }
 {
     if 1 <= items.len() && items.len() <= most { Some(items) } else { None }
 }
@@ -113,7 +114,8 @@ fn at_most(items: &[Value], most: usize) -> Option<&[Value]>
 /// The list of 1 to `most` items at a key.
 #[tactic(auto, unfolding(book_spec::specs::Fields::list_at))]
 pub(crate) fn list_at<'a>(table: &'a Table, most: usize, key: &str) -> Option<&'a [Value]>
-    ensures { option_map (λ s. items_view s.now) result ≡ spec.list_at most key.now (table_view table.now) }
+    ensures value { option_map (λ s. items_view s.now) result ≡ spec.list_at most key.now (table_view table.now) }
+    ensures within { IfSome result (λ s. length s.now ≤ most) }
 {
     at_most(find(table, key)?.as_array()?.as_slice(), most)
 }
