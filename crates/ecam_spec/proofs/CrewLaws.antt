@@ -14,7 +14,7 @@ use Rattle.ecam_spec.proofs.PastSteps.{since-suc, since-below}
 use Rattle.ecam_spec.proofs.PastLaws.{since-kept, since-none, since-broken, and-left, and-right, and-false, or-true}
 
 -- the target is asked of the moment before alone
-target-below : (s t : Shown) (k : ℕ) → ((j : ℕ) → j < k → s j ≡ t j) → target s k ≡ target t k
+pub target-below : (s t : Shown) (k : ℕ) → ((j : ℕ) → j < k → s j ≡ t j) → target s k ≡ target t k
 unfolding target
 target-below s t zero same = refl
 target-below s t (suc k) same = ap first_in (same k (omega arith))

@@ -9,6 +9,10 @@ pub mod CrewLaws
 pub mod HistoryLaws
 pub mod KeyLaws
 pub mod ReplayLaws
+pub mod ComputerNames
+pub mod SituationAgree
+pub mod CrewAgree
+pub mod ScreenAgree
 pub mod PhaseLaws
 pub mod PastWithin
 pub mod PastAgree

@@ -34,7 +34,10 @@ pub mod Standing
 pub mod Situation
 pub mod Screen
 pub mod Replay
+pub mod Computers
+pub mod Stage
 pub mod Command
+pub mod Complaint
 pub mod Titles
 pub mod Opened
 pub mod BookText

@@ -26,7 +26,7 @@ module _ (olds news : List code.Row) (i : ℕ) where
   pub lines_more : (o n : code.Row) → i < length row_names → i < length olds → i < length news
       → changed_lines (drop i row_names) (rows_of (drop i olds)) (rows_of (drop i news))
       ≡ (if same_row (row_of (get_or olds i o)) (row_of (get_or news i n)) then [] else row_line (get_or row_names i []) (row_of (get_or news i n)))
-        ++ changed_lines (drop (i + 1) row_names) (rows_of (drop (i + 1) olds)) (rows_of (drop (i + 1) news))
+      ++ changed_lines (drop (i + 1) row_names) (rows_of (drop (i + 1) olds)) (rows_of (drop (i + 1) news))
   unfolding changed_lines
   lines_more o n h k l = rw (add-one, drop-cons row_names i [] h, drop-cons olds i o k, drop-cons news i n l) refl
 
@@ -52,7 +52,7 @@ pub lines_step : (olds news : List code.Row) (i : ℕ) (o n : code.Row) (name be
 lines_step olds news i o n name before after whole h k l is_o is_n is_name is_after so_far =
     let more = lines_more olds news i o n h k l in
     let regrouped = append_assoc before (if same_row (row_of o) (row_of n) then [] else row_line name (row_of n))
-        (changed_lines (drop (i + 1) row_names) (rows_of (drop (i + 1) olds)) (rows_of (drop (i + 1) news))) in
+    (changed_lines (drop (i + 1) row_names) (rows_of (drop (i + 1) olds)) (rows_of (drop (i + 1) news))) in
     cc
 
 -- a Tick whose picture is that of the Tick before writes nothing

@@ -2,3 +2,4 @@ mod Blocks
 mod Limits
 mod Forms
 mod TitleRows
+mod Files

@@ -23,7 +23,7 @@ pub limit-letter : (w d : Text) → d ≡ w → (i : ℕ) → i < length d → l
 unfolding limit_of
 limit-letter w d e i within many letter =
     subst (λ w. limit_of w ≡ None) e
-        (rw (le-leb 1 (length d) (omega arith), le-leb (length d) 10 many, list_all_at is_ascii_digit d i 0 within letter) refl)
+    (rw (le-leb 1 (length d) (omega arith), le-leb (length d) 10 many, list_all_at is_ascii_digit d i 0 within letter) refl)
 
 -- a word of digits, gone through to its end
 pub limit-digits : {E : Type 0} → (w d : Text) → d ≡ w → (i n : ℕ) → 1 ≤ length d → length d ≤ 10 → length d ≤ i
@@ -31,14 +31,16 @@ pub limit-digits : {E : Type 0} → (w d : Text) → d ≡ w → (i n : ℕ) →
 unfolding limit_of
 limit-digits {E = E} w d e i n few many end digits value r fits =
     subst (λ w. result_ok r ≡ limit_of w) e
-        (within r fits ∙ sym (rw (le-leb 1 (length d) few, le-leb (length d) 10 many, sym whole_digits) refl)) where
-  whole_digits : true ≡ list_all is_ascii_digit d
-  whole_digits = sym (ap (list_all is_ascii_digit) (sym (take_all i d end)) ∙ digits)
-  whole_value : n ≡ spelled d
-  whole_value = value ∙ ap spelled (take_all i d end)
-  within : (r : Result ℕ E) → OkIff r (n < 4294967296) n → result_ok r ≡ cond (nat_le (spelled d) no_limit) (Some (spelled d)) None
-  within (Ok x) fits = ap Some (fits.1 ∙ whole_value) ∙ sym (ap (λ b. cond b (Some (spelled d)) None) (le-leb (spelled d) no_limit (omega (arith, fits.0, whole_value))))
-  within (Err e) large = sym (ap (λ b. cond b (Some (spelled d)) None) (lt-leb (spelled d) no_limit (omega (arith, large, whole_value))))
+    (within r fits ∙ sym (rw (le-leb 1 (length d) few, le-leb (length d) 10 many, sym whole_digits) refl)) where
+      whole_digits : true ≡ list_all is_ascii_digit d
+      whole_digits = sym (ap (list_all is_ascii_digit) (sym (take_all i d end)) ∙ digits)
+
+      whole_value : n ≡ spelled d
+      whole_value = value ∙ ap spelled (take_all i d end)
+
+      within : (r : Result ℕ E) → OkIff r (n < 4294967296) n → result_ok r ≡ cond (nat_le (spelled d) no_limit) (Some (spelled d)) None
+      within (Ok x) fits = ap Some (fits.1 ∙ whole_value) ∙ sym (ap (λ b. cond b (Some (spelled d)) None) (le-leb (spelled d) no_limit (omega (arith, fits.0, whole_value))))
+      within (Err e) large = sym (ap (λ b. cond b (Some (spelled d)) None) (lt-leb (spelled d) no_limit (omega (arith, large, whole_value))))
 
 -- a text that isn't empty has a byte
 pub some-byte : (d : Text) → (length d == 0) ≡ false → 1 ≤ length d

@@ -69,15 +69,15 @@ module _ (titles : List Text) (shown : List Bool) (n : ℕ) where
   unfolding below
   title_rows-on on =
       ap (map (λ a. row Amber (get_or titles a [])))
-          (filter-append (λ a. get_or shown a false) (below n) (n ∷ []) ∙ ap (λ b. filter (λ a. get_or shown a false) (below n) ++ cond b (n ∷ []) []) on)
+      (filter-append (λ a. get_or shown a false) (below n) (n ∷ []) ∙ ap (λ b. filter (λ a. get_or shown a false) (below n) ++ cond b (n ∷ []) []) on)
       ∙ map-append (λ a. row Amber (get_or titles a [])) (filter (λ a. get_or shown a false) (below n)) (n ∷ [])
 
   pub title_rows-off : get_or shown n false ≡ false → title_rows titles shown (suc n) ≡ title_rows titles shown n
   unfolding below
   title_rows-off off =
       ap (map (λ a. row Amber (get_or titles a [])))
-          (filter-append (λ a. get_or shown a false) (below n) (n ∷ []) ∙ ap (λ b. filter (λ a. get_or shown a false) (below n) ++ cond b (n ∷ []) []) off
-          ∙ append-nil (filter (λ a. get_or shown a false) (below n)))
+      (filter-append (λ a. get_or shown a false) (below n) (n ∷ []) ∙ ap (λ b. filter (λ a. get_or shown a false) (below n) ++ cond b (n ∷ []) []) off
+      ∙ append-nil (filter (λ a. get_or shown a false) (below n)))
 
 -- a title in the rows of a picture
 pub put-title : (rows : List Row) (r : Row) (rest : List Row) (count : ℕ) → count ≡ length rows
@@ -102,10 +102,10 @@ title-step titles shown i rest old new count later true t is_shown is_title is_o
     let r : Row = row Amber (get_or titles i []) in
     let more : title_rows titles shown (i + 1) ≡ before ++ r ∷ [] = ap (title_rows titles shown) (add-one i) ∙ title_rows-on titles shown i (sym is_shown) in (
       is_new
-        ∙ ap (λ t. if nat_lt count 7 then set old count (row Amber t) else old) is_title
-        ∙ ap (λ o. if nat_lt count 7 then set o count r else o) is_old
-        ∙ put-title before r rest count is_count
-        ∙ ap (λ rows. zone 7 rows ++ rest) (sym more),
+          ∙ ap (λ t. if nat_lt count 7 then set old count (row Amber t) else old) is_title
+          ∙ ap (λ o. if nat_lt count 7 then set o count r else o) is_old
+          ∙ put-title before r rest count is_count
+          ∙ ap (λ rows. zone 7 rows ++ rest) (sym more),
       omega (arith, is_later, is_count, ap length more, length-append before (r ∷ [])),
     )
 title-step titles shown i rest old new count later false t is_shown is_title is_old is_count is_new is_later =

@@ -1,2 +1,5 @@
 pub mod Words
 pub mod TitleList
+pub mod Outcomes
+pub mod Standing
+pub mod Stub

@@ -16,9 +16,9 @@ pub(crate) type Block = ArrayVec<u8, BLOCK>;
 
 // The names of the rows, in the picture's order.
 const NAMES: [&str; ROWS] = [
-    "L1", "L2", "L3", "L4", "L5", "L6", "L7", "R1", "R2", "R3", "R4", "R5", "R6", "R7", "FL", "S01",
-    "S02", "S03", "S04", "S05", "S06", "S07", "S08", "S09", "S10", "S11", "S12", "S13", "S14",
-    "S15", "S16", "S17", "S18", "MW", "MC", "AU",
+    "L1", "L2", "L3", "L4", "L5", "L6", "L7", "R1", "R2", "R3", "R4", "R5", "R6", "R7", "FL",
+    "S01", "S02", "S03", "S04", "S05", "S06", "S07", "S08", "S09", "S10", "S11", "S12", "S13",
+    "S14", "S15", "S16", "S17", "S18", "MW", "MC", "AU",
 ];
 
 fn letter_of(colour: Colour) -> &'static str

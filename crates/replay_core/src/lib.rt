@@ -2,5 +2,11 @@
 #![tactic(auto)]
 
 mod block;
+mod file;
+mod outcome;
+mod replay;
+mod stub;
 mod titles;
 mod words;
+
+pub use outcome::Status;

@@ -17,6 +17,7 @@ use itoa::Buffer;
 
 // How many rows the left zone has, and where the flags stand.
 const LEFT: usize = 7;
+
 const FLAGS: usize = 14;
 
 // The flags of so many titles: `v`, and how many stand beyond the seventh row.

@@ -15,5 +15,5 @@ returns c =
     map-set row_of c.put_titles-count.new.rows 14 c.title_flags.result
     ∙ ap (λ r. set (rows_of c.put_titles-count.new.rows) 14 r) c.title_flags.ensures
     ∙ drawn c.args.book.now c.args.shown.now c.put_titles-count.result (rows_of c.put_titles-count.new.rows)
-        (subst (λ alerts. c.put_titles-count.result ≡ length (title_rows (titles_of alerts) c.args.shown.now (length alerts))) c.alerts.ensures.value c.put_titles-count.ensures.count)
-        (subst (λ alerts. rows_of c.put_titles-count.new.rows ≡ zone 7 (title_rows (titles_of alerts) c.args.shown.now (length alerts)) ++ replicate 29 blank_row) c.alerts.ensures.value c.put_titles-count.ensures.rows)
+    (subst (λ alerts. c.put_titles-count.result ≡ length (title_rows (titles_of alerts) c.args.shown.now (length alerts))) c.alerts.ensures.value c.put_titles-count.ensures.count)
+    (subst (λ alerts. rows_of c.put_titles-count.new.rows ≡ zone 7 (title_rows (titles_of alerts) c.args.shown.now (length alerts)) ++ replicate 29 blank_row) c.alerts.ensures.value c.put_titles-count.ensures.rows)

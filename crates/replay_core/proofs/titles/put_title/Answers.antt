@@ -9,5 +9,5 @@ use Rattle.replay_core.proofs.titles.put_title.Goals as goal
 pub returns-then-count-lt-LEFT : goal.returns-then-count-lt-LEFT
 returns-then-count-lt-LEFT c =
     rw (lt-ltb c.args.count 7 c.if-count-lt-LEFT.true)
-        (map-set row_of c.args.rows.now c.args.count c.new.result
-        ∙ ap (λ r. set (rows_of c.args.rows.now) c.args.count r) (c.new.ensures ∙ ap (λ t. row Amber t) c.as_bytes.ensures.value))
+    (map-set row_of c.args.rows.now c.args.count c.new.result
+    ∙ ap (λ r. set (rows_of c.args.rows.now) c.args.count r) (c.new.ensures ∙ ap (λ t. row Amber t) c.as_bytes.ensures.value))

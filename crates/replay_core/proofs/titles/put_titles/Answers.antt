@@ -16,7 +16,7 @@ loop-i-preserved c =
     let shown = get_or c.args.shown.now c.loop-i.i false in
     let put = c.put_shown-count.ensures in
     let step = title-step (titles_of c.args.alerts.now) c.args.shown.now c.loop-i.i (replicate 29 blank_row) (rows_of c.loop-i.rows) (rows_of c.put_shown-count.new.rows)
-        c.loop-i.count c.put_shown-count.result shown c.as_str.result.now refl
-        (c.as_str.ensures.value ∙ sym (get_or-map (λ a. a.title.bytes) c.args.alerts.now c.loop-i.i c.index-alerts-i.result _ c.loop-i-test.true))
-        c.loop-i.invariant.rows c.loop-i.invariant.count put.rows put.count in
+    c.loop-i.count c.put_shown-count.result shown c.as_str.result.now refl
+    (c.as_str.ensures.value ∙ sym (get_or-map (λ a. a.title.bytes) c.args.alerts.now c.loop-i.i c.index-alerts-i.result _ c.loop-i-test.true))
+    c.loop-i.invariant.rows c.loop-i.invariant.count put.rows put.count in
     record { rows = step.0; count = step.1; many = count-step shown c.loop-i.count c.put_shown-count.result c.loop-i.i put.count c.loop-i.invariant.many }

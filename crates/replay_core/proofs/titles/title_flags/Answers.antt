@@ -12,6 +12,6 @@ pub returns : goal.returns
 returns c =
     c.new.ensures
     ∙ ap (λ t. row White t)
-        (c.as_slice.ensures.value ∙ c.put-2.ensures ∙ ap (λ front. front ++ c.as_bytes.result.now) (c.put.ensures ∙ ap (λ front. front ++ codes "v OVF ") c.new-text.ensures)
-        ∙ ap (λ digits. codes "v OVF " ++ digits) (c.as_bytes.ensures.value ∙ c.format.ensures.text))
+    (c.as_slice.ensures.value ∙ c.put-2.ensures ∙ ap (λ front. front ++ c.as_bytes.result.now) (c.put.ensures ∙ ap (λ front. front ++ codes "v OVF ") c.new-text.ensures)
+    ∙ ap (λ digits. codes "v OVF " ++ digits) (c.as_bytes.ensures.value ∙ c.format.ensures.text))
     ∙ sym (flags-many c.args.count c.if-count-le-LEFT.false)

@@ -14,8 +14,8 @@ returns-then-count-eq2 c =
 pub returns-then-count-eq3 : goal.returns-then-count-eq3
 returns-then-count-eq3 c =
     let by_count = three_words (string_bytes {Z = Global}) c.args.words.now
-        c.index-words-0-then-count-eq3.result c.index-words-1-then-count-eq3.result c.index-words-2.result
-        (omega arith) c.index-words-0-then-count-eq3.is c.index-words-1-then-count-eq3.is c.index-words-2.is in
+    c.index-words-0-then-count-eq3.result c.index-words-1-then-count-eq3.result c.index-words-2.result
+    (omega arith) c.index-words-0-then-count-eq3.is c.index-words-1-then-count-eq3.is c.index-words-2.is in
     let form = c.as_str-then-count-eq3.ensures.value in
     let book = c.as_str-then-count-eq3-2.ensures.value in
     let record' = c.as_str-then-count-eq3-3.ensures.value in
@@ -25,9 +25,9 @@ returns-then-count-eq3 c =
 pub returns-then-count-eq5 : goal.returns-then-count-eq5
 returns-then-count-eq5 c =
     let by_count = five_words (string_bytes {Z = Global}) c.args.words.now
-        c.index-words-0-then-count-eq5.result c.index-words-1-then-count-eq5.result c.index-words-2-then-count-eq5.result
-        c.index-words-3.result c.index-words-4.result (omega arith)
-        c.index-words-0-then-count-eq5.is c.index-words-1-then-count-eq5.is c.index-words-2-then-count-eq5.is c.index-words-3.is c.index-words-4.is in
+    c.index-words-0-then-count-eq5.result c.index-words-1-then-count-eq5.result c.index-words-2-then-count-eq5.result
+    c.index-words-3.result c.index-words-4.result (omega arith)
+    c.index-words-0-then-count-eq5.is c.index-words-1-then-count-eq5.is c.index-words-2-then-count-eq5.is c.index-words-3.is c.index-words-4.is in
     let option = c.as_str-then-count-eq5.ensures.value in
     let limit = c.as_str-then-count-eq5-2.ensures.value in
     let form = c.as_str-then-count-eq5-3.ensures.value in

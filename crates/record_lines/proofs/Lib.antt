@@ -1,0 +1,11 @@
+-- Lemmas on texts and on readers.
+pub mod Prefix
+pub mod Steps
+pub mod Sound
+pub mod Grows
+pub mod Ends
+pub mod Numbers
+pub mod Bits
+pub mod Forms
+pub mod Pieces
+pub mod Readers

@@ -1,0 +1,117 @@
+-- What the record's definitions say of a place does not hang on the bytes from that place on.
+use Rattle.std.proofs.Common.{◌≡◌, ℕ, zero, suc, ◌+◌, ◌<◌, ◌≤◌, Bool, true, false, not, ◌&&◌, ◌||◌, ◌==◌, List, [], ◌∷◌, ◌++◌, length, get_or, take, drop, Option, Some, None, cond, refl, sym, ◌∙◌, ap, arith, add-zero}
+use Rattle.std.proofs.Math.ListN.{get_or-append}
+use Rattle.std.proofs.lemmas.List.{take-append-le}
+use Rattle.std.proofs.lemmas.List.Elements.{filter-append, filter_map-append}
+use Rattle.std.specs.Option.{option_or}
+use Rattle.std.specs.List.{filter, filter_map}
+use Rattle.std.specs.Prelude.{option_to_list}
+use Rattle.ecam_spec.specs.declared.kinds.Event.{Event}
+use Rattle.ecam_spec.specs.Past.{Signal, once, previous, last, next, count_up_to}
+use Rattle.ecam_spec.specs.Places.{below, first_place}
+use Rattle.ecam_spec.specs.RecordLine.{event_of, is_end, is_end_event}
+use Rattle.ecam_spec.specs.Record.{is_feed, line_begin, line_before, line_number, ends_record, wrong_at, is_wrong}
+use Rattle.ecam_spec.proofs.PastSteps.{last-suc, once-below}
+
+-- ---- signals that agree
+
+pub last-zero : (p : Signal) → last p 0 ≡ cond {A = Option ℕ} (p 0) (Some 0) None
+unfolding last
+last-zero p = elim (p 0) as (λ b. ◌≡◌ {A = Option ℕ} (elim b [ true ↦ Some 0 | false ↦ None ]) (cond b (Some 0) None)) [ true ↦ refl | false ↦ refl ]
+
+pub last-below : (p q : Signal) (k : ℕ) → ((i : ℕ) → i ≤ k → p i ≡ q i) → last p k ≡ last q k
+last-below p q zero same =
+    let now : p 0 ≡ q 0 = same 0 (omega arith) in
+    cc (last-zero p, last-zero q)
+last-below p q (suc k) same =
+    let earlier : last p k ≡ last q k = last-below p q k (λ i h. same i (omega arith)) in
+    let now : p (suc k) ≡ q (suc k) = same (suc k) (omega arith) in
+    cc (last-suc p k, last-suc q k)
+
+pub count-zero : (p : Signal) → count_up_to p 0 ≡ cond {A = ℕ} (p 0) 1 0
+unfolding count_up_to
+count-zero p = elim (p 0) as (λ b. ◌≡◌ {A = ℕ} (elim b [ true ↦ 1 | false ↦ 0 ]) (cond b 1 0)) [ true ↦ refl | false ↦ refl ]
+
+pub count-suc : (p : Signal) (k : ℕ) → count_up_to p (suc k) ≡ cond (p (suc k)) (count_up_to p k + 1) (count_up_to p k)
+unfolding count_up_to
+count-suc p k = elim (p (suc k)) as (λ b. elim b [ true ↦ count_up_to p k + 1 | false ↦ count_up_to p k ] ≡ cond b (count_up_to p k + 1) (count_up_to p k)) [ true ↦ refl | false ↦ refl ]
+
+pub count-below : (p q : Signal) (k : ℕ) → ((i : ℕ) → i ≤ k → p i ≡ q i) → count_up_to p k ≡ count_up_to q k
+count-below p q zero same =
+    let now : p 0 ≡ q 0 = same 0 (omega arith) in
+    cc (count-zero p, count-zero q)
+count-below p q (suc k) same =
+    let earlier : count_up_to p k ≡ count_up_to q k = count-below p q k (λ i h. same i (omega arith)) in
+    let now : p (suc k) ≡ q (suc k) = same (suc k) (omega arith) in
+    cc (count-suc p k, count-suc q k)
+
+pub first_place-suc : (p : ℕ → Bool) (n : ℕ) → first_place p (suc n) ≡ option_or (first_place p n) (cond (p n) (Some n) None)
+unfolding first_place
+first_place-suc p n = elim (p n) as (λ b. option_or (first_place p n) (elim b [ true ↦ Some n | false ↦ None ]) ≡ option_or (first_place p n) (cond b (Some n) None)) [ true ↦ refl | false ↦ refl ]
+
+pub first_place-zero : (p : ℕ → Bool) → first_place p 0 ≡ None
+unfolding first_place
+first_place-zero p = refl
+
+pub first_place-below : (p q : ℕ → Bool) (n : ℕ) → ((i : ℕ) → i < n → p i ≡ q i) → first_place p n ≡ first_place q n
+first_place-below p q zero same = first_place-zero p ∙ sym (first_place-zero q)
+first_place-below p q (suc n) same =
+    let earlier : first_place p n ≡ first_place q n = first_place-below p q n (λ i h. same i (omega arith)) in
+    let now : p n ≡ q n = same n (omega arith) in
+    cc (first_place-suc p n, first_place-suc q n)
+
+-- the first place that passes stays the first, however many follow
+pub first_place-stays : (p : ℕ → Bool) (n m : ℕ) → first_place p n ≡ None → p n ≡ true → first_place p (suc n + m) ≡ Some n
+first_place-stays p n zero none here =
+    let top : first_place p (suc n) ≡ Some n = first_place-suc p n ∙ ap (λ o. option_or o (cond (p n) (Some n) None)) none ∙ ap (λ b. cond b (Some n) None) here in
+    rw add-zero top
+first_place-stays p n (suc m) none here =
+    let earlier : first_place p (suc n + m) ≡ Some n = first_place-stays p n m none here in
+    let shift : suc n + suc m ≡ suc (suc n + m) = omega arith in
+    ap (first_place p) shift ∙ first_place-suc p (suc n + m) ∙ ap (λ o. option_or o (cond (p (suc n + m)) (Some (suc n + m)) None)) earlier
+
+-- ---- a text and what follows it
+
+module _ (text more : List ℕ) where
+  pub is_feed-prefix : (i : ℕ) → i < length text → is_feed (text ++ more) i ≡ is_feed text i
+  unfolding is_feed
+  is_feed-prefix i within = ap (λ b. b == 10) (get_or-append text more 0 i within)
+
+  pub line_begin-prefix : (i : ℕ) → i ≤ length text → line_begin (text ++ more) i ≡ line_begin text i
+  unfolding line_begin
+  line_begin-prefix zero within = refl
+  line_begin-prefix (suc i) within =
+      ap next (last-below (is_feed (text ++ more)) (is_feed text) i (λ j h. is_feed-prefix j (omega arith)))
+
+  pub line_before-prefix : (i : ℕ) → i ≤ length text → line_before (text ++ more) i ≡ line_before text i
+  unfolding line_before
+  line_before-prefix i within =
+      ap (λ b. drop b (take i (text ++ more))) (line_begin-prefix i within)
+      ∙ ap (drop (line_begin text i)) (take-append-le i text more within)
+
+  pub line_number-prefix : (i : ℕ) → i ≤ length text → line_number (text ++ more) i ≡ line_number text i
+  unfolding line_number
+  line_number-prefix zero within = refl
+  line_number-prefix (suc i) within =
+      ap (λ n. 1 + n) (count-below (is_feed (text ++ more)) (is_feed text) i (λ j h. is_feed-prefix j (omega arith)))
+
+  pub ends_record-prefix : (i : ℕ) → i < length text → ends_record (text ++ more) i ≡ ends_record text i
+  unfolding ends_record
+  ends_record-prefix i within =
+      let feed = is_feed-prefix i within in
+      let line = line_before-prefix i (omega arith) in
+      ap (λ b. b && is_end (line_before (text ++ more) i)) feed ∙ ap (λ l. is_feed text i && is_end l) line
+
+  pub ended-prefix : (i : ℕ) → i ≤ length text → previous (once (ends_record (text ++ more))) i ≡ previous (once (ends_record text)) i
+  unfolding previous
+  ended-prefix zero within = refl
+  ended-prefix (suc i) within =
+      once-below (ends_record (text ++ more)) (ends_record text) i (λ j h. ends_record-prefix j (omega arith))
+
+  pub wrong_at-prefix : (limit i : ℕ) → i < length text → wrong_at (text ++ more) limit i ≡ wrong_at text limit i
+  unfolding wrong_at
+  wrong_at-prefix limit i within =
+      let feed = is_feed-prefix i within in
+      let line = line_before-prefix i (omega arith) in
+      let ended = ended-prefix i (omega arith) in
+      rw (feed, line, ended) refl

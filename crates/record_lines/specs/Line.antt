@@ -1,0 +1,28 @@
+-- The parts of a line's words.
+use Rattle.std.specs.Prelude.{ℕ, ◌+◌, ◌-◌, ◌==◌, ◌&&◌, nat_le, List, [], ◌∷◌, take, find, map, Option, None, Some, option_map, decimal, if◌then◌else◌}
+use Rattle.ecam_spec.specs.declared.kinds.Key.{Key}
+use Rattle.ecam_spec.specs.Places.{below}
+use Rattle.ecam_spec.specs.Picture.{same_text}
+use Rattle.ecam_spec.specs.RecordLine.{key_words}
+
+-- what a decimal digit is worth
+abbrev pub digit_value : ℕ → Option ℕ
+digit_value c = if nat_le 48 c && nat_le c 57 then Some (c - 48) else None
+
+-- a number 0 to 19 in decimal without leading zeros
+abbrev pub number_of : List ℕ → Option ℕ
+number_of (d ∷ []) = digit_value d
+number_of (t ∷ d ∷ []) = if t == 49 then option_map (λ n. n + 10) (digit_value d) else None
+number_of _ = None
+
+-- such a number where it is in this range
+abbrev pub kept_within : ℕ → ℕ → Option ℕ → Option ℕ
+kept_within low high (Some n) = if nat_le low n && nat_le n high then Some n else None
+kept_within low high None = None
+
+abbrev pub number_within : ℕ → ℕ → List ℕ → Option ℕ
+number_within low high word = kept_within low high (number_of word)
+
+-- a key that isn't a page's: one of the first eight
+unfoldable pub named_key_of : List ℕ → Option Key
+named_key_of word = option_map (λ k. k.1) (find (λ k. same_text word k.0) (take 8 key_words))

@@ -1,0 +1,72 @@
+-- What callers see of a reader.
+use Rattle.std.specs.Prelude.{if◌then◌else◌, ◌==◌, ◌&&◌, not, ◌≡◌, ℕ, ◌+◌, ◌-◌, ◌*◌, ◌≤◌, Bool, nat_lt, List, [], ◌++◌, length, take, drop, Option, None, Some, Result, Ok, Err}
+use Rattle.ecam_spec.specs.declared.kinds.Event.{Event}
+use Rattle.ecam_spec.specs.declared.kinds.Event.TheVariants.{End}
+use Rattle.ecam_spec.specs.declared.kinds.FaultKind.{FaultKind}
+use Rattle.ecam_spec.specs.declared.kinds.RecordFault.{RecordFault}
+use Rattle.ecam_spec.specs.RecordLine.{is_end_event}
+use Rattle.record_lines.specs.declared.outcome.Stage.{Stage}
+use Rattle.record_lines.specs.declared.outcome.Stage.TheVariants.{Lines, Closing, Ended, Faulty}
+use Rattle.record_lines.specs.declared.outcome.LineError.{LineError}
+use Rattle.record_lines.specs.declared.outcome.LineError.TheVariants.{Failed, Record}
+
+-- The bytes of the last piece within the limit that it hasn't gone through; the bytes of their line before them, and
+-- its number, from 1; how many bytes the limit still allows, and whether bytes beyond it came; and where it is.
+pub record ReaderState : Type 0 where
+  pub pending : List ℕ
+  pub line : List ℕ
+  pub number : ℕ
+  pub allowance : ℕ
+  pub over : Bool
+  pub stage : Stage
+
+-- how many bytes of the limit are left for the line that has begun and those after it
+abbrev pub room : ReaderState → ℕ
+room r = length r.line + length r.pending + r.allowance
+
+-- what a reader answers without reading, once it met the record's end or its fault
+abbrev pub settled_at : Stage → Option (Result Event LineError)
+settled_at Lines = None
+settled_at Closing = None
+settled_at Ended = Some (Ok End)
+settled_at (Faulty f) = Some (Err (Record f))
+
+abbrev pub settled : ReaderState → Option (Result Event LineError)
+settled r = settled_at r.stage
+
+-- the end of the record and its fault are answered again, and nothing else is
+abbrev pub kept_answer : Result Event LineError → Option (Result Event LineError)
+kept_answer (Ok e) = if is_end_event e then Some (Ok e) else None
+kept_answer (Err Failed) = None
+kept_answer (Err (Record f)) = Some (Err (Record f))
+
+-- how many bytes an answer costs at least
+abbrev pub cost : Result Event LineError → ℕ
+cost (Ok e) = if is_end_event e then 0 else 2
+cost (Err e) = 0
+
+-- what an error says of a fault of this kind in a reader's line
+abbrev pub fault_in : FaultKind → ReaderState → RecordFault
+fault_in kind r = record { kind = kind; line = r.number }
+
+-- ---- what the steps inside a reader leave
+
+-- the first bytes that are left go to the line
+abbrev pub carried : ReaderState → ReaderState
+carried r = record r { line = r.line ++ r.pending; pending = [] }
+
+-- the line whose line feed stands at this place was read
+abbrev pub past_line : ℕ → ReaderState → ReaderState
+past_line at r = record r { line = []; pending = drop (at + 1) r.pending; number = r.number + 1 }
+
+-- a piece was read
+abbrev pub filled : List ℕ → ReaderState → ReaderState
+filled bytes r = record r {
+  pending = take r.allowance bytes;
+  allowance = r.allowance - length bytes;
+  over = nat_lt r.allowance (length bytes);
+}
+
+-- a number that falls with each piece that is read
+abbrev pub wait : ReaderState → ℕ
+wait r = 2 * (length r.pending + r.allowance) + (if length r.pending == 0 && not r.over then 1 else 0)

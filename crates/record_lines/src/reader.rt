@@ -1,0 +1,304 @@
+// The reader of a record's lines.
+ghost use Rattle.std.specs.Prelude.{◌≡◌, ◌≢◌, ℕ, ◌+◌, ◌*◌, ◌<◌, ◌≤◌, ◌==◌, true, false, List, [], ◌++◌, take, length, position, IfOk, IfSome, IfNone, OnErr};
+ghost use Rattle.arrayvec.specs.ArrayVec.{array_vec_len};
+ghost use Rattle.ecam_io.specs.Outside.{Rose};
+ghost use Rattle.ecam_spec.specs.RecordLine.{event_of, is_end_event};
+ghost use Rattle.record_lines.specs.Reader.{room, settled, kept_answer, cost, fault_in, carried, filled, wait};
+ghost use Rattle.record_lines.specs.Reads.{Reads, Tells, Takes, MeetsEnd, Gives, IsFromBytes, Advances, IsSpent};
+ghost use Rattle.std.specs.Io.KnownBytes.{Consumes};
+
+use arrayvec::ArrayVec;
+use ecam_io::{Failed, Source};
+use ecam_spec::{Event, FaultKind, RecordFault};
+use std::marker::Model;
+
+use crate::line::{event_of, place_of};
+use crate::outcome::{LineError, Stage};
+use crate::piece::Piece;
+
+// How many bytes a line has at most, without its line feed.
+const LONGEST: usize = 32;
+
+/// Reads the lines of a record from a source, under a limit on the number of bytes. It holds a piece of 4096 bytes
+/// and a line of 32, reads only where nothing of the piece is left, and takes no memory. Each byte is gone through
+/// once for the line feed and once for its line's form; of a line that lies across pieces each byte is copied once.
+#[derive(Drop)]
+pub struct LineReader {
+    piece: Piece,
+    // The bytes of the line that came before the piece.
+    line: ArrayVec<u8, LONGEST>,
+    // The number of the line, from 1.
+    number: u32,
+    // How many bytes may yet be read.
+    allowance: u32,
+    // Bytes beyond the limit were read.
+    over: bool,
+    stage: Stage,
+}
+
+impl Model for LineReader {
+    ghost use Rattle.std.specs.Prelude.{◌+◌, ◌*◌, ◌^◌, ◌≤◌, length};
+    ghost use Rattle.record_lines.specs.Reader.{ReaderState};
+
+    ghost Value = { ReaderState };
+
+    ghost view = { λ r. record {
+      pending = r.piece;
+      line = r.line.items;
+      number = r.number;
+      allowance = r.allowance;
+      over = r.over;
+      stage = r.stage;
+    } };
+
+    // A line that was read has two bytes at least, so that lines are few.
+    ghost invariant = { λ r. 2 * r.number + length r.line.items + length r.piece + r.allowance ≤ 2 ^ 32 + 1 };
+}
+
+impl LineReader {
+    /// A reader of a record of at most `limit` bytes, of which nothing was read.
+    pub fn new(limit: u32) -> LineReader
+        ensures reads { Reads limit [] [] result }
+        ensures room { room result ≡ limit }
+        ensures settled { settled result ≡ None }
+    {
+        LineReader {
+            piece: Piece::new(),
+            line: ArrayVec::new(),
+            number: 1,
+            allowance: limit,
+            over: false,
+            stage: Stage::Lines,
+        }
+    }
+
+    /// The next event of the record. `End` comes only once the record's last line was read and the source answered
+    /// its end; it is answered again without reading, as is a fault of the record. After `Failed` all bytes taken so
+    /// far are kept, and the next call reads again.
+    pub fn next<S: Source>(&mut self, source: &mut S) -> Result<Event, LineError>
+        // Some bytes were taken, which tell this, whatever bytes were taken and events answered before.
+        ensures told { Takes (S.left source.old) (S.left source.new) (λ more. Tells self.old self.new more result) }
+        ensures end { settled self.old ≡ None → MeetsEnd (S.left source.old) (S.left source.new) result }
+
+        // What is answered again, and nothing is read.
+        ensures again { IfSome (settled self.old) (λ a. (result ≡ a) × (self.new ≡ self.old) × (source.new ≡ source.old)) }
+        ensures settled { settled self.new ≡ kept_answer result }
+
+        // Each event costs two bytes of the limit at least.
+        ensures fewer { room self.new + cost result ≤ room self.old }
+
+        ensures cause { result ≡ Err LineError.Failed → Rose (S.faults source.old) (S.faults source.new) }
+        ensures faults { S.faults source.old ≤ S.faults source.new }
+        ensures files { S.files source.new ≡ S.files source.old }
+        ensures opens { S.opens source.new ≡ S.opens source.old }
+    {
+        if let Some(answer) = self.settled() {
+            return answer;
+        }
+        'pieces: loop {
+            if let Some(answer) = self.found() {
+                return answer;
+            }
+            match self.fill(source) {
+                Ok(true) => {}
+                Ok(false) => return self.finish(),
+                Err(Failed) => return Err(LineError::Failed),
+            }
+        }
+    }
+
+    // What is answered again without reading.
+    fn settled(&self) -> Option<Result<Event, LineError>>
+        ensures { result ≡ settled self.now }
+    {
+        match self.stage {
+            Stage::Lines | Stage::Closing => None,
+            Stage::Ended => Some(Ok(Event::End)),
+            Stage::Faulty(fault) => Some(Err(LineError::Record(fault))),
+        }
+    }
+
+    // What is answered without reading; if there is nothing, the piece is gone through.
+    fn found(&mut self) -> Option<Result<Event, LineError>>
+        requires { settled self.old ≡ None }
+        ensures given { IfSome result (Gives self.old self.new) }
+        ensures from_bytes { IfSome result IsFromBytes }
+        ensures none { IfNone result (Advances self.old self.new) }
+        ensures empty { IfNone result (self.new.pending ≡ []) }
+        ensures within { IfNone result (self.new.over ≡ false) }
+        ensures nearer { IfNone result (2 * self.new.allowance < wait self.old) }
+    {
+        if let Some(answer) = self.next_line() {
+            return Some(answer);
+        }
+        self.excess()
+    }
+
+    // The answer of the line that ends in the piece, before the end of the record.
+    fn next_line(&mut self) -> Option<Result<Event, LineError>>
+        requires { settled self.old ≡ None }
+        ensures given { IfSome result (Gives self.old self.new) }
+        ensures from_bytes { IfSome result IsFromBytes }
+        ensures none { IfNone result (Advances self.old self.new) }
+        ensures gone { IfNone result (self.new.stage ≡ Stage.Lines → self.new.pending ≡ []) }
+    {
+        match self.stage {
+            Stage::Lines => self.read_line(),
+            _ => None,
+        }
+    }
+
+    // The answer to bytes after the record's end, or beyond the limit.
+    fn excess(&mut self) -> Option<Result<Event, LineError>>
+        requires unsettled { settled self.old ≡ None }
+        requires closing { self.old.stage ≡ Stage.Lines → self.old.pending ≡ [] }
+        ensures given { IfSome result (Gives self.old self.new) }
+        ensures from_bytes { IfSome result IsFromBytes }
+        ensures same { IfNone result (self.new ≡ self.old) }
+        ensures empty { IfNone result (self.old.pending ≡ []) }
+        ensures within { IfNone result (self.old.over ≡ false) }
+    {
+        if !self.piece.bytes().is_empty() {
+            return Some(Err(self.fail(FaultKind::AfterEnd)));
+        }
+        if self.over {
+            return Some(Err(self.fail(FaultKind::Limit)));
+        }
+        None
+    }
+
+    // Reads the line that ends in the piece, or keeps what the piece has of it.
+    fn read_line(&mut self) -> Option<Result<Event, LineError>>
+        requires { self.old.stage ≡ Stage.Lines }
+        ensures given { IfSome result (Gives self.old self.new) }
+        ensures from_bytes { IfSome result IsFromBytes }
+        ensures none { IfNone result (Advances self.old self.new) }
+        ensures gone { IfNone result (self.new.stage ≡ Stage.Lines → self.new.pending ≡ []) }
+    {
+        let begun = self.line.len();
+        let bytes = self.piece.bytes();
+        match place_of(b'\n', bytes) {
+            Some(at) if begun + at <= LONGEST => self.end_line(at),
+            None if begun + bytes.len() <= LONGEST => {
+                self.carry();
+                None
+            }
+            _ => Some(Err(self.fail(FaultKind::Long))),
+        }
+    }
+
+    // Keeps what the piece has of a line.
+    fn carry(&mut self)
+        requires { length self.old.line + length self.old.pending ≤ 32 }
+        ensures { self.new ≡ carried self.old }
+    {
+        let bytes = self.piece.bytes();
+        let count = bytes.len();
+        let _ = self.line.try_extend_from_slice(bytes);
+        self.piece.skip(count);
+    }
+
+    // Reads the line whose line feed is the piece's first, at this place.
+    fn end_line(&mut self, at: usize) -> Option<Result<Event, LineError>>
+        requires lines { self.old.stage ≡ Stage.Lines }
+        requires feed { position (λ b. b == 10) self.old.pending ≡ Some at }
+        requires fits { length self.old.line + at ≤ 32 }
+        ensures given { IfSome result (Gives self.old self.new) }
+        ensures from_bytes { IfSome result IsFromBytes }
+        ensures none { IfNone result (Advances self.old self.new) }
+        ensures gone { IfNone result (self.new.stage ≡ Stage.Closing) }
+    {
+        let event = event_across(&mut self.line, &self.piece.bytes()[..at]);
+        self.piece.skip(at + 1);
+        let Some(event) = event else {
+            return Some(Err(self.fail(FaultKind::Form)));
+        };
+        self.number += 1;
+        if is_end(&event) {
+            self.stage = Stage::Closing;
+            return None;
+        }
+        Some(Ok(event))
+    }
+
+    // Reads the next piece, and keeps of it what the limit allows. False is the source's end.
+    fn fill<S: Source>(&mut self, source: &mut S) -> Result<bool, Failed>
+        requires empty { self.old.pending ≡ [] }
+        requires within { self.old.over ≡ false }
+        ensures moved { IfOk result (λ _. Takes (S.left source.old) (S.left source.new) (λ more. self.new ≡ filled more self.old)) }
+        ensures end { result ≡ Ok false → IsSpent (S.left source.old) (S.left source.new) × (self.new ≡ self.old) × Consumes (S.left source.old) (S.left source.new) [] }
+        ensures nearer { result ≡ Ok true → wait self.new ≡ 2 * self.old.allowance }
+        ensures same { OnErr result (self.new ≡ self.old) }
+        ensures kept { OnErr result (S.left source.new ≡ S.left source.old) }
+        ensures files { S.files source.new ≡ S.files source.old }
+        ensures opens { S.opens source.new ≡ S.opens source.old }
+        ensures faults { S.faults source.old ≤ S.faults source.new }
+        ensures cause { OnErr result (Rose (S.faults source.old) (S.faults source.new)) }
+    {
+        self.piece.read(source)?;
+        let count = self.piece.bytes().len() as u32;
+        if count > self.allowance {
+            self.piece.cut(self.allowance as usize);
+            self.allowance = 0;
+            self.over = true;
+            return Ok(true);
+        }
+        self.allowance -= count;
+        Ok(count > 0)
+    }
+
+    // The answer at the source's end.
+    fn finish(&mut self) -> Result<Event, LineError>
+        requires unsettled { settled self.old ≡ None }
+        requires empty { self.old.pending ≡ [] }
+        requires within { self.old.over ≡ false }
+        ensures given { Gives self.old self.new result }
+        ensures answer { result ≢ Err LineError.Failed }
+    {
+        if !self.line.is_empty() {
+            return Err(self.fail(FaultKind::Cut));
+        }
+        match self.stage {
+            Stage::Closing => {
+                self.stage = Stage::Ended;
+                Ok(Event::End)
+            }
+            _ => Err(self.fail(FaultKind::NoEnd)),
+        }
+    }
+
+    // The record has this fault in the line at hand.
+    fn fail(&mut self, kind: FaultKind) -> LineError
+        ensures answer { result ≡ LineError.Record (fault_in kind self.old) }
+        ensures state { self.new ≡ record self.old { stage = Stage.Faulty (fault_in kind self.old) } }
+    {
+        let fault = RecordFault {
+            kind,
+            line: self.number,
+        };
+        self.stage = Stage::Faulty(fault);
+        LineError::Record(fault)
+    }
+}
+
+// Whether an event is the record's end.
+fn is_end(event: &Event) -> bool
+    ensures { result ≡ is_end_event event.now }
+{
+    matches!(event, Event::End)
+}
+
+// The event of the line that begins with these bytes and ends with the rest; the line is empty afterwards.
+fn event_across(line: &mut ArrayVec<u8, LONGEST>, rest: &[u8]) -> Option<Event>
+    requires { array_vec_len line.old + length rest.now ≤ 32 }
+    ensures event { result ≡ event_of (line.old.items ++ rest.now) }
+    ensures empty { line.new.items ≡ [] }
+{
+    if line.is_empty() {
+        return event_of(rest);
+    }
+    let _ = line.try_extend_from_slice(rest);
+    let event = event_of(line.as_slice());
+    line.clear();
+    event
+}
