@@ -54,22 +54,23 @@ module _ {X Y : Type 0} (view_of : X → Y) (read : Data → Option Y) (items : 
   pub each_more : (i : ℕ) (done : List X) (v : Value) (x : X) → i < length items → v ≡ get_or items i v → read (view v) ≡ Some (view_of x)
       → EachFrom view_of read items i done → EachFrom view_of read items (i + 1) (done ++ x ∷ [])
   each_more i done v x within here is so_far = record {
-      reads =
-      so_far.reads
-      ∙ ap (λ (ds : Items). onto (map view_of done) (each read ds)) (at_item i v within here)
-      ∙ ap (onto (map view_of done)) (each-some read (view v) (items_view (drop (i + 1) items)) (view_of x) is)
-      ∙ regroup (map view_of done) (view_of x) (each read (items_view (drop (i + 1) items)))
-      ∙ ap (λ ys. onto ys (each read (items_view (drop (i + 1) items)))) (sym (map-append view_of done (x ∷ [])));
-      count = omega (arith, length-append done (x ∷ []), so_far.count);
-    }
+    reads =
+        so_far.reads
+        ∙ ap (λ (ds : Items). onto (map view_of done) (each read ds)) (at_item i v within here)
+        ∙ ap (onto (map view_of done)) (each-some read (view v) (items_view (drop (i + 1) items)) (view_of x) is)
+        ∙ regroup (map view_of done) (view_of x) (each read (items_view (drop (i + 1) items)))
+        ∙ ap (λ ys. onto ys (each read (items_view (drop (i + 1) items)))) (sym (map-append view_of done (x ∷ [])));
+    count = omega (arith, length-append done (x ∷ []), so_far.count);
+  }
 
   pub each_refused : {Z : Type 0} (list_of : Z → List Y) (i : ℕ) (done : List X) (v : Value) (e : LoadError) → i < length items → v ≡ get_or items i v → Reads {X = X} view_of (read (view v)) (Err e)
       → EachFrom view_of read items i done → Reads list_of (each read (items_view items)) (Err e)
-  each_refused list_of i done v (Fault f) within here is so_far =
-      (is.0,
-      so_far.reads
-      ∙ ap (λ (ds : Items). onto (map view_of done) (each read ds)) (at_item i v within here)
-      ∙ ap (onto (map view_of done)) (each-none read (view v) (items_view (drop (i + 1) items)) is.1))
+  each_refused list_of i done v (Fault f) within here is so_far = (
+    is.0,
+    so_far.reads
+        ∙ ap (λ (ds : Items). onto (map view_of done) (each read ds)) (at_item i v within here)
+        ∙ ap (onto (map view_of done)) (each-none read (view v) (items_view (drop (i + 1) items)) is.1),
+  )
   each_refused list_of i done v Memory within here is so_far = tt
 
   pub each_done : (i : ℕ) (done : List X) → length items ≤ i → EachFrom view_of read items i done → each read (items_view items) ≡ Some (map view_of done)

@@ -31,7 +31,11 @@ pub(crate) fn table_of<'a>(value: &'a Value, known: &[&str]) -> Option<&'a Table
     ensures { option_map (λ t. table_view t.now) result ≡ spec.table_of (texts_of known.now) (view value.now) }
 {
     let table = value.as_table()?;
-    if has_only(table, known) { Some(table) } else { None }
+    if has_only(table, known) {
+        Some(table)
+    } else {
+        None
+    }
 }
 
 /// The string at a key.
@@ -82,7 +86,11 @@ fn number_from(value: i64, low: u32, high: u32) -> Option<u32>
     ensures within { IfSome result (λ n. n ≤ high) }
 {
     let number = u32::try_from(value).ok()?;
-    if low <= number && number <= high { Some(number) } else { None }
+    if low <= number && number <= high {
+        Some(number)
+    } else {
+        None
+    }
 }
 
 /// The whole number from `low` to `high` at a key.
@@ -108,7 +116,11 @@ fn at_most(items: &[Value], most: usize) -> Option<&[Value]>
     ensures value { option_map (λ s. items_view s.now) result ≡ spec.passing (λ s. is_between 1 most (spec.count s)) (items_view items.now) }
     ensures within { IfSome result (λ s. length s.now ≤ most) }
 {
-    if 1 <= items.len() && items.len() <= most { Some(items) } else { None }
+    if 1 <= items.len() && items.len() <= most {
+        Some(items)
+    } else {
+        None
+    }
 }
 
 /// The list of 1 to `most` items at a key.
@@ -125,5 +137,9 @@ pub(crate) fn list_at<'a>(table: &'a Table, most: usize, key: &str) -> Option<&'
 pub(crate) fn only_item(items: &[Value]) -> Option<&Value>
     ensures { option_map (λ v. view v.now) result ≡ spec.only_item (items_view items.now) }
 {
-    if items.len() == 1 { Some(&items[0]) } else { None }
+    if items.len() == 1 {
+        Some(&items[0])
+    } else {
+        None
+    }
 }

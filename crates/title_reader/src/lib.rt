@@ -1,4 +1,4 @@
-//! Reads the smallest kind of book, a title book: discretes and the amber titles that wait for them.
+//! Reads the smallest kind of book, a title book: discretes, and the amber titles that wait for them.
 #![tactic(auto)]
 
 mod fields;
@@ -7,3 +7,9 @@ mod records;
 mod refusal;
 mod sections;
 mod texts;
+mod titles;
+
+pub use titles::{LONGEST, read_titles};
+
+#[cfg(test)]
+mod tests;

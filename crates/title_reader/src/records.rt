@@ -6,7 +6,9 @@ ghost use Rattle.book_spec.specs.TitleDocument as spec;
 ghost use Rattle.title_reader.specs.Reading.{Reads, param_name};
 ghost use Rattle.title_reader.specs.Outcome.{discrete_of};
 
-use crate::fields::{label_at, list_at, name_at, number_at, only_item, string_at, table_of, text_at, word_at};
+use crate::fields::{
+    label_at, list_at, name_at, number_at, only_item, string_at, table_of, text_at, word_at,
+};
 use crate::names::place_of;
 use crate::refusal::refused;
 use bitflags::Flags;
@@ -115,7 +117,12 @@ fn plain_alert(alloc: Global, systems: &[Text], params: &[Param], value: &Value)
 }
 
 /// The alert that a value is, in a book of these systems and parameters.
-pub(crate) fn alert_in(alloc: Global, systems: &[Text], params: &[Param], value: &Value) -> Result<Alert, LoadError>
+pub(crate) fn alert_in(
+    alloc: Global,
+    systems: &[Text],
+    params: &[Param],
+    value: &Value,
+) -> Result<Alert, LoadError>
     requires systems { length systems.now < 2 ^ 32 }
     requires params { length params.now < 2 ^ 32 }
     ensures { Reads alert_of (spec.alert_in (map bytes_of systems.now) (map param_name params.now) (view value.now)) result }

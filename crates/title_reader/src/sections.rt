@@ -59,7 +59,12 @@ fn each_parameter(alloc: Global, items: &[Value]) -> Result<Vec<Param>, LoadErro
 }
 
 // The alerts that these values are.
-fn each_alert(alloc: Global, systems: &[Text], params: &[Param], items: &[Value]) -> Result<Vec<Alert>, LoadError>
+fn each_alert(
+    alloc: Global,
+    systems: &[Text],
+    params: &[Param],
+    items: &[Value],
+) -> Result<Vec<Alert>, LoadError>
     requires systems { length systems.now < 2 ^ 32 }
     requires params { length params.now < 2 ^ 32 }
     ensures read { Reads drafts_in (each (spec.alert_in (map bytes_of systems.now) (map param_name params.now)) (items_view items.now)) result }
@@ -104,7 +109,12 @@ fn parameters_in(alloc: Global, table: &Table) -> Result<Vec<Param>, LoadError>
 }
 
 #[tactic(auto, using(crate::proofs::RecordNames::draft_names), unfolding(book_spec::specs::TitleDocument::alerts_in))]
-fn alerts_in(alloc: Global, systems: &[Text], params: &[Param], table: &Table) -> Result<Vec<Alert>, LoadError>
+fn alerts_in(
+    alloc: Global,
+    systems: &[Text],
+    params: &[Param],
+    table: &Table,
+) -> Result<Vec<Alert>, LoadError>
     requires systems { length systems.now < 2 ^ 32 }
     requires params { length params.now < 2 ^ 32 }
     ensures { Reads drafts_in (spec.alerts_in (map bytes_of systems.now) (map param_name params.now) (table_view table.now)) result }

@@ -29,8 +29,8 @@ fn is_reserved(word: &str) -> bool
 {
     is_one_of(
         &[
-            "true", "false", "valid", "phase", "alert", "press", "fwc", "not", "rise", "all", "any",
-            "atleast", "conf", "hold", "latch",
+            "true", "false", "valid", "phase", "alert", "press", "fwc", "not", "rise", "all",
+            "any", "atleast", "conf", "hold", "latch",
         ],
         word,
     )
@@ -163,5 +163,9 @@ fn label_of(a: u8, b: u8, c: u8) -> Option<u8>
         return None;
     }
     let label = u16::from(a - b'0') * 64 + u16::from(b - b'0') * 8 + u16::from(c - b'0');
-    if label <= 255 { Some(label as u8) } else { None }
+    if label <= 255 {
+        Some(label as u8)
+    } else {
+        None
+    }
 }
