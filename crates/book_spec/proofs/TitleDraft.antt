@@ -1,20 +1,20 @@
 -- The draft of a title book is sound and free of faults, and its book is one of titles.
-use Rattle.std.proofs.Common.{◌≡◌, ℕ, suc, ◌+◌, ◌<◌, ◌≤◌, Bool, true, false, not, ◌==◌, List, [], ◌∷◌, map, length, Option, Some, None, refl, sym, ap, subst, ◌∙◌, arith}
+use Rattle.std.proofs.Common.{◌≡◌, ℕ, ◌≤◌, Bool, true, false, not, ◌==◌, List, [], ◌∷◌, map, length, Option, Some, None, refl, ap, subst, ◌∙◌, arith}
 use Rattle.std.specs.Prelude.{codes}
 use Rattle.std.specs.List.{list_any, All, filter_map}
 use Rattle.std.proofs.lemmas.Option.{option_and_then_some}
 use Rattle.std.proofs.lemmas.List.{length-map}
 use Rattle.std.proofs.lemmas.List.Elements.{All-nil, All-weaker, All-map}
-use Rattle.toml.specs.Data.{Data, Members, Items}
-use Rattle.ecam_spec.specs.Book.{Text, Parameter, Page, Memo, Book}
+use Rattle.toml.specs.Data.{Data, Members}
+use Rattle.ecam_spec.specs.Book.{Text, Parameter}
 use Rattle.ecam_spec.specs.BookText.{is_text}
 use Rattle.ecam_spec.specs.Draft.{DraftAlert, Draft, alert_names, place_of, resolved, book_of}
 use Rattle.ecam_spec.specs.DraftFaults.{draft_fault, has_atom, asks_alert_from, one_misreads, may_sound, is_unknown, stands_early, all_phases}
 use Rattle.ecam_spec.specs.BookTerms.{line_terms}
 use Rattle.ecam_spec.specs.Faults.{first_from}
-use Rattle.ecam_spec.specs.Sound.{IsSound, IsSoundParameter, IsSoundAlert, IsSoundPage, IsSoundMemo, NoneRepeated, is_repeated}
+use Rattle.ecam_spec.specs.Sound.{IsSound, IsSoundParameter, IsSoundAlert, IsSoundPage, IsSoundMemo, is_repeated}
 use Rattle.ecam_spec.specs.Titles.{always_parked, IsTitle, IsTitleBook}
-use Rattle.book_spec.specs.Fields.{◌>>=◌, passing, has_only, list_at, number_at, each, are_distinct, count}
+use Rattle.book_spec.specs.Fields.{◌>>=◌, passing, has_only, list_at, number_at, each, are_distinct}
 use Rattle.book_spec.specs.TitleDocument.{top_keys, system_in, parameter_in, alert_in, parameter_names, systems_in, parameters_in, alerts_in, draft_in}
 use Rattle.book_spec.proofs.FieldFacts.{kept, same_passed, text_read, items_read, each_all, each_count}
 use Rattle.book_spec.proofs.Once.{none_repeated}

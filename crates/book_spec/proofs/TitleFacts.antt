@@ -1,15 +1,14 @@
 -- Each part of a title book's draft keeps its limits, and has no fault.
-use Rattle.std.proofs.Common.{◌≡◌, ℕ, zero, suc, ◌+◌, ◌<◌, ◌≤◌, Bool, true, false, not, ◌&&◌, ◌||◌, ◌==◌, cond, leb, eqb, List, [], ◌∷◌, map, length, get_or, Option, Some, None, refl, sym, ap, subst, ◌∙◌, inl, inr, arith}
+use Rattle.std.proofs.Common.{◌≡◌, ℕ, zero, suc, ◌<◌, ◌≤◌, Bool, true, false, not, ◌||◌, ◌==◌, List, [], ◌∷◌, map, length, Option, Some, None, refl, sym, ap, subst, ◌∙◌, arith}
 use Rattle.std.specs.Option.{IfSome}
 use Rattle.std.specs.List.{list_any, All, slice_get}
-use Rattle.std.proofs.lemmas.List.Elements.{All-cons, All-nil, All-same, All-head, All-tail}
+use Rattle.std.proofs.lemmas.List.Elements.{All-nil, All-same, All-head, All-tail}
 use Rattle.ecam_spec.specs.declared.kinds.Kind.{Kind}
-use Rattle.ecam_spec.specs.declared.kinds.Kind.TheVariants.{Disc}
 use Rattle.ecam_spec.specs.declared.kinds.Level.TheVariants.{One}
-use Rattle.ecam_spec.specs.Book.{Text, Tree, constant, discrete, Line, StatusLine, Parameter}
+use Rattle.ecam_spec.specs.Book.{Text, constant, discrete, Parameter}
 use Rattle.ecam_spec.specs.BookTerms.{line_terms}
-use Rattle.ecam_spec.specs.Draft.{DraftAlert, alert_names}
-use Rattle.ecam_spec.specs.DraftFaults.{has_atom, asks_alert_from, misreads, one_misreads, is_discrete, may_sound, is_unknown, stands_early, all_phases}
+use Rattle.ecam_spec.specs.Draft.{DraftAlert}
+use Rattle.ecam_spec.specs.DraftFaults.{has_atom, asks_alert_from, one_misreads, is_discrete, may_sound, is_unknown, stands_early, all_phases}
 use Rattle.ecam_spec.specs.Faults.{first_from}
 use Rattle.ecam_spec.specs.Sound.{IsSoundTerm, IsSoundPhase, IsSoundAlert, IsSoundLine, IsSoundStatus, IsInRange}
 use Rattle.ecam_spec.specs.TermSize.{nodes, depth}

@@ -1,25 +1,19 @@
 -- The draft of a title book keeps its limits, has no fault, and its book is one of titles.
-use Rattle.std.proofs.Common.{◌≡◌, ℕ, suc, ◌+◌, ◌<◌, ◌≤◌, Bool, true, false, not, ◌&&◌, ◌||◌, cond, List, [], ◌∷◌, map, length, get_or, Option, Some, None, refl, sym, ap, subst, ◌∙◌, inl, inr, arith, tests, rules}
+use Rattle.std.proofs.Common.{◌≡◌, ℕ, ◌<◌, true, List, [], ◌∷◌, length, Some, None, refl, subst, arith}
 use Rattle.std.specs.Prelude.{codes}
-use Rattle.std.specs.List.{list_any, All, slice_get}
-use Rattle.std.specs.Option.{option_and_then}
-use Rattle.std.proofs.lemmas.Option.{option_and_then_some, slice_get-map}
-use Rattle.std.proofs.lemmas.List.{length-map}
-use Rattle.std.proofs.lemmas.List.Elements.{All-cons, All-nil, All-weaker, All-map}
-use Rattle.toml.specs.Data.{Data, Items, Members}
-use Rattle.ecam_spec.specs.declared.kinds.Kind.{Kind}
+use Rattle.std.proofs.lemmas.Option.{option_and_then_some}
+use Rattle.std.proofs.lemmas.List.Elements.{All-cons, All-nil}
+use Rattle.toml.specs.Data.{Data, Members}
 use Rattle.ecam_spec.specs.declared.kinds.Kind.TheVariants.{Disc}
 use Rattle.ecam_spec.specs.declared.kinds.Level.TheVariants.{One}
 use Rattle.ecam_spec.specs.declared.kinds.Sound.TheVariants.{Quiet}
 use Rattle.ecam_spec.specs.Book.{Text, discrete, Source, Parameter}
 use Rattle.ecam_spec.specs.BookText.{is_name, is_text}
-use Rattle.ecam_spec.specs.Draft.{DraftAlert, Draft, place_of, alert_names}
-use Rattle.ecam_spec.specs.Sound.{IsSoundTerm, IsSoundAlert, IsSoundSource, IsSoundParameter, IsInRange}
-use Rattle.ecam_spec.specs.TermSize.{nodes, depth}
-use Rattle.ecam_spec.specs.TermNames.{IsWithin}
-use Rattle.book_spec.specs.Fields.{◌>>=◌, passing, table_of, string_at, name_at, text_in, text_at, word_at, number_at, label_at, list_at, only_item, each, are_distinct, count}
-use Rattle.book_spec.specs.TitleDocument.{source_keys, parameter_keys, alert_keys, source_in, source_at, parameter_in, alert_in, parameter_names, system_in, systems_in, parameters_in, alerts_in}
-use Rattle.book_spec.proofs.FieldFacts.{kept, same_passed, name_read, text_read, text_at_read, number_read, label_read, place_read, items_read, each_all, each_count}
+use Rattle.ecam_spec.specs.Draft.{DraftAlert, place_of}
+use Rattle.ecam_spec.specs.Sound.{IsSoundSource, IsSoundParameter}
+use Rattle.book_spec.specs.Fields.{◌>>=◌, table_of, string_at, name_at, text_at, word_at, number_at, label_at, list_at, only_item}
+use Rattle.book_spec.specs.TitleDocument.{source_keys, parameter_keys, alert_keys, source_in, source_at, parameter_in, alert_in}
+use Rattle.book_spec.proofs.FieldFacts.{name_read, text_at_read, number_read, label_read, place_read}
 
 -- a source that was read keeps its limits
 source_sound : (value : Data) (s : Source) → source_in value ≡ Some s → IsSoundSource s

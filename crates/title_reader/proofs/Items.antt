@@ -1,5 +1,5 @@
 -- The items and the keys of what was read, as the lists that the code goes through.
-use Rattle.std.proofs.Common.{◌≡◌, ℕ, suc, ◌+◌, ◌≢◌, Bool, ◌&&◌, ◌||◌, get_or, List, [], ◌∷◌, length, String, Global, string_bytes, Some, None, refl, ap, arith}
+use Rattle.std.proofs.Common.{◌≡◌, ℕ, ◌≢◌, Bool, ◌&&◌, ◌||◌, get_or, List, [], ◌∷◌, length, string_bytes, Some, None, refl, ap, arith}
 use Rattle.std.specs.List.{list_any, list_all}
 use Rattle.std.specs.Map.{keys_of}
 use Rattle.std.specs.Borrow.{Bor}

@@ -1,5 +1,5 @@
 -- Parts of the definitions, as the reader's functions answer them.
-use Rattle.std.specs.Prelude.{ℕ, ◌+◌, ◌-◌, ◌*◌, Bool, not, ◌&&◌, ◌==◌, nat_le, [], ◌∷◌, length, slice_index, Option, Some, None, if◌then◌else◌}
+use Rattle.std.specs.Prelude.{ℕ, ◌+◌, ◌-◌, ◌*◌, Bool, not, ◌&&◌, ◌==◌, nat_le, [], ◌∷◌, length, slice_index, Option, None, if◌then◌else◌}
 use Rattle.ecam_spec.specs.declared.kinds.Kind.TheVariants.{Disc}
 use Rattle.ecam_spec.specs.Book.{Text, Parameter}
 use Rattle.book_model.specs.View.{source_of}

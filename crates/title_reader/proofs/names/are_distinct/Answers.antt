@@ -1,4 +1,4 @@
-use Rattle.std.proofs.Common.{◌≡◌, ◌+◌, ◌-◌, length, length-drop, arith, sym, ◌∙◌, ap, not, ◌&&◌, map, drop, get_or, true, false}
+use Rattle.std.proofs.Common.{◌≡◌, ◌+◌, ◌-◌, length, length-drop, arith, sym, ◌∙◌, ap, not, ◌&&◌, map, drop}
 use Rattle.std.proofs.lemmas.List.{take_all}
 use Rattle.std.specs.List.{list_any}
 use Rattle.ecam_spec.specs.BookText.{same_text}

@@ -1,6 +1,6 @@
 use Rattle.std.proofs.Common.{map}
-use Rattle.book_model.specs.View.{bytes_of, parameter_of, alert_of}
-use Rattle.book_spec.specs.TitleDocument.{system_in, parameter_in, alert_in}
+use Rattle.book_model.specs.View.{bytes_of, alert_of}
+use Rattle.book_spec.specs.TitleDocument.{alert_in}
 use Rattle.title_reader.specs.Reading.{param_name}
 use Rattle.title_reader.proofs.EachItem.{EachFrom}
 use Rattle.title_reader.proofs.sections.each_alert.Given as goal

@@ -1,9 +1,9 @@
-use Rattle.std.proofs.Common.{map, arith, ◌∙◌, length}
+use Rattle.std.proofs.Common.{arith}
 use Rattle.std.proofs.lemmas.Result.{err_from_is_err_and}
-use Rattle.book_model.specs.View.{bytes_of, parameter_of, alert_of}
-use Rattle.book_spec.specs.TitleDocument.{system_in, parameter_in, alert_in}
-use Rattle.title_reader.specs.Reading.{texts_in, params_in, drafts_in, param_name}
-use Rattle.title_reader.proofs.EachItem.{EachFrom, each_first, each_more, each_refused, each_done}
+use Rattle.book_model.specs.View.{bytes_of}
+use Rattle.book_spec.specs.TitleDocument.{system_in}
+use Rattle.title_reader.specs.Reading.{texts_in}
+use Rattle.title_reader.proofs.EachItem.{each_first, each_more, each_refused, each_done}
 use Rattle.title_reader.proofs.sections.each_system.Goals as goal
 
 pub loop-item-init : goal.loop-item-init

@@ -1,7 +1,5 @@
-use Rattle.std.proofs.Common.{map}
-use Rattle.book_model.specs.View.{bytes_of, parameter_of, alert_of}
-use Rattle.book_spec.specs.TitleDocument.{system_in, parameter_in, alert_in}
-use Rattle.title_reader.specs.Reading.{param_name}
+use Rattle.book_model.specs.View.{bytes_of}
+use Rattle.book_spec.specs.TitleDocument.{system_in}
 use Rattle.title_reader.proofs.EachItem.{EachFrom}
 use Rattle.title_reader.proofs.sections.each_system.Given as goal
 

@@ -1,6 +1,5 @@
-use Rattle.std.proofs.Common.{sym, ◌∙◌, rules, arith}
+use Rattle.std.proofs.Common.{arith}
 use Rattle.std.proofs.lemmas.Grind.{common_steps}
-use Rattle.std.proofs.lemmas.List.Folds.{list_any_at}
 use Rattle.title_reader.proofs.Items.{any_text}
 use Rattle.title_reader.proofs.texts.is_one_of.Goals as goal
 

@@ -1,7 +1,7 @@
-use Rattle.std.proofs.Common.{◌≡◌, ◌≤◌, ◌<◌, true, length, ◌∙◌, arith}
+use Rattle.std.proofs.Common.{◌≡◌, true, ◌∙◌, arith}
 use Rattle.toml.specs.Errors.{IsMemory}
 use Rattle.toml.specs.View.{table_view}
-use Rattle.book_spec.specs.TitleDocument.{longest, table_from}
+use Rattle.book_spec.specs.TitleDocument.{table_from}
 use Rattle.title_reader.proofs.TableFrom.{too_long, parsed, unparsed, refusal}
 use Rattle.title_reader.proofs.titles.table_in.Goals as goal
 
