@@ -113,9 +113,9 @@ module _ (b : Book) where
       ∙ ap (λ c. (c || list_any asks dones) || list_any asks memos) (list_any-append asks (phase_terms b.phase) whens)
       ∙ ap (λ c. ((list_any asks (phase_terms b.phase) || c) || list_any asks dones) || list_any asks memos) (any-map (λ (a : Alert). a.when) b.alerts)
       ∙ ap (λ c. ((list_any asks (phase_terms b.phase) || list_any (λ (a : Alert). asks a.when) b.alerts) || c) || list_any asks memos)
-        (lines-any (lines_of b.alerts) ∙ alerts-any b.alerts)
+      (lines-any (lines_of b.alerts) ∙ alerts-any b.alerts)
       ∙ ap (λ c. ((list_any asks (phase_terms b.phase) || list_any (λ (a : Alert). asks a.when) b.alerts) || list_any (λ (a : Alert). list_any line-asks a.lines) b.alerts) || c)
-        (any-map (λ (m : Memo). m.when) b.memos)
+      (any-map (λ (m : Memo). m.when) b.memos)
 
   module _ {U : Type 0} (free : (names_computer b ≡ false) ⊎ U) where
     free-parts : ((((list_any asks (phase_terms b.phase) || list_any (λ (a : Alert). asks a.when) b.alerts) || list_any (λ (a : Alert). list_any line-asks a.lines) b.alerts) || list_any (λ (m : Memo). asks m.when) b.memos) ≡ false) ⊎ U
@@ -128,12 +128,12 @@ module _ (b : Book) where
     unfolding has_atom
     free-when a =
         map-left (λ e. any-at (λ (x : Alert). asks x.when) b.alerts a no_alert e refl)
-            (right-part (list_any asks (phase_terms b.phase)) _ (left-part _ _ (left-part _ _ free-parts)))
+        (right-part (list_any asks (phase_terms b.phase)) _ (left-part _ _ (left-part _ _ free-parts)))
 
     pub free-lines : (a : ℕ) → (list_any line-asks (alert_at b a).lines ≡ false) ⊎ U
     free-lines a =
         map-left (λ e. any-at (λ (x : Alert). list_any line-asks x.lines) b.alerts a no_alert e refl)
-            (right-part _ (list_any (λ (x : Alert). list_any line-asks x.lines) b.alerts) (left-part _ _ free-parts))
+        (right-part _ (list_any (λ (x : Alert). list_any line-asks x.lines) b.alerts) (left-part _ _ free-parts))
 
     pub free-memos : (list_any (λ (m : Memo). asks m.when) b.memos ≡ false) ⊎ U
     free-memos = right-part _ _ free-parts

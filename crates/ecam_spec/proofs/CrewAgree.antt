@@ -1,9 +1,9 @@
 -- Crews that see and do the same up to a moment are shown the same in it.
-use Rattle.std.proofs.Common.{◌≡◌, ℕ, zero, suc, ◌<◌, ◌≤◌, Bool, true, false, not, ◌&&◌, ◌||◌, ◌==◌, inl, inr, List, [], ◌∷◌, refl, sym, ◌∙◌, ap, arith}
+use Rattle.std.proofs.Common.{◌≡◌, ℕ, zero, suc, ◌<◌, ◌≤◌, true, false, not, ◌&&◌, ◌||◌, inl, inr, [], ◌∷◌, sym, ◌∙◌, ap, arith}
 use Rattle.std.specs.Prelude.{filter}
 use Rattle.std.proofs.Math.Nat.{le-suc_iff}
 use Rattle.std.proofs.lemmas.List.Elements.{filter_agree}
-use Rattle.ecam_spec.specs.Past.{Signal, since, historically_from, once_within}
+use Rattle.ecam_spec.specs.Past.{since, historically_from, once_within}
 use Rattle.ecam_spec.specs.Crew.{Cockpit, Shown, target, is_number, struck, cleared, cancelled, is_shown, shown_after, shown, shows_nothing, normal}
 use Rattle.ecam_spec.proofs.PastAgree.{since-below, historically_from-below, once_within-below}
 use Rattle.ecam_spec.proofs.CrewLaws.{target-below, cleared-below, cancelled-below, shown_after-below, shown_closes}
@@ -28,18 +28,18 @@ module _ (c d : Cockpit) (k : ℕ) (s : SameCockpit c d k) where
   unfolding cleared
   cleared-same t a i h =
       since-below (λ j. struck c t a j && c.up a j) (λ j. struck d t a j && d.up a j) (λ j. c.up a j && not (c.rcl j)) (λ j. d.up a j && not (d.rcl j)) i
-          (λ j l. ap (λ b. b && c.up a j) (struck-same t a j (omega arith)) ∙ ap (λ b. struck d t a j && b) (s.up a j (omega arith)))
-          (λ j l. ap (λ b. b && not (c.rcl j)) (s.up a j (omega arith)) ∙ ap (λ b. d.up a j && not b) (s.rcl j (omega arith)))
+      (λ j l. ap (λ b. b && c.up a j) (struck-same t a j (omega arith)) ∙ ap (λ b. struck d t a j && b) (s.up a j (omega arith)))
+      (λ j l. ap (λ b. b && not (c.rcl j)) (s.up a j (omega arith)) ∙ ap (λ b. d.up a j && not b) (s.rcl j (omega arith)))
 
   pub cancelled-same : (t : Shown) (a i : ℕ) → i ≤ k → cancelled c t a i ≡ cancelled d t a i
   unfolding cancelled
   cancelled-same t a i h =
       ap (λ b. b && since (λ j. c.emer j && is_number a (target t j)) (λ j. not (c.long_recall j || c.enters_one j)) i) (s.is_caution a)
       ∙ ap (λ b. d.is_caution a && b)
-        (since-below (λ j. c.emer j && is_number a (target t j)) (λ j. d.emer j && is_number a (target t j))
-             (λ j. not (c.long_recall j || c.enters_one j)) (λ j. not (d.long_recall j || d.enters_one j)) i
-             (λ j l. ap (λ b. b && is_number a (target t j)) (s.emer j (omega arith)))
-             (λ j l. ap (λ b. not (b || c.enters_one j)) (s.long_recall j (omega arith)) ∙ ap (λ b. not (d.long_recall j || b)) (s.enters_one j (omega arith))))
+      (since-below (λ j. c.emer j && is_number a (target t j)) (λ j. d.emer j && is_number a (target t j))
+      (λ j. not (c.long_recall j || c.enters_one j)) (λ j. not (d.long_recall j || d.enters_one j)) i
+      (λ j l. ap (λ b. b && is_number a (target t j)) (s.emer j (omega arith)))
+      (λ j l. ap (λ b. not (b || c.enters_one j)) (s.long_recall j (omega arith)) ∙ ap (λ b. not (d.long_recall j || b)) (s.enters_one j (omega arith))))
 
   is_shown-same : (t : Shown) (a i : ℕ) → i ≤ k → is_shown c t a i ≡ is_shown d t a i
   unfolding is_shown
@@ -62,8 +62,9 @@ module _ (c d : Cockpit) (k : ℕ) (s : SameCockpit c d k) where
   shown-upto zero h i l = shown-step i (omega arith) (λ j before. absurd (omega arith))
   shown-upto (suc n) h i l =
       elim (le-suc_iff.0 l) [
-          inl m ↦ shown-upto n (omega arith) i m
-        | inr e ↦ shown-step i (omega arith) (λ j before. shown-upto n (omega arith) j (omega arith)) ]
+        | inl m ↦ shown-upto n (omega arith) i m
+        | inr e ↦ shown-step i (omega arith) (λ j before. shown-upto n (omega arith) j (omega arith))
+      ]
 
   pub shown-same : (i : ℕ) → i ≤ k → shown c i ≡ shown d i
   shown-same i h = shown-upto i h i (omega arith)
@@ -86,7 +87,7 @@ module _ (c d : Cockpit) (k : ℕ) (s : SameCockpit c d k) where
   normal-same i h =
       ap (λ b. b && once_within 29 (λ j. c.rcl j && historically_from j (shows_nothing c) i) i) (nothing-same i h)
       ∙ ap (λ b. shows_nothing d i && b)
-        (once_within-below 29 (λ j. c.rcl j && historically_from j (shows_nothing c) i) (λ j. d.rcl j && historically_from j (shows_nothing d) i) i
-             (λ j l.
-                 ap (λ b. b && historically_from j (shows_nothing c) i) (s.rcl j (omega arith))
-                 ∙ ap (λ b. d.rcl j && b) (historically_from-below j (shows_nothing c) (shows_nothing d) i (λ x y. nothing-same x (omega arith)))))
+      (once_within-below 29 (λ j. c.rcl j && historically_from j (shows_nothing c) i) (λ j. d.rcl j && historically_from j (shows_nothing d) i) i
+      (λ j l.
+      ap (λ b. b && historically_from j (shows_nothing c) i) (s.rcl j (omega arith))
+      ∙ ap (λ b. d.rcl j && b) (historically_from-below j (shows_nothing c) (shows_nothing d) i (λ x y. nothing-same x (omega arith)))))

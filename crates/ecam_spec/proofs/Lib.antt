@@ -13,6 +13,9 @@ pub mod ComputerNames
 pub mod SituationAgree
 pub mod CrewAgree
 pub mod ScreenAgree
+pub mod SelectionAgree
+pub mod PictureAgree
+pub mod FailureLaws
 pub mod PhaseLaws
 pub mod PastWithin
 pub mod PastAgree

@@ -1,7 +1,7 @@
 -- Flights that agree up to now have one phase now: what comes later has no bearing on it.
-use Rattle.std.proofs.Common.{◌≡◌, ℕ, suc, ◌-◌, ◌<◌, ◌≤◌, Bool, not, ◌&&◌, ◌||◌, cond, ltb, ap, ◌∙◌, arith}
+use Rattle.std.proofs.Common.{◌≡◌, ℕ, suc, ◌≤◌, not, ◌&&◌, ◌||◌, ap, ◌∙◌, arith}
 use Rattle.std.specs.Prelude.{unwrap_or}
-use Rattle.ecam_spec.specs.Past.{previous, rise, last, since, once_from, begin_of}
+use Rattle.ecam_spec.specs.Past.{previous, rise, since, once_from, begin_of}
 use Rattle.ecam_spec.specs.Phase.{Flight, parked, airborne, trip, low_marked, climb_begins, climb_begin, parked_phase, ground_phase, air_phase, phase}
 use Rattle.ecam_spec.proofs.PastSteps.{begin_of-le}
 use Rattle.ecam_spec.proofs.PastAgree.{since-below, previous-below, rise-below, last-below, begin_of-below, once_from-below}

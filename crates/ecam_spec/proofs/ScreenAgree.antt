@@ -1,25 +1,21 @@
 -- Two accounts of the moments that agree up to a moment show the same picture in it: what comes later has no bearing,
 -- nor which computers are up where the book doesn't ask.
-use Rattle.std.proofs.Common.{◌≡◌, ℕ, zero, suc, ◌+◌, ◌-◌, ◌*◌, ◌/◌, ◌%◌, ◌<◌, ◌≤◌, Bool, true, false, not, ◌&&◌, ◌||◌, ◌==◌, ◌⊎◌, inl, inr, List, [], ◌∷◌, ◌++◌, map, length, get_or, Option, Some, None, refl, sym, ◌∙◌, ap, cond, min, leb, nat_lt, arith}
-use Rattle.std.specs.Prelude.{filter, find, flat_map, is_none, unwrap_or, slice_get, if◌then◌else◌, option_and_then}
+use Rattle.std.proofs.Common.{◌≡◌, ℕ, ◌≤◌, Bool, false, not, ◌&&◌, ◌||◌, ◌==◌, List, [], ◌∷◌, Option, Some, None, refl, ◌∙◌, ap, cond, arith}
+use Rattle.std.specs.Prelude.{find, is_none, unwrap_or, if◌then◌else◌}
 use Rattle.std.specs.List.{list_any}
-use Rattle.std.specs.Option.{option_or}
-use Rattle.std.proofs.lemmas.List.Elements.{filter_agree}
 use Rattle.ecam_spec.specs.declared.kinds.Key.{Key}
-use Rattle.ecam_spec.specs.declared.kinds.Key.TheVariants.{Clr, Rcl, Sts, All, Emer, Mw, Mc, Page}
+use Rattle.ecam_spec.specs.declared.kinds.Key.TheVariants.{Clr, Rcl, Emer, Mw, Mc}
 use Rattle.ecam_spec.specs.declared.kinds.Level.{Level}
 use Rattle.ecam_spec.specs.declared.kinds.Level.TheVariants.{One, Two, Three}
-use Rattle.ecam_spec.specs.declared.kinds.Sound.{Sound}
 use Rattle.ecam_spec.specs.declared.kinds.Sound.TheVariants.{Quiet, Chime}
-use Rattle.ecam_spec.specs.Past.{Signal, since, previous, rise, last, next, begin_of, count_up_to, count_from, once_within}
-use Rattle.ecam_spec.specs.Places.{below, first_place, first_in}
+use Rattle.ecam_spec.specs.Past.{previous, rise, once_within}
 use Rattle.ecam_spec.specs.Levels.{is_three, is_two}
-use Rattle.ecam_spec.specs.Book.{Line, Alert, Memo, Book}
+use Rattle.ecam_spec.specs.Book.{Book}
 use Rattle.ecam_spec.specs.History.{Moment, Stroke}
 use Rattle.ecam_spec.specs.Keys.{last_stroke, pressed, held, long_recall}
-use Rattle.ecam_spec.specs.Crew.{target, shown, cleared, cancelled, normal}
-use Rattle.ecam_spec.specs.Lamps.{Attention, acknowledges, is_open, warns, cautions, is_chime, chimes, sound_of, sound}
-use Rattle.ecam_spec.specs.Situation.{alert_at, words_in, strokes_in, phase_in, up_in}
+use Rattle.ecam_spec.specs.Crew.{normal}
+use Rattle.ecam_spec.specs.Lamps.{acknowledges, is_open, warns, cautions, is_chime, chimes, sound_of, sound}
+use Rattle.ecam_spec.specs.Situation.{alert_at, strokes_in, phase_in, up_in}
 use Rattle.ecam_spec.specs.Screen.{enters_one, cockpit, shown_in, cleared_in, cancelled_in, target_in, attention}
 use Rattle.ecam_spec.proofs.PastAgree.{since-below, historically_within-below, once_within-below, rise-below, previous-below}
 use Rattle.ecam_spec.proofs.SituationAgree.{SameUpTo, pressed-same, phase-same, up-same, any-agree}
@@ -30,12 +26,12 @@ find-agree p q [] same = refl
 find-agree p q (x ∷ xs) same = ap (λ b. cond b (Some x) (find p xs)) (same x) ∙ ap (λ o. cond (q x) (Some x) o) (find-agree p q xs same)
 
 module _ (v w : ℕ → List Stroke) (k : ℕ) (same : (i : ℕ) → i ≤ k → v i ≡ w i) where
-  held-same : (key : Key) (i : ℕ) → i ≤ k → held v key i ≡ held w key i
+  pub held-same : (key : Key) (i : ℕ) → i ≤ k → held v key i ≡ held w key i
   unfolding held
   held-same key i h =
       since-below (λ j. unwrap_or (last_stroke key (v j)) false) (λ j. unwrap_or (last_stroke key (w j)) false) (λ j. is_none (last_stroke key (v j))) (λ j. is_none (last_stroke key (w j))) i
-          (λ j l. ap (λ s. unwrap_or (last_stroke key s) false) (same j (omega arith)))
-          (λ j l. ap (λ s. is_none (last_stroke key s)) (same j (omega arith)))
+      (λ j l. ap (λ s. unwrap_or (last_stroke key s) false) (same j (omega arith)))
+      (λ j l. ap (λ s. is_none (last_stroke key s)) (same j (omega arith)))
 
   long_recall-same : (i : ℕ) → i ≤ k → long_recall v i ≡ long_recall w i
   unfolding long_recall
@@ -47,15 +43,21 @@ module _ (b : Book) (m n : ℕ → Moment) (k : ℕ) (s : SameUpTo b m n k) wher
   enters_one-same i h =
       ap (λ p. p == 1 && previous (λ j. not (phase_in b m j == 1)) i) (phase-same b m n k s i h)
       ∙ ap (λ x. phase_in b n i == 1 && x)
-        (previous-below (λ j. not (phase_in b m j == 1)) (λ j. not (phase_in b n j == 1)) i (λ j l. ap (λ p. not (p == 1)) (phase-same b m n k s j (omega arith))))
+      (previous-below (λ j. not (phase_in b m j == 1)) (λ j. not (phase_in b n j == 1)) i (λ j l. ap (λ p. not (p == 1)) (phase-same b m n k s j (omega arith))))
 
-  cockpit-same : SameCockpit (cockpit b m) (cockpit b n) k
+  pub cockpit-same : SameCockpit (cockpit b m) (cockpit b n) k
   unfolding cockpit
   cockpit-same =
       record {
-        order = refl; is_caution = λ a. refl; up = up-same b m n k s;
-        clr = pressed-same b m n k s Clr; rcl = pressed-same b m n k s Rcl; emer = pressed-same b m n k s Emer;
-        long_recall = long_recall-same (strokes_in b m) (strokes_in b n) k s.strokes; enters_one = enters_one-same }
+        order = refl;
+        is_caution = λ a. refl;
+        up = up-same b m n k s;
+        clr = pressed-same b m n k s Clr;
+        rcl = pressed-same b m n k s Rcl;
+        emer = pressed-same b m n k s Emer;
+        long_recall = long_recall-same (strokes_in b m) (strokes_in b n) k s.strokes;
+        enters_one = enters_one-same;
+      }
 
   pub shown_in-same : (i : ℕ) → i ≤ k → shown_in b m i ≡ shown_in b n i
   unfolding shown_in
@@ -87,8 +89,8 @@ module _ (b : Book) (m n : ℕ → Moment) (k : ℕ) (s : SameUpTo b m n k) wher
   unfolding is_open attention
   open-same a i h =
       since-below (rise (up_in b m a)) (rise (up_in b n a)) (λ j. not (acknowledges (attention b m) (alert_at b a).level j)) (λ j. not (acknowledges (attention b n) (alert_at b a).level j)) i
-          (λ j l. rise-below (up_in b m a) (up_in b n a) j (λ x y. up-same b m n k s a x (omega arith)))
-          (λ j l. ap not (acknowledges-same (alert_at b a).level j (omega arith)))
+      (λ j l. rise-below (up_in b m a) (up_in b n a) j (λ x y. up-same b m n k s a x (omega arith)))
+      (λ j l. ap not (acknowledges-same (alert_at b a).level j (omega arith)))
 
   lit-same : (p : Level → Bool) (i : ℕ) → i ≤ k → list_any (λ a. p (alert_at b a).level && is_open (attention b m) a i) (shown_in b m i) ≡ list_any (λ a. p (alert_at b a).level && is_open (attention b n) a i) (shown_in b n i)
   lit-same p i h =
@@ -107,7 +109,7 @@ module _ (b : Book) (m n : ℕ → Moment) (k : ℕ) (s : SameUpTo b m n k) wher
   unfolding chimes attention
   chimes-same a i h =
       ap (λ x. (is_two (alert_at b a).level && is_chime (alert_at b a).sound) && (x && is_open (attention b m) a i))
-          (once_within-below 4 (rise (up_in b m a)) (rise (up_in b n a)) i (λ j l. rise-below (up_in b m a) (up_in b n a) j (λ x y. up-same b m n k s a x (omega arith))))
+      (once_within-below 4 (rise (up_in b m a)) (rise (up_in b n a)) i (λ j l. rise-below (up_in b m a) (up_in b n a) j (λ x y. up-same b m n k s a x (omega arith))))
       ∙ ap (λ x. (is_two (alert_at b a).level && is_chime (alert_at b a).sound) && (once_within 4 (rise (up_in b n a)) i && x)) (open-same a i h)
 
   sound-step : (o : Option ℕ) (i : ℕ) → i ≤ k → sound_of (attention b m) o i ≡ sound_of (attention b n) o i
@@ -115,13 +117,13 @@ module _ (b : Book) (m n : ℕ → Moment) (k : ℕ) (s : SameUpTo b m n k) wher
   sound-step (Some a) i h = refl
   sound-step None i h =
       ap (λ x. if x then Chime else Quiet)
-          (any-agree (λ a. chimes (attention b m) a i) (λ a. chimes (attention b n) a i) (shown_in b m i) (λ a. chimes-same a i h)
-           ∙ ap (list_any (λ a. chimes (attention b n) a i)) (shown_in-same i h))
+      (any-agree (λ a. chimes (attention b m) a i) (λ a. chimes (attention b n) a i) (shown_in b m i) (λ a. chimes-same a i h)
+      ∙ ap (list_any (λ a. chimes (attention b n) a i)) (shown_in-same i h))
 
   pub sound-same : (i : ℕ) → i ≤ k → sound (attention b m) i ≡ sound (attention b n) i
   unfolding sound attention
   sound-same i h =
       ap (λ o. sound_of (attention b m) o i)
-          (find-agree (λ a. is_three (alert_at b a).level && is_open (attention b m) a i) (λ a. is_three (alert_at b a).level && is_open (attention b n) a i) (shown_in b m i) (λ a. ap (λ x. is_three (alert_at b a).level && x) (open-same a i h))
-           ∙ ap (find (λ a. is_three (alert_at b a).level && is_open (attention b n) a i)) (shown_in-same i h))
+      (find-agree (λ a. is_three (alert_at b a).level && is_open (attention b m) a i) (λ a. is_three (alert_at b a).level && is_open (attention b n) a i) (shown_in b m i) (λ a. ap (λ x. is_three (alert_at b a).level && x) (open-same a i h))
+      ∙ ap (find (λ a. is_three (alert_at b a).level && is_open (attention b n) a i)) (shown_in-same i h))
       ∙ sound-step (find (λ a. is_three (alert_at b a).level && is_open (attention b n) a i) (shown_in b n i)) i h

@@ -1,16 +1,15 @@
 -- Two accounts of the moments that agree up to a moment give the same situation in it: the same values, phase, and
 -- alerts. Where no condition asks for a computer, they needn't agree in which computers are up.
-use Rattle.std.proofs.Common.{◌≡◌, ℕ, zero, suc, ◌<◌, ◌≤◌, Bool, true, false, not, ◌&&◌, ◌||◌, ◌==◌, ◌⊎◌, inl, inr, List, [], ◌∷◌, ◌++◌, get_or, refl, sym, ◌∙◌, ap, cond, arith}
+use Rattle.std.proofs.Common.{◌≡◌, ℕ, zero, suc, ◌≤◌, Bool, true, false, not, ◌&&◌, ◌||◌, ◌==◌, ◌⊎◌, inl, inr, List, [], ◌∷◌, ◌++◌, get_or, refl, ◌∙◌, ap, arith}
 use Rattle.std.specs.Prelude.{if◌then◌else◌}
 use Rattle.std.specs.List.{list_any}
 use Rattle.ecam_spec.specs.declared.kinds.Key.{Key}
-use Rattle.ecam_spec.specs.Past.{Signal, since}
-use Rattle.ecam_spec.specs.Book.{Tree, constant, Alert, Book}
+use Rattle.ecam_spec.specs.Past.{Signal}
+use Rattle.ecam_spec.specs.Book.{Tree, constant, Book}
 use Rattle.ecam_spec.specs.BookTerms.{phase_terms}
 use Rattle.ecam_spec.specs.DraftFaults.{has_atom}
 use Rattle.ecam_spec.specs.Computers.{asks_computer, names_computer}
-use Rattle.ecam_spec.specs.Term.{World, holds, in_set}
-use Rattle.ecam_spec.specs.Phase.{Flight, phase}
+use Rattle.ecam_spec.specs.Term.{holds, in_set}
 use Rattle.ecam_spec.specs.History.{Flags, Moment}
 use Rattle.ecam_spec.specs.Keys.{pressed}
 use Rattle.ecam_spec.specs.Alert.{present, active, starred, up}
@@ -19,7 +18,7 @@ use Rattle.ecam_spec.proofs.PastAgree.{since-below, historically_within-below}
 use Rattle.ecam_spec.proofs.TermNames.{holds-below}
 use Rattle.ecam_spec.proofs.ValueAgree.{value-below}
 use Rattle.ecam_spec.proofs.PhaseAgree.{SameInputs, phase-agree}
-use Rattle.ecam_spec.proofs.ComputerNames.{Alike, agree-on, map-left, any-at, asks, free-phase, free-when}
+use Rattle.ecam_spec.proofs.ComputerNames.{agree-on, map-left, any-at, asks, free-phase, free-when}
 
 -- two accounts of the moments agree up to moment k in what comes in them; and either no condition of the book asks
 -- for a computer, or they agree in which are up
@@ -38,7 +37,8 @@ same-earlier b m n i k h s =
     record {
       words = λ j l. s.words j (omega arith);
       strokes = λ j l. s.strokes j (omega arith);
-      flags = earlier-flags m n i k h s.flags }
+      flags = earlier-flags m n i k h s.flags;
+    }
 
 -- the sets of signals known so far agree
 abbrev SameKnown : ℕ → List Signal → List Signal → Type 0
@@ -73,13 +73,16 @@ module _ (b : Book) (m n : ℕ → Moment) (k : ℕ) (s : SameUpTo b m n k) wher
   unfolding pressed
   pressed-same key i h = ap (list_any _) (s.strokes i h)
 
-  abbrev SameComputers : ℕ → Type 0
+  abbrev pub SameComputers : ℕ → Type 0
   SameComputers i = (c : ℕ) → computer_up b m c i ≡ computer_up b n c i
 
-  flags-up : {A : Type 0} (i : ℕ) → i ≤ k → A ⊎ ((j : ℕ) → j ≤ k → (m j).flags ≡ (n j).flags) → A ⊎ SameComputers i
+  pub flags-computers : (i : ℕ) → (m i).flags ≡ (n i).flags → SameComputers i
   unfolding computer_up
+  flags-computers i e c = ap (λ (g : Flags). if c == 1 then g.one else g.two) e
+
+  flags-up : {A : Type 0} (i : ℕ) → i ≤ k → A ⊎ ((j : ℕ) → j ≤ k → (m j).flags ≡ (n j).flags) → A ⊎ SameComputers i
   flags-up i h (inl a) = inl a
-  flags-up i h (inr f) = inr (λ c. ap (λ (g : Flags). if c == 1 then g.one else g.two) (f i h))
+  flags-up i h (inr f) = inr (flags-computers i (f i h))
 
   -- the computers are asked for nowhere in the book, or are the same up to now
   pub computers : (i : ℕ) → i ≤ k → (names_computer b ≡ false) ⊎ SameComputers i
@@ -87,12 +90,12 @@ module _ (b : Book) (m n : ℕ → Moment) (k : ℕ) (s : SameUpTo b m n k) wher
 
   -- a condition holds in worlds of these moments alike
   pub holds-same : (f g : ℕ → ℕ) (p q : ℕ → Signal) (c : Tree) (i : ℕ) → i ≤ k → ((j : ℕ) → j ≤ i → f j ≡ g j) → ((a j : ℕ) → j ≤ i → p a j ≡ q a j)
-    → ((j : ℕ) → j ≤ i → (has_atom asks_computer c ≡ false) ⊎ SameComputers j) → holds (world_where b m f p) c i ≡ holds (world_where b n g q) c i
+      → ((j : ℕ) → j ≤ i → (has_atom asks_computer c ≡ false) ⊎ SameComputers j) → holds (world_where b m f p) c i ≡ holds (world_where b n g q) c i
   holds-same f g p q c i h phases actives free =
       holds-below (world_where b m f p) (world_where b n g q) c i
-          (λ j l. agree-on (world_where b m f p) (world_where b n g q) j
-               (record { values = λ x. values-same x j (omega arith); phase = phases j l; active = λ a. actives a j l; pressed = λ key. pressed-same key j (omega arith) })
-               c (free j l))
+      (λ j l. agree-on (world_where b m f p) (world_where b n g q) j
+      (record { values = λ x. values-same x j (omega arith); phase = phases j l; active = λ a. actives a j l; pressed = λ key. pressed-same key j (omega arith) })
+      c (free j l))
 
   -- the phase's conditions, and so the phase
   flight-holds : (c : Tree) (i : ℕ) → i ≤ k → ((j : ℕ) → j ≤ i → (has_atom asks_computer c ≡ false) ⊎ SameComputers j) → holds (world_where b m (λ x. 0) (λ a x. false)) c i ≡ holds (world_where b n (λ x. 0) (λ a x. false)) c i
@@ -112,7 +115,8 @@ module _ (b : Book) (m n : ℕ → Moment) (k : ℕ) (s : SameUpTo b m n k) wher
         tp = flight-holds b.phase.tp i h (input-free 2 i h);
         fast = flight-holds b.phase.fast i h (input-free 3 i h);
         high = flight-holds b.phase.high i h (input-free 4 i h);
-        low = flight-holds b.phase.low i h (input-free 5 i h) }
+        low = flight-holds b.phase.low i h (input-free 5 i h);
+      }
 
   pub phase-same : (i : ℕ) → i ≤ k → phase_in b m i ≡ phase_in b n i
   unfolding phase_in
@@ -123,7 +127,7 @@ module _ (b : Book) (m n : ℕ → Moment) (k : ℕ) (s : SameUpTo b m n k) wher
   unfolding condition
   condition-same ps qs a i known h =
       holds-same (phase_in b m) (phase_in b n) (λ x. get_or ps x (λ j. false)) (λ x. get_or qs x (λ j. false)) (alert_at b a).when i h
-          (λ j l. phase-same j (omega arith)) (λ x j l. known-at k ps qs known x j (omega arith)) (λ j l. free-when b (computers j (omega arith)) a)
+      (λ j l. phase-same j (omega arith)) (λ x j l. known-at k ps qs known x j (omega arith)) (λ j l. free-when b (computers j (omega arith)) a)
 
   present-knowing-same : (ps qs : List Signal) (a i : ℕ) → SameKnown k ps qs → i ≤ k → present_knowing b m ps a i ≡ present_knowing b n qs a i
   unfolding present_knowing present
@@ -138,17 +142,17 @@ module _ (b : Book) (m n : ℕ → Moment) (k : ℕ) (s : SameUpTo b m n k) wher
   unfolding active_knowing active
   active-knowing-same ps qs a i known h =
       since-below (λ j. present_knowing b m ps a j && not (inhibited b m a j)) (λ j. present_knowing b n qs a j && not (inhibited b n a j)) (present_knowing b m ps a) (present_knowing b n qs a) i
-          (λ j l.
-              ap (λ x. x && not (inhibited b m a j)) (present-knowing-same ps qs a j known (omega arith))
-              ∙ ap (λ x. present_knowing b n qs a j && not x) (inhibited-same a j (omega arith)))
-          (λ j l. present-knowing-same ps qs a j known (omega arith))
+      (λ j l.
+      ap (λ x. x && not (inhibited b m a j)) (present-knowing-same ps qs a j known (omega arith))
+      ∙ ap (λ x. present_knowing b n qs a j && not x) (inhibited-same a j (omega arith)))
+      (λ j l. present-knowing-same ps qs a j known (omega arith))
 
   known-same : (a : ℕ) → SameKnown k (known_below b m a) (known_below b n a)
   unfolding known_below
   known-same zero = tt
   known-same (suc a) =
       known-more k (known_below b m a) (known_below b n a) (active_knowing b m (known_below b m a) a) (active_knowing b n (known_below b n a) a) (known-same a)
-          (λ i h. active-knowing-same (known_below b m a) (known_below b n a) a i (known-same a) h)
+      (λ i h. active-knowing-same (known_below b m a) (known_below b n a) a i (known-same a) h)
 
   pub present-same : (a i : ℕ) → i ≤ k → present_in b m a i ≡ present_in b n a i
   unfolding present_in

@@ -4,5 +4,6 @@ pub mod accounts;
 pub mod alerts;
 pub mod conditions;
 pub mod crew;
+pub mod failures;
 pub mod history;
 pub mod phases;

@@ -1,12 +1,12 @@
 -- Eight hexadecimal digits, as `hex` decodes them.
-use Rattle.std.proofs.Common.{◌≡◌, ℕ, zero, suc, ◌+◌, ◌*◌, ◌/◌, ◌%◌, ◌<◌, ◌≤◌, ◌==◌, Bool, true, false, ◌&&◌, ◌⊎◌, inl, inr, List, [], ◌∷◌, length, Option, Some, None, cond, leb, refl, sym, ◌∙◌, ap, subst, arith, w32, Ok, Err, Result}
-use Rattle.std.proofs.lemmas.Bool.{cases_eq, ne_eqb, and_left}
+use Rattle.std.proofs.Common.{◌≡◌, ℕ, zero, suc, ◌+◌, ◌*◌, Bool, true, false, ◌&&◌, ◌⊎◌, inl, inr, List, [], ◌∷◌, length, Some, None, refl, sym, ◌∙◌, ap, subst, arith, w32, Ok, Err, Result}
+use Rattle.std.proofs.lemmas.Bool.{cases_eq}
 use Rattle.std.proofs.lemmas.Bool.Decides.{nat_tests}
-use Rattle.std.specs.Prelude.{fold, MatchResult, nat_le, if◌then◌else◌}
+use Rattle.std.specs.Prelude.{fold, MatchResult, nat_le}
 use Rattle.std.specs.List.{list_all}
 use Rattle.std.specs.Int.{from_be_bytes}
 use Rattle.hex.specs.declared.error.FromHexError.{FromHexError}
-use Rattle.hex.specs.Hex.{◌>>=◌, decode_pairs, decode_sized, hex_digit_value, value_at, pair_value, digit_or_error}
+use Rattle.hex.specs.Hex.{◌>>=◌, decode_pairs, decode_sized, hex_digit_value}
 use Rattle.ecam_spec.specs.RecordLine.{digit_of, bits_of}
 
 -- a digit by both readings
@@ -40,8 +40,8 @@ one_pair n high low rest (Ok bytes) h l told = record {
   all = rw (h, l) told.all;
   length_is = ap suc told.length_is;
   value = λ m.
-    let shift : (m * 16 + digit_of high) * 16 + digit_of low ≡ m * 256 + (digit_of high * 16 + digit_of low) = omega arith in
-    told.value ((m * 16 + digit_of high) * 16 + digit_of low) ∙ ap (λ k. fold (λ n b. n * 256 + b) k bytes) shift;
+      let shift : (m * 16 + digit_of high) * 16 + digit_of low ≡ m * 256 + (digit_of high * 16 + digit_of low) = omega arith in
+      told.value ((m * 16 + digit_of high) * 16 + digit_of low) ∙ ap (λ k. fold (λ n b. n * 256 + b) k bytes) shift;
 }
 one_pair n high low rest (Err e) h l told = rw (h, l) told
 
@@ -53,9 +53,9 @@ pairs i zero (high ∷ low ∷ rest) len = absurd (omega arith)
 pairs i (suc n) (high ∷ low ∷ rest) len =
     elim (digit_cases high) [
       | inl h ↦ elim (digit_cases low) [
-          | inl l ↦ rw (h.0, l.0) (one_pair n high low rest (decode_pairs (i + 2) rest) h.1 l.1 (pairs (i + 2) n rest (omega arith)))
-          | inr l ↦ rw (h.0, l.0, l.1) (and_false (nat_le (digit_of high) 15))
-        ]
+        | inl l ↦ rw (h.0, l.0) (one_pair n high low rest (decode_pairs (i + 2) rest) h.1 l.1 (pairs (i + 2) n rest (omega arith)))
+        | inr l ↦ rw (h.0, l.0, l.1) (and_false (nat_le (digit_of high) 15))
+      ]
       | inr h ↦ rw (h.0, h.1) refl
     ]
   where

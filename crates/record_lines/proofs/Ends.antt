@@ -1,18 +1,16 @@
 -- Sound texts at the end of the input, and what their events are the begin of.
-use Rattle.std.proofs.Common.{◌≡◌, ℕ, zero, suc, ◌+◌, ◌-◌, ◌<◌, ◌≤◌, Bool, true, false, ◌==◌, List, [], ◌∷◌, ◌++◌, length, take, drop, Option, Some, None, cond, refl, sym, ◌∙◌, ap, arith, length-append, append-nil, append_assoc, add-zero, length-drop}
+use Rattle.std.proofs.Common.{◌≡◌, ℕ, zero, suc, ◌+◌, ◌-◌, ◌<◌, ◌≤◌, Bool, true, false, List, [], ◌++◌, length, drop, Option, Some, None, cond, refl, sym, ◌∙◌, ap, arith, length-append, append-nil, append_assoc, add-zero, length-drop}
 use Rattle.std.proofs.lemmas.Bool.{lt-ltb, le-ltb}
 use Rattle.std.proofs.lemmas.List.{take_all}
 use Rattle.std.specs.Option.{option_or}
-use Rattle.std.specs.Prelude.{unwrap_or, nat_lt, if◌then◌else◌}
+use Rattle.std.specs.Prelude.{unwrap_or, nat_lt}
 use Rattle.ecam_spec.specs.declared.kinds.Event.{Event}
 use Rattle.ecam_spec.specs.declared.kinds.FaultKind.TheVariants.{Cut, NoEnd}
-use Rattle.ecam_spec.specs.declared.kinds.RecordFault.{RecordFault}
-use Rattle.ecam_spec.specs.Past.{once, previous}
 use Rattle.ecam_spec.specs.Places.{first_place}
-use Rattle.ecam_spec.specs.Record.{is_feed, line_begin, line_before, line_number, ends_record, is_wrong, wrong_place, sound_length, wrong_end, fault_at, fault, events}
+use Rattle.ecam_spec.specs.Record.{is_feed, line_begin, line_before, is_wrong, wrong_place, sound_length, wrong_end, fault_at, fault, events}
 use Rattle.record_lines.specs.Reads.{last_line, last_number, is_over, BeginEvents}
 use Rattle.record_lines.proofs.Prefix.{first_place-suc}
-use Rattle.record_lines.proofs.Steps.{said, said-suc, said-prefix, line_events, line_begin-le}
+use Rattle.record_lines.proofs.Steps.{said, said-suc, said-prefix, line_events}
 use Rattle.record_lines.proofs.Sound.{sound-prefix, events-sound}
 
 -- ---- at the end of the input
@@ -88,8 +86,9 @@ module _ (limit : ℕ) (text : List ℕ) (sound : wrong_place text limit ≡ Non
       let stop : ℕ = unwrap_or (first_place p (length (text ++ more))) (length (text ++ more)) in
       let after : length text ≤ stop = rw len (first_place-after p (length text) (length more) (sound-prefix limit text sound more)) in
       let over : stop ≡ length text + (stop - length text) = omega arith in
-      let many = said-many (text ++ more) (length text) (stop - length text) in
-      (many.0,
+      let many = said-many (text ++ more) (length text) (stop - length text) in (
+        many.0,
         ap (said (text ++ more)) over
-        ∙ many.1
-        ∙ ap (λ l. l ++ many.0) (said-prefix text more (length text) (omega arith) ∙ sym (events-sound limit text sound)))
+            ∙ many.1
+            ∙ ap (λ l. l ++ many.0) (said-prefix text more (length text) (omega arith) ∙ sym (events-sound limit text sound)),
+      )

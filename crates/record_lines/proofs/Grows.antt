@@ -1,20 +1,19 @@
 -- Sound texts that grow: by the bytes of a line, and by the line feed that ends it.
-use Rattle.std.proofs.Common.{◌≡◌, ℕ, zero, suc, ◌+◌, ◌*◌, ◌<◌, ◌≤◌, Bool, true, false, not, ◌&&◌, ◌||◌, ◌==◌, List, [], ◌∷◌, ◌++◌, length, get_or, Option, Some, None, cond, refl, sym, ◌∙◌, ap, subst, arith, length-append, append-nil, append_assoc}
+use Rattle.std.proofs.Common.{◌≡◌, ℕ, suc, ◌+◌, ◌<◌, ◌≤◌, Bool, true, false, not, ◌&&◌, ◌||◌, ◌==◌, List, [], ◌∷◌, ◌++◌, length, get_or, Option, Some, None, cond, refl, sym, ◌∙◌, ap, subst, arith, length-append, append-nil, append_assoc}
 use Rattle.std.proofs.lemmas.Bool.{lt-leb, le-leb, ne_eqb, eq-eqb}
 use Rattle.std.specs.List.{filter}
 use Rattle.std.specs.Option.{option_to_list, option_map, option_and_then}
 use Rattle.std.specs.Str.{bytes_eq}
-use Rattle.std.specs.Prelude.{is_none, codes, nat_le, if◌then◌else◌, drop}
+use Rattle.std.specs.Prelude.{codes, if◌then◌else◌, drop}
 use Rattle.std.proofs.lemmas.Slice.Eq.{bytes_eq-Decides}
 use Rattle.ecam_spec.specs.declared.kinds.Event.{Event}
 use Rattle.ecam_spec.specs.declared.kinds.Event.TheVariants.{Word, Tick, Press, Release, Fail, Up, End}
-use Rattle.ecam_spec.specs.declared.kinds.FaultKind.{FaultKind}
 use Rattle.ecam_spec.specs.declared.kinds.FaultKind.TheVariants.{Long, Form, AfterEnd, Limit}
 use Rattle.ecam_spec.specs.RecordLine.{event_of, is_end, is_end_event, begins_with, word_event as word_of, key_of, computer_of, bits_of, bus_of}
 use Rattle.ecam_spec.specs.Record.{wrong_place, events}
 use Rattle.record_lines.specs.Reads.{last_line, last_number, is_over}
 use Rattle.record_lines.proofs.Steps.{said, line_events}
-use Rattle.record_lines.proofs.Sound.{verdict, sound-more, events-sound, last_line-more, last_number-more, is_over-more, said-more, length-more}
+use Rattle.record_lines.proofs.Sound.{verdict, sound-more, events-sound, last_line-more, last_number-more, is_over-more, said-more}
 
 -- ---- the verdict on a byte
 
@@ -114,9 +113,9 @@ pub is_end-event : (line : List ℕ) (event : Event) → event_of line ≡ Some 
 unfolding is_end
 is_end-event line event some =
     is_end-cases (bytes_eq line (codes "T")) (is_end line) (forms_after line) event
-        (λ e. let h : line ≡ codes "E" = (bytes_eq-Decides line (codes "E")).0 e in ap (λ l. bytes_eq l (codes "T")) h)
-        (no_end-after line)
-        (sym (event_of-cases line) ∙ some)
+    (λ e. let h : line ≡ codes "E" = (bytes_eq-Decides line (codes "E")).0 e in ap (λ l. bytes_eq l (codes "T")) h)
+    (no_end-after line)
+    (sym (event_of-cases line) ∙ some)
 
 -- the events that one event adds
 abbrev pub added : Event → List Event
@@ -154,7 +153,7 @@ module _ (limit : ℕ) where
         number_is = last_number-more text byte ∙ ap (λ b. cond b (last_number text + 1) (last_number text)) other;
         over_is = is_over-more text byte ∙ ap (λ b. (b && is_end (last_line text)) || is_over text) other ∙ lasting;
         events_are = events-sound limit (text ++ byte ∷ []) longer ∙ said-more text byte ∙ ap (λ b. said text (length text) ++ cond b (line_events (last_line text)) []) other
-        ∙ ap (λ l. l ++ []) (sym (events-sound limit text sound));
+            ∙ ap (λ l. l ++ []) (sym (events-sound limit text sound));
       }
 
   -- by the bytes of a line
@@ -194,7 +193,7 @@ module _ (limit : ℕ) where
         number_is = last_number-more text 10;
         over_is = is_over-more text 10 ∙ ap (λ b. is_end (last_line text) || b) lasting ∙ or-false (is_end (last_line text)) ∙ is_end-event (last_line text) event some;
         events_are = events-sound limit (text ++ 10 ∷ []) longer ∙ said-more text 10 ∙ ap (λ l. said text (length text) ++ l) (line_events-some (last_line text) event some)
-        ∙ ap (λ l. l ++ added event) (sym (events-sound limit text sound));
+            ∙ ap (λ l. l ++ added event) (sym (events-sound limit text sound));
       }
     where
       or-false : (b : Bool) → (b || false) ≡ b

@@ -8,4 +8,8 @@ pub mod Numbers
 pub mod Bits
 pub mod Forms
 pub mod Pieces
-pub mod Readers
+pub mod Went
+pub mod Refusals
+pub mod Progress
+pub mod Calls
+pub mod Callers

@@ -1,18 +1,18 @@
 -- The numbers of a line, against the lists of numbers that its form allows.
-use Rattle.std.proofs.Common.{◌≡◌, ℕ, zero, suc, ◌+◌, ◌<◌, ◌==◌, Bool, true, false, ◌&&◌, List, [], ◌∷◌, ◌++◌, length, get_or, take, drop, Option, Some, None, cond, eqb, refl, sym, ◌∙◌, ap, arith, inl, inr}
+use Rattle.std.proofs.Common.{◌≡◌, ℕ, zero, suc, ◌+◌, ◌<◌, Bool, true, false, ◌&&◌, List, [], ◌∷◌, ◌++◌, length, get_or, take, drop, Option, Some, None, cond, eqb, refl, sym, ◌∙◌, ap, arith, inl, inr}
 use Rattle.std.proofs.lemmas.Bool.{eqb-true, and_parts, cases_eq, ne_eqb, false≢true, false_from_ne_true}
 use Rattle.std.proofs.lemmas.Slice.Eq.{bytes_eq-Decides}
 use Rattle.std.proofs.lemmas.List.Folds.{find-append}
 use Rattle.std.proofs.lemmas.List.{take-append-drop, get_or-drop}
 use Rattle.std.specs.Option.{option_or}
-use Rattle.std.specs.Prelude.{find, map, decimal, codes, option_map, if◌then◌else◌}
+use Rattle.std.specs.Prelude.{find, map, decimal, codes, option_map}
 use Rattle.std.specs.Fmt.{digits}
 use Rattle.std.specs.Str.{bytes_eq}
 use Rattle.ecam_spec.specs.declared.kinds.Key.{Key}
 use Rattle.ecam_spec.specs.declared.kinds.Key.TheVariants.{Clr, Rcl, Sts, All, Emer, ToCfg, Mw, Mc, Page}
 use Rattle.ecam_spec.specs.Places.{below}
 use Rattle.ecam_spec.specs.RecordLine.{bus_of, computer_of, key_of, key_words}
-use Rattle.record_lines.specs.Line.{number_of, number_within, named_key_of}
+use Rattle.record_lines.specs.Line.{number_within, named_key_of}
 
 -- ---- two functions that agree at each number below a bound, by computing
 
@@ -149,10 +149,10 @@ unfolding page_entries
 other_keys word [] other = refl
 other_keys word (n ∷ ns) other =
     let apart : bytes_eq word (codes "PG" ++ decimal n) ≡ false =
-      false_from_ne_true (bytes_eq word (codes "PG" ++ decimal n)) (λ same.
-        let is : word ≡ codes "PG" ++ decimal n = (bytes_eq-Decides word (codes "PG" ++ decimal n)).0 same in
-        let begins : bytes_eq (take 2 word) (codes "PG") ≡ true = ap (λ w. bytes_eq (take 2 w) (codes "PG")) is in
-        false≢true (sym other ∙ begins)) in
+    false_from_ne_true (bytes_eq word (codes "PG" ++ decimal n)) (λ same.
+    let is : word ≡ codes "PG" ++ decimal n = (bytes_eq-Decides word (codes "PG" ++ decimal n)).0 same in
+    let begins : bytes_eq (take 2 word) (codes "PG") ≡ true = ap (λ w. bytes_eq (take 2 w) (codes "PG")) is in
+    false≢true (sym other ∙ begins)) in
     ap (λ b. cond b (Some (codes "PG" ++ decimal n, Page n)) (find (λ k. bytes_eq word k.0) (page_entries ns))) apart ∙ other_keys word ns other
 
 option_or-None : {X : Type 0} (o : Option X) → option_or o None ≡ o
@@ -189,6 +189,6 @@ key_of-prefix word number begins is bytes =
     let len = ap length whole in
     ap key_of whole
     ∙ key_of-page number (λ k h.
-        let known : get_or word (2 + k) 0 < 256 = bytes (2 + k) (omega arith) in
-        let read : get_or word (2 + k) 0 ≡ get_or number k 0 = sym (get_or-drop 2 word k 0) ∙ ap (λ l. get_or l k 0) (sym is) in
-        omega arith)
+    let known : get_or word (2 + k) 0 < 256 = bytes (2 + k) (omega arith) in
+    let read : get_or word (2 + k) 0 ≡ get_or number k 0 = sym (get_or-drop 2 word k 0) ∙ ap (λ l. get_or l k 0) (sym is) in
+    omega arith)

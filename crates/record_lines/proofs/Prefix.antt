@@ -1,16 +1,12 @@
 -- What the record's definitions say of a place does not hang on the bytes from that place on.
-use Rattle.std.proofs.Common.{◌≡◌, ℕ, zero, suc, ◌+◌, ◌<◌, ◌≤◌, Bool, true, false, not, ◌&&◌, ◌||◌, ◌==◌, List, [], ◌∷◌, ◌++◌, length, get_or, take, drop, Option, Some, None, cond, refl, sym, ◌∙◌, ap, arith, add-zero}
+use Rattle.std.proofs.Common.{◌≡◌, ℕ, zero, suc, ◌+◌, ◌<◌, ◌≤◌, Bool, true, false, ◌&&◌, ◌==◌, List, ◌++◌, length, take, drop, Option, Some, None, cond, refl, sym, ◌∙◌, ap, arith, add-zero}
 use Rattle.std.proofs.Math.ListN.{get_or-append}
 use Rattle.std.proofs.lemmas.List.{take-append-le}
-use Rattle.std.proofs.lemmas.List.Elements.{filter-append, filter_map-append}
 use Rattle.std.specs.Option.{option_or}
-use Rattle.std.specs.List.{filter, filter_map}
-use Rattle.std.specs.Prelude.{option_to_list}
-use Rattle.ecam_spec.specs.declared.kinds.Event.{Event}
 use Rattle.ecam_spec.specs.Past.{Signal, once, previous, last, next, count_up_to}
-use Rattle.ecam_spec.specs.Places.{below, first_place}
-use Rattle.ecam_spec.specs.RecordLine.{event_of, is_end, is_end_event}
-use Rattle.ecam_spec.specs.Record.{is_feed, line_begin, line_before, line_number, ends_record, wrong_at, is_wrong}
+use Rattle.ecam_spec.specs.Places.{first_place}
+use Rattle.ecam_spec.specs.RecordLine.{is_end}
+use Rattle.ecam_spec.specs.Record.{is_feed, line_begin, line_before, line_number, ends_record, wrong_at}
 use Rattle.ecam_spec.proofs.PastSteps.{last-suc, once-below}
 
 -- ---- signals that agree

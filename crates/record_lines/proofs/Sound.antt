@@ -1,18 +1,15 @@
 -- Texts in which no place is wrong: one more byte, one more line, a wrong byte, the end.
-use Rattle.std.proofs.Common.{◌≡◌, ℕ, zero, suc, ◌+◌, ◌*◌, ◌<◌, ◌≤◌, Bool, true, false, not, ◌&&◌, ◌||◌, ◌==◌, leb, List, [], ◌∷◌, ◌++◌, length, get_or, take, drop, Option, Some, None, cond, refl, sym, ◌∙◌, ap, arith, length-append, append-nil, append_assoc, add-zero}
-use Rattle.std.proofs.Math.Seq.{get_or-append_seam, take-append_seam}
+use Rattle.std.proofs.Common.{◌≡◌, ℕ, suc, ◌+◌, Bool, false, not, ◌&&◌, ◌||◌, ◌==◌, List, [], ◌∷◌, ◌++◌, length, Option, Some, None, cond, refl, sym, ◌∙◌, ap, arith, length-append}
+use Rattle.std.proofs.Math.Seq.{get_or-append_seam}
 use Rattle.std.specs.Option.{option_or}
-use Rattle.std.specs.Prelude.{is_some, is_none, unwrap_or, nat_le, nat_lt, if◌then◌else◌}
-use Rattle.ecam_spec.specs.declared.kinds.Event.{Event}
+use Rattle.std.specs.Prelude.{is_some, is_none, unwrap_or, nat_le, if◌then◌else◌}
 use Rattle.ecam_spec.specs.declared.kinds.FaultKind.{FaultKind}
-use Rattle.ecam_spec.specs.declared.kinds.FaultKind.TheVariants.{Long, Form, Cut, NoEnd, AfterEnd, Limit}
-use Rattle.ecam_spec.specs.declared.kinds.RecordFault.{RecordFault}
-use Rattle.ecam_spec.specs.Past.{Signal, once, previous}
+use Rattle.ecam_spec.specs.declared.kinds.FaultKind.TheVariants.{Long, Form, AfterEnd, Limit}
 use Rattle.ecam_spec.specs.Places.{first_place}
 use Rattle.ecam_spec.specs.RecordLine.{event_of, is_end}
-use Rattle.ecam_spec.specs.Record.{is_feed, line_begin, line_before, line_number, ends_record, wrong_at, is_wrong, wrong_place, sound_length, wrong_end, fault_at, fault, events}
+use Rattle.ecam_spec.specs.Record.{line_number, ends_record, wrong_at, is_wrong, wrong_place, sound_length, fault_at, fault, events}
 use Rattle.record_lines.specs.Reads.{last_line, last_number, is_over}
-use Rattle.record_lines.proofs.Prefix.{first_place-suc, first_place-zero, first_place-below, first_place-stays, is_feed-prefix, line_before-prefix, line_number-prefix, ended-prefix, wrong_at-prefix}
+use Rattle.record_lines.proofs.Prefix.{first_place-suc, first_place-below, first_place-stays, line_before-prefix, line_number-prefix, ended-prefix, wrong_at-prefix}
 use Rattle.record_lines.proofs.Steps.{is_feed-here, line_before-suc, line_number-suc, ended-suc, said, said-suc, said-prefix, line_events}
 
 -- ---- what stands at the end of a longer text
@@ -82,7 +79,7 @@ module _ (limit : ℕ) (text : List ℕ) (sound : wrong_place text limit ≡ Non
   unfolding wrong_place
   sound-prefix more =
       first_place-below (is_wrong (text ++ more) limit) (is_wrong text limit) (length text)
-          (λ i h. ap is_some (wrong_at-prefix text more limit i h))
+      (λ i h. ap is_some (wrong_at-prefix text more limit i h))
       ∙ sound
 
   pub events-sound : events text limit ≡ said text (length text)

@@ -1,18 +1,17 @@
 -- What the record's definitions say of a text with one more byte.
-use Rattle.std.proofs.Common.{◌≡◌, ℕ, zero, suc, ◌+◌, ◌<◌, ◌≤◌, Bool, true, false, not, ◌&&◌, ◌||◌, ◌==◌, List, [], ◌∷◌, ◌++◌, length, get_or, take, drop, Option, Some, None, cond, refl, sym, ◌∙◌, ap, arith, length-append, append-nil, append_assoc, add-zero}
-use Rattle.std.proofs.Math.Seq.{get_or-append_seam, take-append_seam, drop-append_seam, take-suc}
+use Rattle.std.proofs.Common.{◌≡◌, ℕ, zero, suc, ◌+◌, ◌<◌, ◌≤◌, Bool, true, false, not, ◌||◌, ◌==◌, List, [], ◌∷◌, ◌++◌, length, get_or, take, drop, Option, Some, None, cond, refl, sym, ◌∙◌, ap, arith}
+use Rattle.std.proofs.Math.Seq.{get_or-append_seam, take-suc}
 use Rattle.std.proofs.lemmas.List.{drop-append-le, drop_all, length-take-le}
 use Rattle.std.proofs.lemmas.List.Elements.{filter-append, filter_map-append}
-use Rattle.std.specs.Option.{option_or, option_to_list}
+use Rattle.std.specs.Option.{option_to_list}
 use Rattle.std.specs.List.{filter, filter_map, cons_option}
-use Rattle.std.specs.Prelude.{is_some, if◌then◌else◌}
 use Rattle.ecam_spec.specs.declared.kinds.Event.{Event}
 use Rattle.ecam_spec.specs.Past.{Signal, once, previous, last, next, count_up_to}
-use Rattle.ecam_spec.specs.Places.{below, first_place}
-use Rattle.ecam_spec.specs.RecordLine.{event_of, is_end, is_end_event}
-use Rattle.ecam_spec.specs.Record.{is_feed, line_begin, line_before, line_number, ends_record}
+use Rattle.ecam_spec.specs.Places.{below}
+use Rattle.ecam_spec.specs.RecordLine.{event_of, is_end_event}
+use Rattle.ecam_spec.specs.Record.{is_feed, line_begin, line_before, line_number}
 use Rattle.ecam_spec.proofs.PastSteps.{last-suc}
-use Rattle.record_lines.proofs.Prefix.{last-zero, count-suc, count-zero, is_feed-prefix, line_before-prefix, line_number-prefix, ended-prefix}
+use Rattle.record_lines.proofs.Prefix.{last-zero, count-suc, count-zero, is_feed-prefix, line_before-prefix}
 
 -- the byte stands at the place after the text
 pub is_feed-here : (text : List ℕ) (byte : ℕ) (more : List ℕ) → is_feed (text ++ byte ∷ more) (length text) ≡ (byte == 10)

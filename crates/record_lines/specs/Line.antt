@@ -1,7 +1,6 @@
 -- The parts of a line's words.
-use Rattle.std.specs.Prelude.{ℕ, ◌+◌, ◌-◌, ◌==◌, ◌&&◌, nat_le, List, [], ◌∷◌, take, find, map, Option, None, Some, option_map, decimal, if◌then◌else◌}
+use Rattle.std.specs.Prelude.{ℕ, ◌+◌, ◌-◌, ◌==◌, ◌&&◌, nat_le, List, [], ◌∷◌, take, find, Option, None, Some, option_map, if◌then◌else◌}
 use Rattle.ecam_spec.specs.declared.kinds.Key.{Key}
-use Rattle.ecam_spec.specs.Places.{below}
 use Rattle.ecam_spec.specs.Picture.{same_text}
 use Rattle.ecam_spec.specs.RecordLine.{key_words}
 

@@ -6,6 +6,8 @@ mod line;
 mod outcome;
 mod piece;
 mod reader;
+#[cfg(test)]
+mod tests;
 
 pub use ecam_spec::{Event, FaultKind, Key, RecordFault};
 pub use outcome::LineError;

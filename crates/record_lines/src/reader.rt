@@ -7,14 +7,13 @@ ghost use Rattle.record_lines.specs.Reader.{room, settled, kept_answer, cost, fa
 ghost use Rattle.record_lines.specs.Reads.{Reads, Tells, Takes, MeetsEnd, Gives, IsFromBytes, Advances, IsSpent};
 ghost use Rattle.std.specs.Io.KnownBytes.{Consumes};
 
+use crate::line::{event_of, place_of};
+use crate::outcome::{LineError, Stage};
+use crate::piece::Piece;
 use arrayvec::ArrayVec;
 use ecam_io::{Failed, Source};
 use ecam_spec::{Event, FaultKind, RecordFault};
 use std::marker::Model;
-
-use crate::line::{event_of, place_of};
-use crate::outcome::{LineError, Stage};
-use crate::piece::Piece;
 
 // How many bytes a line has at most, without its line feed.
 const LONGEST: usize = 32;
@@ -72,7 +71,7 @@ impl LineReader {
         }
     }
 
-    /// The next event of the record. `End` comes only once the record's last line was read and the source answered
+    /// Answers the next event of the record. `End` comes only once the record's last line was read and the source answered
     /// its end; it is answered again without reading, as is a fault of the record. After `Failed` all bytes taken so
     /// far are kept, and the next call reads again.
     pub fn next<S: Source>(&mut self, source: &mut S) -> Result<Event, LineError>

@@ -3,3 +3,6 @@ mod Limits
 mod Forms
 mod TitleRows
 mod Files
+mod Steps
+mod Built
+mod Endings

@@ -1,10 +1,16 @@
 -- When the running state of a replay of titles stands for a history.
-use Rattle.std.specs.Prelude.{◌≡◌, ℕ, ◌<◌, List, length, get_or, Bool, false}
+use Rattle.std.specs.Prelude.{◌≡◌, ℕ, ◌<◌, List, length, get_or, filter, Bool, false, pos}
 use Rattle.ecam_spec.specs.declared.kinds.Event.{Event}
-use Rattle.ecam_spec.specs.Book.{Book}
-use Rattle.ecam_spec.specs.History.{Moment, era}
+use Rattle.ecam_spec.specs.Book.{Book, Tree}
+use Rattle.ecam_spec.specs.History.{era}
 use Rattle.ecam_spec.specs.Situation.{words_in}
-use Rattle.ecam_spec.specs.Titles.{is_titled}
+use Rattle.ecam_spec.specs.Titles.{discrete_of}
+use Rattle.ecam_spec.specs.Term.{is_so}
+use Rattle.ecam_spec.specs.Value.{BusWord, value}
+use Rattle.ecam_spec.specs.Situation.{parameter_at, alert_at}
+use Rattle.ecam_spec.specs.Screen.{alert_numbers}
+use Rattle.std.specs.Ordering.{int_eq}
+use Rattle.std.specs.Option.{option_and_then}
 use Rattle.ecam_spec.specs.Replay.{moment_of, tick_count, last_picture}
 use Rattle.ecam_kinds.specs.Shown.{picture_of}
 use Rattle.replay_core.specs.Stub.{ParamsFit, ParamsStand}
@@ -22,7 +28,15 @@ pub record Stands (b : Book) (h : List Event) (r : Replay) : Type 0 where
   pub picture : picture_of r.picture ≡ last_picture b h
   pub ticks : r.ticks ≡ tick_count h
 
+-- the discrete of a condition that is one discrete and no more is one, where `words` tells the words of each moment
+abbrev pub is_one : Book → (ℕ → List BusWord) → ℕ → Tree → Bool
+is_one b words k when = is_so (int_eq (pos 1)) (option_and_then (λ p. value (parameter_at b p) words k) (discrete_of when))
+
 -- these are the alerts whose discretes are one in moment k
-pub record AreShown (b : Book) (moments : ℕ → Moment) (k : ℕ) (shown : List Bool) : Type 0 where
+pub record AreShown (b : Book) (words : ℕ → List BusWord) (k : ℕ) (shown : List Bool) : Type 0 where
   pub long : length shown ≡ length b.alerts
-  pub each : (a : ℕ) → a < length b.alerts → get_or shown a false ≡ is_titled b moments a k
+  pub each : (a : ℕ) → a < length b.alerts → get_or shown a false ≡ is_one b words k (alert_at b a).when
+
+-- the alerts whose discretes are one in moment k, by their numbers
+abbrev pub ones : Book → (ℕ → List BusWord) → ℕ → List ℕ
+ones b words k = filter (λ a. is_one b words k (alert_at b a).when) (alert_numbers b)

@@ -5,6 +5,7 @@ mod block;
 mod file;
 mod outcome;
 mod replay;
+mod run;
 mod stub;
 mod titles;
 mod words;

@@ -1,5 +1,5 @@
 -- The steps of a node as the walk's code puts them.
-use Rattle.std.proofs.Common.{◌≡◌, ℕ, ◌+◌, ◌-◌, ◌<◌, ◌≤◌, min, Bool, not, ◌&&◌, ◌||◌, List, cond, eqb, leb, ltb, length, refl, sym, ◌∙◌, ap, subst}
+use Rattle.std.proofs.Common.{◌≡◌, ℕ, ◌+◌, ◌-◌, ◌<◌, min, Bool, not, ◌&&◌, ◌||◌, List, cond, eqb, leb, ltb, length, refl, sym, ◌∙◌, ap, subst}
 use Rattle.std.specs.Prelude.{slice_index, slice_set}
 use Rattle.ecam_spec.specs.Book.{Tree, Trees, confirmed, held, risen, latched}
 use Rattle.ecam_spec.specs.TermSize.{slots}
@@ -35,7 +35,7 @@ arm-confirmed env t c n at own old mid now v answer tree place within inner is-a
     steps-as env t (confirmed c n) at at old (slice_set mid own v) answer (now && leb n (slice_index mid at)) tree refl
     (is-answer ∙ ap (λ i. now && leb n (slice_index mid i)) place)
     (steps-confirmed env c n at old mid (slice_set mid own v) now inner
-        (writes-as at own mid (cond now (min n (slice_index mid at + 1)) 0) v place within (is-cell ∙ ap (λ i. cond now (min n (slice_index mid i + 1)) 0) place)))
+    (writes-as at own mid (cond now (min n (slice_index mid at + 1)) 0) v place within (is-cell ∙ ap (λ i. cond now (min n (slice_index mid i + 1)) 0) place)))
 
 pub arm-held : (env : Env) (t c : Tree) (n at own : ℕ) (old mid : List ℕ) (now : Bool) (v : ℕ) (answer : Bool) → t ≡ held c n → own ≡ at → at < length mid →
     Steps env c (at + 1) old mid now → answer ≡ (now || ltb 0 (slice_index mid own)) → v ≡ cond now n (slice_index mid own - 1) →
@@ -44,7 +44,7 @@ arm-held env t c n at own old mid now v answer tree place within inner is-answer
     steps-as env t (held c n) at at old (slice_set mid own v) answer (now || ltb 0 (slice_index mid at)) tree refl
     (is-answer ∙ ap (λ i. now || ltb 0 (slice_index mid i)) place)
     (steps-held env c n at old mid (slice_set mid own v) now inner
-        (writes-as at own mid (cond now n (slice_index mid at - 1)) v place within (is-cell ∙ ap (λ i. cond now n (slice_index mid i - 1)) place)))
+    (writes-as at own mid (cond now n (slice_index mid at - 1)) v place within (is-cell ∙ ap (λ i. cond now n (slice_index mid i - 1)) place)))
 
 pub arm-risen : (env : Env) (t c : Tree) (at own : ℕ) (old mid : List ℕ) (now : Bool) (v : ℕ) (answer : Bool) → t ≡ risen c → own ≡ at → at < length mid →
     Steps env c (at + 1) old mid now → answer ≡ (now && not (eqb (slice_index mid own) 1)) → v ≡ bit_of now →
@@ -60,5 +60,5 @@ pub arm-latched : (env : Env) (t s r : Tree) (at own : ℕ) (old mid last : List
 arm-latched env t s r at own old mid last set reset v answer tree place within first second is-answer is-cell =
     steps-as env t (latched s r) at at old (slice_set last own v) answer answer tree refl refl
     (steps-latched env s r at old mid last (slice_set last own v) set reset answer first second
-        (is-answer ∙ ap (λ i. not reset && (set || eqb (slice_index last i) 1)) place)
-        (writes-as at own last (bit_of answer) v place within is-cell))
+    (is-answer ∙ ap (λ i. not reset && (set || eqb (slice_index last i) 1)) place)
+    (writes-as at own last (bit_of answer) v place within is-cell))

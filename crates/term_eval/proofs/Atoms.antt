@@ -1,6 +1,6 @@
 -- One step of a condition without slots: no cell changes.
-use Rattle.std.proofs.Common.{◌≡◌, ℕ, suc, ◌+◌, ◌<◌, ◌≤◌, Bool, true, false, List, length, inl, inr, refl, ◌∙◌, ap, eqb, cond, arith}
-use Rattle.std.specs.Prelude.{ℤ, pos, is_some, slice_index}
+use Rattle.std.proofs.Common.{◌≡◌, ℕ, suc, ◌<◌, ◌≤◌, Bool, List, length, inl, inr, refl, ap, eqb, cond, arith}
+use Rattle.std.specs.Prelude.{ℤ, pos, is_some}
 use Rattle.std.specs.Ordering.{int_eq}
 use Rattle.std.proofs.lemmas.Bool.{cases_lt}
 use Rattle.ecam_spec.specs.declared.kinds.Key.{Key}
@@ -8,7 +8,6 @@ use Rattle.ecam_spec.specs.declared.kinds.Op.{Op}
 use Rattle.ecam_spec.specs.Keys.{IsKey}
 use Rattle.ecam_spec.specs.Book.{Tree, constant, discrete, valid, compared, in_phase, alert, press, computer}
 use Rattle.ecam_spec.specs.Term.{World, holds, in_set, is_so, stands}
-use Rattle.ecam_spec.specs.TermSize.{slots}
 use Rattle.ecam_kinds.specs.KeyState.{is_pressed}
 use Rattle.term_eval.specs.declared.env.Env.{Env}
 use Rattle.term_eval.specs.Shown.{Shows, value_of, is_active}
@@ -53,9 +52,9 @@ steps-press env key at cells known = steps-atom env (press key) at cells (is_pre
 
 one_or_two : (env : Env) (w : World) (k n : ℕ) → 1 ≤ n → n ≤ 2 → Shows env w k → cond (eqb n 1) env.one_up env.two_up ≡ w.up n k
 one_or_two env w k n first last shows =
-    elim (cases_lt 1 n)
-    [ inl above ↦ let two : n ≡ 2 = omega arith in rw two shows.two_up
-    | inr below ↦ let one : n ≡ 1 = omega arith in rw one shows.one_up
+    elim (cases_lt 1 n) [
+      | inl above ↦ let two : n ≡ 2 = omega arith in rw two shows.two_up
+      | inr below ↦ let one : n ≡ 1 = omega arith in rw one shows.one_up
     ]
 
 pub steps-computer : (env : Env) (n at : ℕ) (cells : List ℕ) → 1 ≤ n → n ≤ 2 → Steps env (computer n) at cells cells (cond (eqb n 1) env.one_up env.two_up)

@@ -1,5 +1,5 @@
 -- Cells stand for what they stood for while the condition's own slots stay as they were.
-use Rattle.std.proofs.Common.{◌≡◌, ℕ, suc, ◌+◌, ◌<◌, ◌≤◌, List, ◌∙◌, arith}
+use Rattle.std.proofs.Common.{◌≡◌, ℕ, ◌+◌, ◌<◌, ◌≤◌, List, ◌∙◌, arith}
 use Rattle.std.specs.Prelude.{slice_index}
 use Rattle.ecam_spec.specs.Book.{Tree, Trees, constant, discrete, valid, compared, in_phase, alert, press, computer, negation, all, any, at_least, confirmed, held, risen, latched, none, more}
 use Rattle.ecam_spec.specs.Term.{World}
@@ -29,22 +29,27 @@ mutual
   Stand-same w k (all cs) at old new same h = StandAll-same w k cs at old new same h
   Stand-same w k (any cs) at old new same h = StandAll-same w k cs at old new same h
   Stand-same w k (at_least n cs) at old new same h = StandAll-same w k cs at old new same h
-  Stand-same w k (confirmed c n) at old new same h =
-      (same.same at (omega arith) (omega arith) ∙ h.0,
-      Stand-same w k c (at + 1) old new (narrower at (at + (slots c + 1)) (at + 1) (at + 1 + slots c) old new (omega arith) (omega arith) same) h.1)
-  Stand-same w k (held c n) at old new same h =
-      (same.same at (omega arith) (omega arith) ∙ h.0,
-      Stand-same w k c (at + 1) old new (narrower at (at + (slots c + 1)) (at + 1) (at + 1 + slots c) old new (omega arith) (omega arith) same) h.1)
-  Stand-same w k (risen c) at old new same h =
-      (same.same at (omega arith) (omega arith) ∙ h.0,
-      Stand-same w k c (at + 1) old new (narrower at (at + (slots c + 1)) (at + 1) (at + 1 + slots c) old new (omega arith) (omega arith) same) h.1)
-  Stand-same w k (latched s r) at old new same h =
-      (same.same at (omega arith) (omega arith) ∙ h.0,
-      Stand-same w k s (at + 1) old new (narrower at (at + (slots s + slots r + 1)) (at + 1) (at + 1 + slots s) old new (omega arith) (omega arith) same) h.1,
-      Stand-same w k r (at + 1 + slots s) old new (narrower at (at + (slots s + slots r + 1)) (at + 1 + slots s) (at + 1 + slots s + slots r) old new (omega arith) (omega arith) same) h.2)
+  Stand-same w k (confirmed c n) at old new same h = (
+    same.same at (omega arith) (omega arith) ∙ h.0,
+    Stand-same w k c (at + 1) old new (narrower at (at + (slots c + 1)) (at + 1) (at + 1 + slots c) old new (omega arith) (omega arith) same) h.1,
+  )
+  Stand-same w k (held c n) at old new same h = (
+    same.same at (omega arith) (omega arith) ∙ h.0,
+    Stand-same w k c (at + 1) old new (narrower at (at + (slots c + 1)) (at + 1) (at + 1 + slots c) old new (omega arith) (omega arith) same) h.1,
+  )
+  Stand-same w k (risen c) at old new same h = (
+    same.same at (omega arith) (omega arith) ∙ h.0,
+    Stand-same w k c (at + 1) old new (narrower at (at + (slots c + 1)) (at + 1) (at + 1 + slots c) old new (omega arith) (omega arith) same) h.1,
+  )
+  Stand-same w k (latched s r) at old new same h = (
+    same.same at (omega arith) (omega arith) ∙ h.0,
+    Stand-same w k s (at + 1) old new (narrower at (at + (slots s + slots r + 1)) (at + 1) (at + 1 + slots s) old new (omega arith) (omega arith) same) h.1,
+    Stand-same w k r (at + 1 + slots s) old new (narrower at (at + (slots s + slots r + 1)) (at + 1 + slots s) (at + 1 + slots s + slots r) old new (omega arith) (omega arith) same) h.2,
+  )
 
   pub StandAll-same : (w : World) (k : ℕ) (cs : Trees) (at : ℕ) (old new : List ℕ) → SameFrom at (at + slots_of cs) old new → StandAll w k cs at old → StandAll w k cs at new
   StandAll-same w k none at old new same h = h
-  StandAll-same w k (more c cs) at old new same h =
-      (Stand-same w k c at old new (narrower at (at + (slots c + slots_of cs)) at (at + slots c) old new (omega arith) (omega arith) same) h.0,
-      StandAll-same w k cs (at + slots c) old new (narrower at (at + (slots c + slots_of cs)) (at + slots c) (at + slots c + slots_of cs) old new (omega arith) (omega arith) same) h.1)
+  StandAll-same w k (more c cs) at old new same h = (
+    Stand-same w k c at old new (narrower at (at + (slots c + slots_of cs)) at (at + slots c) old new (omega arith) (omega arith) same) h.0,
+    StandAll-same w k cs (at + slots c) old new (narrower at (at + (slots c + slots_of cs)) (at + slots c) (at + slots c + slots_of cs) old new (omega arith) (omega arith) same) h.1,
+  )

@@ -1,10 +1,10 @@
 -- Cells that are all 0 stand for no moment.
-use Rattle.std.proofs.Common.{◌≡◌, ℕ, zero, suc, ◌+◌, ◌<◌, ◌≤◌, min, List, length, replicate, refl, ◌∙◌, sym, ap, arith}
+use Rattle.std.proofs.Common.{◌≡◌, ℕ, zero, suc, ◌+◌, List, replicate, refl, ◌∙◌, ap, arith}
 use Rattle.std.specs.Prelude.{slice_index}
 use Rattle.ecam_spec.specs.Past.{run_length, moments_left, previous}
 use Rattle.ecam_spec.specs.Book.{Tree, Trees, constant, discrete, valid, compared, in_phase, alert, press, computer, negation, all, any, at_least, confirmed, held, risen, latched, none, more}
-use Rattle.ecam_spec.specs.Term.{World, holds}
-use Rattle.ecam_spec.specs.TermSize.{slots, slots_of}
+use Rattle.ecam_spec.specs.Term.{World}
+use Rattle.ecam_spec.specs.TermSize.{slots}
 use Rattle.term_eval.specs.CellState.{Stand, StandAll, StandForNone}
 
 mutual

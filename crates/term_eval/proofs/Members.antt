@@ -1,18 +1,17 @@
 -- One step of several conditions, one after another, and of the nodes that count them.
-use Rattle.std.proofs.Common.{◌≡◌, ℕ, suc, ◌+◌, ◌<◌, ◌≤◌, Bool, true, false, not, ◌&&◌, ◌||◌, List, [], ◌∷◌, cond, eqb, leb, ltb, length, map, refl, sym, ◌∙◌, ap, arith, zero-add}
-use Rattle.std.specs.Prelude.{slice_index, count_by}
+use Rattle.std.proofs.Common.{◌≡◌, ℕ, suc, ◌+◌, ◌≤◌, Bool, true, false, List, [], ◌∷◌, cond, eqb, leb, ltb, length, refl, sym, ◌∙◌, ap, arith, zero-add}
+use Rattle.std.specs.Prelude.{count_by}
 use Rattle.std.specs.List.{list_any, list_all}
 use Rattle.std.proofs.lemmas.Bool.{lt-ltb}
 use Rattle.std.proofs.lemmas.Bool.Decides.{nat_tests}
 use Rattle.std.proofs.lemmas.List.Sums.{sum_by-cons, count_by-le-length}
 use Rattle.ecam_spec.specs.Book.{Tree, Trees, all, any, at_least, none, more}
 use Rattle.ecam_spec.specs.Term.{World, holds, truths}
-use Rattle.ecam_spec.specs.TermSize.{trees, slots, slots_of}
+use Rattle.ecam_spec.specs.TermSize.{trees, slots}
 use Rattle.term_eval.specs.declared.env.Env.{Env}
-use Rattle.term_eval.specs.Shown.{Shows}
 use Rattle.term_eval.specs.CellState.{bit_of, Stand, StandAll}
 use Rattle.term_eval.specs.Steps.{Steps, StepsAll}
-use Rattle.term_eval.proofs.Frames.{SameFrom, Stand-same, StandAll-same}
+use Rattle.term_eval.proofs.Frames.{Stand-same, StandAll-same}
 
 -- how many are true
 abbrev how_many : List Bool → ℕ
@@ -32,14 +31,15 @@ pub steps-more : (env : Env) (c : Tree) (cs : Trees) (at : ℕ) (old mid new : L
 unfolding Stand holds slots
 steps-more env c cs at old mid new answer count first rest =
     let others : (w : World) (k : ℕ) → StandAll w k cs (at + slots c) old → StandAll w k cs (at + slots c) mid
-          = λ w k h. StandAll-same w k cs (at + slots c) old mid (record { same = λ i low high. first.behind i low }) h in
+    = λ w k h. StandAll-same w k cs (at + slots c) old mid (record { same = λ i low high. first.behind i low }) h in
     record {
       truth = λ w k shows h.
           ap (λ b. bit_of b + count) (first.truth w k shows h.0) ∙ ap (λ n. bit_of (holds w c k) + n) (rest.truth w k shows (others w k h.1))
           ∙ sym (counted (holds w c k) (truths w cs k));
-      stands = λ w k shows h.
-          (Stand-same w (suc k) c at mid new (record { same = λ i low high. rest.before i high }) (first.stands w k shows h.0),
-          rest.stands w k shows (others w k h.1));
+      stands = λ w k shows h. (
+        Stand-same w (suc k) c at mid new (record { same = λ i low high. rest.before i high }) (first.stands w k shows h.0),
+        rest.stands w k shows (others w k h.1),
+      );
       before = λ i h. rest.before i (omega arith) ∙ first.before i h;
       behind = λ i h. rest.behind i (omega arith) ∙ first.behind i (omega arith);
     }

@@ -1,19 +1,19 @@
 -- One step of each kind of node, from the steps of its children.
-use Rattle.std.proofs.Common.{◌≡◌, ◌≢◌, ℕ, zero, suc, ◌+◌, ◌-◌, ◌<◌, ◌≤◌, min, Bool, true, false, not, ◌&&◌, ◌||◌, List, cond, eqb, leb, ltb, length, refl, sym, ◌∙◌, ap, arith}
+use Rattle.std.proofs.Common.{◌≡◌, ◌≢◌, ℕ, zero, suc, ◌+◌, ◌-◌, ◌<◌, min, Bool, true, false, not, ◌&&◌, ◌||◌, List, cond, eqb, leb, ltb, length, refl, sym, ◌∙◌, ap, arith}
 use Rattle.std.specs.Prelude.{slice_index, slice_set}
 use Rattle.std.proofs.lemmas.Bool.Decides.{nat_tests}
 use Rattle.std.proofs.lemmas.List.{get_or-set_same, get_or-set_other}
-use Rattle.ecam_spec.specs.Past.{Signal, run_length, moments_left, previous, historically_within, once_within, rise, since}
+use Rattle.ecam_spec.specs.Past.{Signal, run_length, moments_left, previous, historically_within, once_within, rise}
 use Rattle.ecam_spec.proofs.PastSteps.{since-zero, since-suc}
 use Rattle.ecam_spec.proofs.PastWithin.{historically_within-run, run_length-suc, once_within-left, moments_left-suc}
-use Rattle.ecam_spec.specs.Book.{Tree, Trees, negation, all, any, at_least, confirmed, held, risen, latched}
-use Rattle.ecam_spec.specs.Term.{World, holds, truths, latch}
-use Rattle.ecam_spec.specs.TermSize.{slots, slots_of}
+use Rattle.ecam_spec.specs.Book.{Tree, negation, confirmed, held, risen, latched}
+use Rattle.ecam_spec.specs.Term.{World, holds, latch}
+use Rattle.ecam_spec.specs.TermSize.{slots}
 use Rattle.term_eval.specs.declared.env.Env.{Env}
 use Rattle.term_eval.specs.Shown.{Shows}
-use Rattle.term_eval.specs.CellState.{bit_of, Stand, StandAll}
-use Rattle.term_eval.specs.Steps.{Steps, StepsAll}
-use Rattle.term_eval.proofs.Frames.{SameFrom, Stand-same}
+use Rattle.term_eval.specs.CellState.{bit_of, Stand}
+use Rattle.term_eval.specs.Steps.{Steps}
+use Rattle.term_eval.proofs.Frames.{Stand-same}
 
 -- what each memory answers, and what it then holds, in the words of past-time logic
 
@@ -96,9 +96,10 @@ steps-confirmed env c n at old mid new now inner wrote =
     let kept : slice_index mid at ≡ slice_index old at = inner.before at (omega arith) in
     record {
       truth = λ w k shows h. confirm_truth n (holds w c) k (slice_index mid at) now (kept ∙ h.0) (inner.truth w k shows h.1);
-      stands = λ w k shows h.
-          (wrote.own ∙ confirm_cell n (holds w c) k (slice_index mid at) now (kept ∙ h.0) (inner.truth w k shows h.1),
-          Stand-same w (suc k) c (at + 1) mid new (record { same = λ i low high. wrote.others i (omega arith) }) (inner.stands w k shows h.1));
+      stands = λ w k shows h. (
+        wrote.own ∙ confirm_cell n (holds w c) k (slice_index mid at) now (kept ∙ h.0) (inner.truth w k shows h.1),
+        Stand-same w (suc k) c (at + 1) mid new (record { same = λ i low high. wrote.others i (omega arith) }) (inner.stands w k shows h.1),
+      );
       before = λ i h. wrote.others i (omega arith) ∙ inner.before i (omega arith);
       behind = λ i h. wrote.others i (omega arith) ∙ inner.behind i (omega arith);
     }
@@ -110,9 +111,10 @@ steps-held env c n at old mid new now inner wrote =
     let kept : slice_index mid at ≡ slice_index old at = inner.before at (omega arith) in
     record {
       truth = λ w k shows h. hold_truth n (holds w c) k (slice_index mid at) now (kept ∙ h.0) (inner.truth w k shows h.1);
-      stands = λ w k shows h.
-          (wrote.own ∙ hold_cell n (holds w c) k (slice_index mid at) now (kept ∙ h.0) (inner.truth w k shows h.1),
-          Stand-same w (suc k) c (at + 1) mid new (record { same = λ i low high. wrote.others i (omega arith) }) (inner.stands w k shows h.1));
+      stands = λ w k shows h. (
+        wrote.own ∙ hold_cell n (holds w c) k (slice_index mid at) now (kept ∙ h.0) (inner.truth w k shows h.1),
+        Stand-same w (suc k) c (at + 1) mid new (record { same = λ i low high. wrote.others i (omega arith) }) (inner.stands w k shows h.1),
+      );
       before = λ i h. wrote.others i (omega arith) ∙ inner.before i (omega arith);
       behind = λ i h. wrote.others i (omega arith) ∙ inner.behind i (omega arith);
     }
@@ -124,9 +126,10 @@ steps-risen env c at old mid new now inner wrote =
     let kept : slice_index mid at ≡ slice_index old at = inner.before at (omega arith) in
     record {
       truth = λ w k shows h. rise_truth (holds w c) k (slice_index mid at) now (kept ∙ h.0) (inner.truth w k shows h.1);
-      stands = λ w k shows h.
-          (wrote.own ∙ ap bit_of (inner.truth w k shows h.1),
-          Stand-same w (suc k) c (at + 1) mid new (record { same = λ i low high. wrote.others i (omega arith) }) (inner.stands w k shows h.1));
+      stands = λ w k shows h. (
+        wrote.own ∙ ap bit_of (inner.truth w k shows h.1),
+        Stand-same w (suc k) c (at + 1) mid new (record { same = λ i low high. wrote.others i (omega arith) }) (inner.stands w k shows h.1),
+      );
       before = λ i h. wrote.others i (omega arith) ∙ inner.before i (omega arith);
       behind = λ i h. wrote.others i (omega arith) ∙ inner.behind i (omega arith);
     }
@@ -138,15 +141,16 @@ unfolding Stand holds slots previous
 steps-latched env s r at old mid last new set reset answer first second is wrote =
     let kept : slice_index last at ≡ slice_index old at = second.before at (omega arith) ∙ first.before at (omega arith) in
     let resets : (w : World) (k : ℕ) → Shows env w k → Stand w k r (at + 1 + slots s) old → Stand w k r (at + 1 + slots s) mid
-          = λ w k shows h. Stand-same w k r (at + 1 + slots s) old mid (record { same = λ i low high. first.behind i (omega arith) }) h in
+    = λ w k shows h. Stand-same w k r (at + 1 + slots s) old mid (record { same = λ i low high. first.behind i (omega arith) }) h in
     let holding : (w : World) (k : ℕ) → Shows env w k → Stand w k (latched s r) at old → answer ≡ latch (holds w s) (holds w r) k
-          = λ w k shows h. is ∙ latch_truth (holds w s) (holds w r) k (slice_index last at) set reset (kept ∙ h.0) (first.truth w k shows h.1) (second.truth w k shows (resets w k shows h.2)) in
+    = λ w k shows h. is ∙ latch_truth (holds w s) (holds w r) k (slice_index last at) set reset (kept ∙ h.0) (first.truth w k shows h.1) (second.truth w k shows (resets w k shows h.2)) in
     record {
       truth = holding;
-      stands = λ w k shows h.
-          (wrote.own ∙ ap bit_of (holding w k shows h),
-          Stand-same w (suc k) s (at + 1) mid new (record { same = λ i low high. wrote.others i (omega arith) ∙ second.before i (omega arith) }) (first.stands w k shows h.1),
-          Stand-same w (suc k) r (at + 1 + slots s) last new (record { same = λ i low high. wrote.others i (omega arith) }) (second.stands w k shows (resets w k shows h.2)));
+      stands = λ w k shows h. (
+        wrote.own ∙ ap bit_of (holding w k shows h),
+        Stand-same w (suc k) s (at + 1) mid new (record { same = λ i low high. wrote.others i (omega arith) ∙ second.before i (omega arith) }) (first.stands w k shows h.1),
+        Stand-same w (suc k) r (at + 1 + slots s) last new (record { same = λ i low high. wrote.others i (omega arith) }) (second.stands w k shows (resets w k shows h.2)),
+      );
       before = λ i h. wrote.others i (omega arith) ∙ second.before i (omega arith) ∙ first.before i (omega arith);
       behind = λ i h. wrote.others i (omega arith) ∙ second.behind i (omega arith) ∙ first.behind i (omega arith);
     }

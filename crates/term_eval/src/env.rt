@@ -8,6 +8,7 @@ use ecam_kinds::{Keys, Phase};
 use term_tree::Op;
 
 /// What a flight warning computer knows in one moment. It lends its lists, and copies nothing.
+#[derive(Clone, Copy, Debug)]
 pub struct Env<'a> {
     /// Per parameter its value: 0 or 1 for a discrete, else a number in the parameter's unit.
     pub values: &'a [Option<i64>],
@@ -29,10 +30,7 @@ impl Env<'_> {
         requires { param < length self.now.values.now }
         ensures { result ≡ is_so (int_eq (pos 1)) (value_of self.now param) }
     {
-        match self.values[param as usize] {
-            Some(value) => value == 1,
-            None => false,
-        }
+        self.values[param as usize] == Some(1)
     }
 
     /// The parameter has a value.
@@ -68,7 +66,11 @@ impl Env<'_> {
         requires last { computer ≤ 2 }
         ensures { result ≡ (if computer == 1 then self.now.one_up else self.now.two_up) }
     {
-        if computer == 1 { self.one_up } else { self.two_up }
+        if computer == 1 {
+            self.one_up
+        } else {
+            self.two_up
+        }
     }
 }
 

@@ -8,5 +8,4 @@ ghost use Rattle.ecam_spec.specs.TermNames.{AgreeOn};
 /// nothing that it doesn't name has a bearing on it, and nothing that comes later.
 pub fn what_is_named_decides()
     ensures { (v w : World) (c : Tree) (k : ℕ) → ((i : ℕ) → i ≤ k → AgreeOn v w i c) → holds v c k ≡ holds w c k }
-{
-}
+{}

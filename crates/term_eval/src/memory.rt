@@ -8,7 +8,11 @@ pub fn confirm(cell: &mut u32, now: bool, moments: u32) -> bool
     ensures cell { cell.new ≡ (if now then min moments (cell.old + 1) else 0) }
 {
     let before = *cell;
-    *cell = if now { before.saturating_add(1).min(moments) } else { 0 };
+    *cell = if now {
+        before.saturating_add(1).min(moments)
+    } else {
+        0
+    };
     now && before >= moments
 }
 

@@ -1,4 +1,6 @@
 // Worked histories of five moments, over a that holds in one of them, b in another, and d in each.
+#![tactic(auto, unfolding(ecam_spec::specs::TermSize::slots, ecam_spec::specs::TermNames::IsWithin))]
+
 ghost use Rattle.std.specs.Prelude.{◌≤◌};
 ghost use Rattle.ecam_spec.specs.TermSize.{slots};
 ghost use Rattle.ecam_spec.specs.TermNames.{IsWithin};
@@ -12,7 +14,9 @@ use term_tree::Cond;
 
 // The places of a, b and d.
 const A: u32 = 0;
+
 const B: u32 = 1;
+
 const D: u32 = 2;
 
 fn truth(holds: bool) -> Option<i64> {
@@ -43,39 +47,73 @@ fn answers(alloc: Global, cond: &Cond, a: usize, b: usize) -> Result<[bool; 5], 
 }
 
 #[test]
-#[tactic(auto, unfolding(ecam_spec::specs::TermSize::slots, ecam_spec::specs::TermNames::IsWithin))]
 fn steps_every_member(rt: HostRuntime) -> Result<(), Fail> {
     let alloc = rt.alloc();
     let confirmed = Cond::Conf(Box::new(alloc, Cond::Disc(D))?, 2);
     let cond = Cond::All(vec![in alloc; Cond::Disc(A), confirmed]?);
-    assert_eq!(rt; answers(alloc, &cond, 4, 4)?, [false, false, false, false, true]);
+    assert_eq!(rt;
+        answers(alloc, &cond, 4, 4)?,
+        [false, false, false, false, true]
+    );
     Ok(())
 }
 
 #[test]
-#[tactic(auto, unfolding(ecam_spec::specs::TermSize::slots, ecam_spec::specs::TermNames::IsWithin))]
 fn latches(rt: HostRuntime) -> Result<(), Fail> {
     let alloc = rt.alloc();
     let lately = Cond::Hold(Box::new(alloc, Cond::Disc(A))?, 1);
     let cond = Cond::Latch(Box::new(alloc, lately)?, Box::new(alloc, Cond::Disc(B))?);
-    assert_eq!(rt; answers(alloc, &cond, 0, 3)?, [true, true, true, false, false]);
+    assert_eq!(rt;
+        answers(alloc, &cond, 0, 3)?,
+        [true, true, true, false, false]
+    );
     Ok(())
 }
 
 #[test]
-#[tactic(auto, unfolding(ecam_spec::specs::TermSize::slots, ecam_spec::specs::TermNames::IsWithin))]
 fn rises(rt: HostRuntime) -> Result<(), Fail> {
     let alloc = rt.alloc();
     let cond = Cond::Rise(Box::new(alloc, Cond::Disc(A))?);
-    assert_eq!(rt; answers(alloc, &cond, 0, 3)?, [true, false, false, false, false]);
+    assert_eq!(rt;
+        answers(alloc, &cond, 0, 3)?,
+        [true, false, false, false, false]
+    );
     Ok(())
 }
 
 #[test]
-#[tactic(auto, unfolding(ecam_spec::specs::TermSize::slots, ecam_spec::specs::TermNames::IsWithin))]
 fn counts_members(rt: HostRuntime) -> Result<(), Fail> {
     let alloc = rt.alloc();
-    let cond = Cond::AtLeast(2, vec![in alloc; Cond::Disc(A), Cond::Disc(B), Cond::Const(true)]?);
-    assert_eq!(rt; answers(alloc, &cond, 0, 3)?, [true, false, false, true, false]);
+    let cond = Cond::AtLeast(
+        2,
+        vec![in alloc; Cond::Disc(A), Cond::Disc(B), Cond::Const(true)]?,
+    );
+    assert_eq!(rt;
+        answers(alloc, &cond, 0, 3)?,
+        [true, false, false, true, false]
+    );
+    Ok(())
+}
+
+#[test]
+fn forgets_and_takes_over(rt: HostRuntime) -> Result<(), Fail> {
+    let alloc = rt.alloc();
+    let keys = Keys::new();
+    let env = Env {
+        values: &[],
+        phase: Phase { number: 6 },
+        active: &[],
+        keys: &keys,
+        one_up: true,
+        two_up: false,
+    };
+    let cond = Cond::Rise(Box::new(alloc, Cond::Fwc(1))?);
+    let mut cells = Cells::new(alloc, 1)?;
+    let mut others = Cells::new(alloc, 1)?;
+    assert!(rt; cells.refresh(&cond, 0, &env));
+    others.copy_from(&cells);
+    assert!(rt; !others.refresh(&cond, 0, &env));
+    cells.clear();
+    assert!(rt; cells.refresh(&cond, 0, &env));
     Ok(())
 }

@@ -1,5 +1,5 @@
 -- After a letter and a blank the letter says which form it is.
-use Rattle.std.proofs.Common.{sym, ap, ◌∙◌, ◌∷◌, [], rules, arith, length, get_or}
+use Rattle.std.proofs.Common.{sym, ap, ◌∙◌, ◌∷◌, rules, arith}
 use Rattle.ecam_spec.specs.declared.kinds.Event.TheVariants.{Fail, Up}
 use Rattle.std.specs.Prelude.{option_map}
 use Rattle.ecam_spec.specs.RecordLine.{event_of}

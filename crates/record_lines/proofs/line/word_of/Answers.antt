@@ -1,7 +1,6 @@
 -- A bus and a word's digits, on both sides of the first blank.
-use Rattle.std.proofs.Common.{sym, ap, ◌∙◌, ◌≡◌, ◌+◌, ◌==◌, take, drop, Some, None, refl, arith}
+use Rattle.std.proofs.Common.{sym, ap, ◌∙◌, ◌≡◌, ◌+◌, take, drop, Some, None, refl, arith}
 use Rattle.std.proofs.lemmas.List.{take_rest}
-use Rattle.std.specs.Prelude.{position}
 use Rattle.ecam_spec.specs.RecordLine.{bits_of}
 use Rattle.record_lines.specs.Line.{number_within}
 use Rattle.record_lines.proofs.Forms.{word_of-nowhere, word_of-at}

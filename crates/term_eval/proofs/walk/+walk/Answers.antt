@@ -1,6 +1,6 @@
-use Rattle.std.proofs.Common.{rules, ◌≡◌, ◌+◌, ◌<◌, ◌≤◌, length, map, eqb, arith, refl, add-zero, ap, sym, ◌∙◌, subst, drop}
-use Rattle.ecam_spec.specs.TermSize.{slots, slots_of}
-use Rattle.ecam_spec.specs.TermNames.{IsWithin, AreWithin}
+use Rattle.std.proofs.Common.{rules, ◌≡◌, ◌+◌, ◌<◌, length, map, eqb, arith, refl, add-zero, ap, sym, ◌∙◌, subst}
+use Rattle.ecam_spec.specs.TermSize.{slots}
+use Rattle.ecam_spec.specs.TermNames.{IsWithin}
 use borrow.Author.Rules.{get_or_read}
 use Rattle.term_tree.specs.declared.cond.Cond.TheFolds.{the_lemmas}
 use Rattle.term_tree.specs.View.{tree_of, trees_of}
@@ -10,7 +10,7 @@ use Rattle.std.proofs.lemmas.Int.{to_z-of_z}
 use Rattle.std.proofs.lemmas.List.{length-map}
 use Rattle.ecam_spec.specs.Term.{is_so, stands}
 use Rattle.term_eval.specs.Shown.{value_of}
-use Rattle.term_eval.specs.Steps.{Steps, StepsAll}
+use Rattle.term_eval.specs.Steps.{StepsAll}
 use Rattle.term_eval.proofs.Nodes.{steps-negation}
 use Rattle.term_eval.proofs.Members.{steps-none, steps-more, steps-all, steps-any, steps-at_least}
 use Rattle.term_eval.proofs.Atoms.{steps-constant, steps-discrete, steps-valid, steps-compared, steps-in_phase, steps-alert, steps-press, steps-computer}
@@ -143,8 +143,8 @@ step_each-loop-member-preserved t c =
     let next = trees_of-next c.args.members.now c.loop-member.member-index c.member-item.result c.loop-member-test.true c.member-item.is in
     let size = slots-next c.args.members.now c.loop-member.member-index c.member-item.result c.loop-member-test.true c.member-item.is in
     let grown : c.if-step.count ≡ c.loop-member.count + bit_of c.step.result
-          = elim c.if-step.branch [ step_each-then-step w ↦ w.count-is ∙ ap (λ b. c.loop-member.count + bit_of b) (sym w.if-step.true) | step_each-else-step w ↦ w.count-is ∙ sym (add-zero c.loop-member.count) ∙ ap (λ b. c.loop-member.count + bit_of b) (sym w.if-step.false) ]
-        in
+    = elim c.if-step.branch [ step_each-then-step w ↦ w.count-is ∙ ap (λ b. c.loop-member.count + bit_of b) (sym w.if-step.true) | step_each-else-step w ↦ w.count-is ∙ sym (add-zero c.loop-member.count) ∙ ap (λ b. c.loop-member.count + bit_of b) (sym w.if-step.false) ]
+    in
     record {
       place = omega arith;
       names = (names_of_all _ _ _ _ next c.loop-member.invariant.names).1;

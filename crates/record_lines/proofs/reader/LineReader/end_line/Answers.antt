@@ -1,11 +1,13 @@
 -- The line is read where it lies in the piece, or together with what came before it.
-use Rattle.std.proofs.Common.{◌≡◌, ◌<◌, ◌++◌, ◌+◌, ap, sym, ◌∙◌, refl, subst, arith, length, take, drop, Some, None, Ok, length-append, length-drop, length-take}
+use Rattle.std.proofs.Common.{◌≡◌, ◌++◌, ◌+◌, ap, sym, ◌∙◌, refl, arith, length, take, drop, Some, None, length-append, length-drop, length-take}
 use Rattle.ecam_spec.specs.declared.kinds.FaultKind.TheVariants.{Form}
 use Rattle.ecam_spec.specs.RecordLine.{event_of}
 use Rattle.record_lines.specs.declared.outcome.Stage.TheVariants.{Closing}
 use Rattle.record_lines.specs.Reader.{room}
 use Rattle.record_lines.specs.contracts.reader.LineReader.{the_view}
-use Rattle.record_lines.proofs.Readers.{IsPast, fails, no_form, line_gives, line_ends, begun_line, inside}
+use Rattle.record_lines.proofs.Went.{inside}
+use Rattle.record_lines.proofs.Refusals.{fails, no_form}
+use Rattle.record_lines.proofs.Progress.{IsPast, line_gives, line_ends, begun_line}
 use Rattle.record_lines.proofs.reader.LineReader.end_line.Goals as goal
 
 pub returns-in_default-clause-given : goal.returns-in_default-clause-given
@@ -13,20 +15,20 @@ returns-in_default-clause-given c =
     let old = c.args.self.now in
     let is = c.self.view_is in
     let none : event_of (old.line ++ take c.args.at old.pending) ≡ None =
-      ap (λ r. event_of (r.line ++ take c.args.at r.pending)) (sym is) ∙ ap (λ l. event_of (c.self.inside.line.items ++ take c.args.at l)) (sym c.bytes.ensures.all) ∙ sym c.event_across-event.ensures.event ∙ c.in_default.is in
+    ap (λ r. event_of (r.line ++ take c.args.at r.pending)) (sym is) ∙ ap (λ l. event_of (c.self.inside.line.items ++ take c.args.at l)) (sym c.bytes.ensures.all) ∙ sym c.event_across-event.ensures.event ∙ c.in_default.is in
     let size = ap room is in
     let line = ap length c.event_across-event.ensures.empty in
     let piece = ap length c.skip.ensures in
     let rest = length-drop (c.args.at + 1) c.self.inside.piece in
     fails old (the_view (record { piece = c.skip.new.self; line = c.event_across-event.new.line; number = c.self.inside.number; allowance = c.self.inside.allowance; over = c.self.inside.over; stage = c.self.inside.stage }))
-        c.fail.new.self Form c.fail.result c.fail.ensures.answer c.fail.ensures.state (ap (λ r. r.number) is) (omega arith) (no_form old c.args.at c.requires.lines c.requires.feed c.requires.fits none)
+    c.fail.new.self Form c.fail.result c.fail.ensures.answer c.fail.ensures.state (ap (λ r. r.number) is) (omega arith) (no_form old c.args.at c.requires.lines c.requires.feed c.requires.fits none)
 
 pub returns-clause-given : goal.returns-clause-given
 returns-clause-given c =
     let old = c.args.self.now in
     let is = c.self.view_is in
     let some : event_of (old.line ++ take c.args.at old.pending) ≡ Some c.in-Some.event =
-      ap (λ r. event_of (r.line ++ take c.args.at r.pending)) (sym is) ∙ ap (λ l. event_of (c.self.inside.line.items ++ take c.args.at l)) (sym c.bytes.ensures.all) ∙ sym c.event_across-event.ensures.event ∙ c.in-Some.is in
+    ap (λ r. event_of (r.line ++ take c.args.at r.pending)) (sym is) ∙ ap (λ l. event_of (c.self.inside.line.items ++ take c.args.at l)) (sym c.bytes.ensures.all) ∙ sym c.event_across-event.ensures.event ∙ c.in-Some.is in
     let new = the_view (record { piece = c.skip.new.self; line = c.event_across-event.new.line; number = c.self.inside.number + 1; allowance = c.self.inside.allowance; over = c.self.inside.over; stage = c.self.inside.stage }) in
     let past : IsPast c.args.at old new = record {
       line_is = c.event_across-event.ensures.empty;
@@ -42,7 +44,7 @@ returns-then-is_end-clause-none c =
     let old = c.args.self.now in
     let is = c.self.view_is in
     let some : event_of (old.line ++ take c.args.at old.pending) ≡ Some c.in-Some.event =
-      ap (λ r. event_of (r.line ++ take c.args.at r.pending)) (sym is) ∙ ap (λ l. event_of (c.self.inside.line.items ++ take c.args.at l)) (sym c.bytes.ensures.all) ∙ sym c.event_across-event.ensures.event ∙ c.in-Some.is in
+    ap (λ r. event_of (r.line ++ take c.args.at r.pending)) (sym is) ∙ ap (λ l. event_of (c.self.inside.line.items ++ take c.args.at l)) (sym c.bytes.ensures.all) ∙ sym c.event_across-event.ensures.event ∙ c.in-Some.is in
     let new = the_view (record { piece = c.skip.new.self; line = c.event_across-event.new.line; number = c.self.inside.number + 1; allowance = c.self.inside.allowance; over = c.self.inside.over; stage = Closing }) in
     let past : IsPast c.args.at old new = record {
       line_is = c.event_across-event.ensures.empty;

@@ -1,8 +1,8 @@
 -- Bytes after the record's end, or beyond the limit.
 use Rattle.std.proofs.Common.{◌≡◌, ◌<◌, ap, sym, ◌∙◌, refl, arith, length, []}
-use Rattle.std.proofs.lemmas.Bool.{eqb-true}
 use Rattle.ecam_spec.specs.declared.kinds.FaultKind.TheVariants.{AfterEnd, Limit}
-use Rattle.record_lines.proofs.Readers.{fails, after_end, beyond_limit, pos_from, empty_from, closing_from}
+use Rattle.record_lines.proofs.Went.{pos_from, empty_from, closing_from}
+use Rattle.record_lines.proofs.Refusals.{fails, after_end, beyond_limit}
 use Rattle.record_lines.proofs.reader.LineReader.excess.Goals as goal
 
 pub returns-then-not-is_empty-clause-given : goal.returns-then-not-is_empty-clause-given

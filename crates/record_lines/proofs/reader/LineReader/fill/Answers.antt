@@ -1,16 +1,16 @@
 -- The piece is within what the limit allows.
-use Rattle.std.proofs.Common.{◌≡◌, ap, sym, ◌∙◌, refl, arith, length, subst, false, Option, List, ℕ}
+use Rattle.std.proofs.Common.{ap, sym, ◌∙◌, refl, arith, length}
 use Rattle.std.proofs.lemmas.List.{take_all}
 use Rattle.std.proofs.lemmas.Bool.{le-ltb}
-use Rattle.record_lines.specs.Reader.{ReaderState, filled}
+use Rattle.record_lines.specs.Reader.{filled}
 use Rattle.record_lines.specs.contracts.reader.LineReader.{the_view}
-use Rattle.record_lines.proofs.Readers.{same_reader}
+use Rattle.record_lines.proofs.Progress.{same_reader}
 use Rattle.record_lines.proofs.reader.LineReader.fill.Goals as goal
 
 pub returns-clause-moved : goal.returns-clause-moved
 returns-clause-moved g c =
     let size = ap length c.bytes.ensures.all in
     let same = same_reader _ (filled c.read.new.self (the_view c.self.inside))
-      (sym (take_all c.self.inside.allowance c.read.new.self (omega arith))) refl refl (omega arith)
-      (ap (λ r. r.over) c.self.view_is ∙ c.requires.within ∙ sym (le-ltb c.self.inside.allowance (length c.read.new.self) (omega arith))) refl in
+    (sym (take_all c.self.inside.allowance c.read.new.self (omega arith))) refl refl (omega arith)
+    (ap (λ r. r.over) c.self.view_is ∙ c.requires.within ∙ sym (le-ltb c.self.inside.allowance (length c.read.new.self) (omega arith))) refl in
     record { more = c.read.new.self; moved = c.in_ok-read.ensures.moved; tells = same ∙ ap (filled c.read.new.self) c.self.view_is }

@@ -1,9 +1,10 @@
 -- The source is at its end.
-use Rattle.std.proofs.Common.{◌≡◌, ◌<◌, ◌==◌, ap, sym, ◌∙◌, refl, arith, length, [], false, true, vec_len, Err}
+use Rattle.std.proofs.Common.{ap, sym, ◌∙◌, refl, arith, length}
 use Rattle.ecam_spec.specs.declared.kinds.FaultKind.TheVariants.{Cut, NoEnd}
-use Rattle.record_lines.specs.declared.outcome.LineError.TheVariants.{Failed}
 use Rattle.record_lines.specs.Reader.{room}
-use Rattle.record_lines.proofs.Readers.{fails, cut_off, no_end, ends, pos_from, empty_from, lines_from}
+use Rattle.record_lines.proofs.Went.{pos_from, empty_from, lines_from}
+use Rattle.record_lines.proofs.Refusals.{fails, cut_off, no_end}
+use Rattle.record_lines.proofs.Progress.{ends}
 use Rattle.record_lines.proofs.reader.LineReader.finish.Goals as goal
 
 pub returns-then-not-is_empty-clause-given : goal.returns-then-not-is_empty-clause-given

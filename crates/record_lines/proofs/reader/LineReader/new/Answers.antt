@@ -1,5 +1,5 @@
 use Rattle.std.proofs.Common.{refl, []}
-use Rattle.record_lines.proofs.Readers.{begins}
+use Rattle.record_lines.proofs.Went.{begins}
 use Rattle.record_lines.proofs.reader.LineReader.new.Goals as goal
 
 pub returns-clause-reads : goal.returns-clause-reads

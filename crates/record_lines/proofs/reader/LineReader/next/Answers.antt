@@ -1,7 +1,7 @@
 -- One more piece, or the end of the call.
-use Rattle.std.proofs.Common.{◌≡◌, ap, sym, ◌∙◌, arith, None}
+use Rattle.std.proofs.Common.{ap, ◌∙◌, arith}
 use Rattle.record_lines.specs.Reader.{room, settled}
-use Rattle.record_lines.proofs.Readers.{takes_piece, room-filled}
+use Rattle.record_lines.proofs.Calls.{takes_piece, room-filled}
 use Rattle.record_lines.proofs.reader.LineReader.next.Goals as goal
 
 pub pieces-preserved : goal.pieces-preserved

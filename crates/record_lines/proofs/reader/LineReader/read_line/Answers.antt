@@ -1,9 +1,10 @@
 -- Without a line feed what is left goes to the line, if it has room for it.
-use Rattle.std.proofs.Common.{◌≡◌, ◌≤◌, ◌==◌, ap, sym, ◌∙◌, refl, subst, arith, length, Some, None}
+use Rattle.std.proofs.Common.{◌≡◌, ◌≤◌, ◌==◌, ap, sym, ◌∙◌, refl, subst, arith, length, None}
 use Rattle.std.specs.Prelude.{position}
 use Rattle.ecam_spec.specs.declared.kinds.FaultKind.TheVariants.{Long}
 use Rattle.record_lines.specs.Reads.{Advances}
-use Rattle.record_lines.proofs.Readers.{carries, fails, too_long, beyond_some, beyond_none, GoesBeyond}
+use Rattle.record_lines.proofs.Refusals.{fails, too_long, beyond_some, beyond_none, GoesBeyond}
+use Rattle.record_lines.proofs.Progress.{carries}
 use Rattle.record_lines.proofs.reader.LineReader.read_line.Goals as goal
 use Rattle.record_lines.proofs.reader.LineReader.read_line.Goals.{in_default-via-in-Some+else-begun-at-le-LONGEST, in_default-via-in-None+else-begun-bytes-le-LONGEST}
 
@@ -28,8 +29,8 @@ returns-in_default-clause-given c =
     let begun = c.len-begun.ensures.value in
     let few : length old.line ≤ 32 = let fits = c.len-begun.ensures.fits in omega arith in
     let far : GoesBeyond old =
-      elim c.in_default.branch [
-        | in_default-via-in-Some+else-begun-at-le-LONGEST w ↦ beyond_some old w.in-Some.at (place ∙ w.in-Some.is) (let over = w.if-begun-at-le-LONGEST.false in omega arith) few
-        | in_default-via-in-None+else-begun-bytes-le-LONGEST w ↦ beyond_none old (place ∙ w.in-None.is) (let over = w.if-begun-bytes-le-LONGEST.false in omega arith) few
-      ] in
+    elim c.in_default.branch [
+      | in_default-via-in-Some+else-begun-at-le-LONGEST w ↦ beyond_some old w.in-Some.at (place ∙ w.in-Some.is) (let over = w.if-begun-at-le-LONGEST.false in omega arith) few
+      | in_default-via-in-None+else-begun-bytes-le-LONGEST w ↦ beyond_none old (place ∙ w.in-None.is) (let over = w.if-begun-bytes-le-LONGEST.false in omega arith) few
+    ] in
     fails old old c.fail.new.self Long c.fail.result c.fail.ensures.answer c.fail.ensures.state refl (omega arith) (too_long old c.requires few far.0 far.1)

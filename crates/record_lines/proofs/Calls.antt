@@ -1,0 +1,51 @@
+-- The steps of one call, one after another.
+use Rattle.std.proofs.Common.{◌≡◌, ℕ, false, List, [], ◌++◌, length, Option, Result, sym, ap, subst, arith, length-take, append-nil, append_assoc}
+use Rattle.ecam_spec.specs.declared.kinds.Event.{Event}
+use Rattle.record_lines.specs.declared.outcome.LineError.{LineError}
+use Rattle.record_lines.specs.Reader.{ReaderState, room, filled}
+use Rattle.record_lines.specs.Reads.{Reads, TellsAfter, Tells, Goes, Advances, Takes}
+use Rattle.std.proofs.KnownBytes.{Consumes-trans}
+use Rattle.record_lines.proofs.Progress.{goes_filled}
+
+-- with each piece that was gone through the reader waits for less
+pub goes-then-tells : (old mid new : ReaderState) (first second : List ℕ) (answer : Result Event LineError) → Goes old mid first → Tells mid new second answer → Tells old new (first ++ second) answer
+goes-then-tells old mid new first second answer goes tells limit taken answered reads =
+    let P : List ℕ → Type 0 = λ l. TellsAfter limit l answered answer new in
+    subst P (append_assoc taken first second) (tells limit (taken ++ first) answered (goes limit taken answered reads))
+
+pub goes-then-goes : (old mid new : ReaderState) (first second : List ℕ) → Goes old mid first → Goes mid new second → Goes old new (first ++ second)
+goes-then-goes old mid new first second one two limit taken answered reads =
+    let P : List ℕ → Type 0 = λ l. Reads limit l answered new in
+    subst P (append_assoc taken first second) (two limit (taken ++ first) answered (one limit taken answered reads))
+
+-- the reader gave an answer after it took some bytes
+abbrev pub TakesAndTells : Option (List ℕ) → Option (List ℕ) → ReaderState → ReaderState → Result Event LineError → Type 0
+TakesAndTells before after old new answer = Takes before after (λ more. Tells old new more answer)
+
+abbrev pub TakesAndGoes : Option (List ℕ) → Option (List ℕ) → ReaderState → ReaderState → Type 0
+TakesAndGoes before after old new = Takes before after (λ more. Goes old new more)
+
+module _ (before between after : Option (List ℕ)) (old mid found new : ReaderState) (took : TakesAndGoes before between old mid) where
+  pub goes_advanced : Advances mid found → Goes old found took.more
+  goes_advanced advances =
+      let P : List ℕ → Type 0 = λ l. Goes old found l in
+      subst P (append-nil took.more) (goes-then-goes old mid found took.more [] took.tells advances.goes)
+
+  -- one more piece
+  pub takes_piece : Advances mid found → found.pending ≡ [] → found.over ≡ false → Takes between after (λ more. new ≡ filled more found) → TakesAndGoes before after old new
+  takes_piece advances empty within piece = record {
+    more = took.more ++ piece.more;
+    moved = Consumes-trans before between after took.more piece.more took.moved piece.moved;
+    tells = goes-then-goes old found new took.more piece.more (goes_advanced advances)
+        (subst (λ r. Goes found r piece.more) (sym piece.tells) (goes_filled found piece.more advances.unsettled empty within));
+  }
+  -- an answer that needed no more reading
+  -- an answer at the source's end
+  -- the source failed
+
+-- nothing was taken yet
+pub room-filled : (r : ReaderState) (bytes : List ℕ) → r.pending ≡ [] → room (filled bytes r) ≡ room r
+room-filled r bytes empty =
+    let none = ap length empty in
+    let len = length-take r.allowance bytes in
+    omega arith
