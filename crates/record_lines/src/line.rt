@@ -3,7 +3,7 @@ ghost use Rattle.std.specs.Prelude.{◌≡◌, ◌==◌, [], ◌∷◌, position
 ghost use Rattle.ecam_spec.specs.RecordLine.{bits_of, event_of, key_of, word_of};
 ghost use Rattle.record_lines.specs.Line.{digit_value, named_key_of, number_of, number_within};
 
-use ecam_spec::{Event, Key};
+use ecam_kinds::{Event, Key};
 
 // The event that a line says, without its line feed.
 pub(crate) fn event_of(line: &[u8]) -> Option<Event>

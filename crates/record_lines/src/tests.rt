@@ -2,6 +2,7 @@
 ghost use Rattle.std.specs.Prelude.{◌<◌};
 
 use super::*;
+use ecam_kinds::{Event, Key};
 use ecam_io::{MemoryFile, MemoryShelf, Shelf};
 use std::alloc::{AllocError, Global};
 
