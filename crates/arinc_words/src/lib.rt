@@ -4,3 +4,6 @@
 mod word;
 
 pub use word::Word;
+
+#[cfg(test)]
+mod tests;

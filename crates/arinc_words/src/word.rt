@@ -1,4 +1,5 @@
-ghost use Rattle.std.specs.Prelude.{◌≡◌, ◌≤◌};
+ghost use Rattle.std.specs.Prelude.{◌≡◌, ◌≤◌, ◌<◌, ◌+◌, ◌-◌, ◌^◌, pos, neg_ℤ, ◌≤ℤ◌, ◌*ℤ◌, IfSome, IsTrue};
+ghost use Rattle.std.specs.Int.{int_div_euclid};
 
 use std::marker::Model;
 
@@ -30,7 +31,7 @@ impl Copy for Word {}
 
 impl Word {
     ghost use Rattle.ecam_spec.specs.Word as fields;
-    ghost use Rattle.ecam_spec.specs.Reading.{discrete};
+    ghost use Rattle.ecam_spec.specs.Reading.{discrete, raw, binary, digit, has_digits, decimal_number, decimal};
 
     /// The word with these bits, bit 1 the least.
     pub fn new(bits: u32) -> Word
@@ -84,4 +85,103 @@ impl Word {
             None
         }
     }
+
+    /// A number in two's complement: bit 29 is the sign, and bit 28 is worth half the range, so that with
+    /// n = 29 - `low` the bits from `low` up are a number of 2^n steps to the range. What is less than a
+    /// whole number is rounded down. `None` exactly where the SSM isn't 11, normal operation.
+    #[tactic(auto, unfolding(ecam_spec::specs::Reading::binary))]
+    pub fn bnr(&self, low: u8, range: u32) -> Option<i64>
+        requires lowest { 11 ≤ low }
+        requires highest { low ≤ 28 }
+        requires some { 1 ≤ range }
+        requires at_most { range ≤ 1000000 }
+        ensures value { result ≡ binary low range self.now }
+        ensures least { IfSome result (λ v. neg_ℤ (pos range) ≤ℤ v) }
+        ensures greatest { IfSome result (λ v. v ≤ℤ pos range) }
+    {
+        if self.ssm() == 3 {
+            Some(scaled(self.signed(low), range, 29 - low))
+        } else {
+            None
+        }
+    }
+
+    /// A number of five decimal digits, plus with SSM 00 and minus with SSM 11. `None` exactly where the SSM is
+    /// 01 or 10, or a digit is above 9.
+    #[tactic(auto, unfolding(ecam_spec::specs::Reading::decimal))]
+    pub fn bcd(&self) -> Option<i64>
+        ensures value { result ≡ decimal self.now }
+        ensures least { IfSome result (λ v. neg_ℤ (pos 79999) ≤ℤ v) }
+        ensures greatest { IfSome result (λ v. v ≤ℤ pos 79999) }
+    {
+        if !self.has_digits() {
+            return None;
+        }
+        let number = i64::from(self.number());
+        match self.ssm() {
+            0 => Some(number),
+            3 => Some(-number),
+            _ => None,
+        }
+    }
+
+    // The bits from `first` on as a number, `first` the least.
+    #[tactic(auto, using(crate::proofs::Fields::field_bits))]
+    fn field(&self, first: u8, width: u8) -> u32
+        requires begin { 1 ≤ first }
+        requires end { first + width ≤ 32 }
+        ensures value { result ≡ digit first width self.now }
+        ensures bound { result < 2 ^ width }
+    {
+        self.bits >> (first - 1) & ((1 << width) - 1)
+    }
+
+    // The bits from `low` to 29 as a number in two's complement.
+    #[tactic(auto, unfolding(ecam_spec::specs::Reading::raw))]
+    fn signed(&self, low: u8) -> i64
+        requires lowest { 11 ≤ low }
+        requires highest { low ≤ 28 }
+        ensures value { result ≡ raw low self.now }
+        ensures least { neg_ℤ (pos (2 ^ (29 - low))) ≤ℤ result }
+        ensures greatest { result ≤ℤ pos (2 ^ (29 - low)) }
+    {
+        let magnitude = i64::from(self.field(low, 29 - low));
+        let sign = i64::from(self.field(29, 1) << (29 - low));
+        magnitude - sign
+    }
+
+    // No decimal digit is above 9. The first has three bits.
+    fn has_digits(&self) -> bool
+        ensures { result ≡ has_digits self.now }
+    {
+        self.field(23, 4) <= 9
+            && self.field(19, 4) <= 9
+            && self.field(15, 4) <= 9
+            && self.field(11, 4) <= 9
+    }
+
+    // The number that the five decimal digits are.
+    fn number(&self) -> u32
+        ensures value { result ≡ decimal_number self.now }
+        ensures bound { IsTrue (has_digits self.now) → result ≤ 79999 }
+    {
+        self.field(27, 3) * 10000
+            + self.field(23, 4) * 1000
+            + self.field(19, 4) * 100
+            + self.field(15, 4) * 10
+            + self.field(11, 4)
+    }
+}
+
+// A number of 2^`bits` steps to the range, rounded down.
+fn scaled(steps: i64, range: u32, bits: u8) -> i64
+    requires least { neg_ℤ (pos (2 ^ bits)) ≤ℤ steps }
+    requires greatest { steps ≤ℤ pos (2 ^ bits) }
+    requires range { range ≤ 1000000 }
+    requires bits { bits ≤ 18 }
+    ensures value { result ≡ int_div_euclid (steps *ℤ pos range) (pos (2 ^ bits)) }
+    ensures least { neg_ℤ (pos range) ≤ℤ result }
+    ensures greatest { result ≤ℤ pos range }
+{
+    (steps * i64::from(range)).div_euclid(1 << bits)
 }

@@ -1,5 +1,5 @@
 -- What several calls in a row do to a source, a shelf or a sink.
-use Rattle.std.proofs.Common.{◌≡◌, ℕ, ◌+◌, ◌≤◌, List, [], ◌++◌, Option, None, Some, IsSomeAnd, length, take, drop, refl, sym, ◌∙◌, ap, subst, inl, inr, ◌^◌, ◌-◌, arith, append_assoc, append-nil, length-take, length-append}
+use Rattle.std.proofs.Common.{ℕ, ◌+◌, ◌≤◌, List, [], ◌++◌, Option, None, Some, IsSomeAnd, length, take, drop, refl, sym, ◌∙◌, ap, subst, inl, inr, ◌^◌, ◌-◌, arith, append_assoc, append-nil, length-take, length-append}
 use Rattle.std.proofs.lemmas.List.{take_all, take-append-le}
 use Rattle.std.proofs.lemmas.Bool.{cases_eq}
 use Rattle.std.proofs.Math.Seq.{take-add, take-append-add}

@@ -12,3 +12,6 @@ pub use memory_shelf::{MemoryFile, MemoryShelf};
 pub use memory_sink::MemorySink;
 pub use os::{OsErr, OsOut, OsShelf};
 pub use outside::{Failed, Shelf, Sink, Source, put_all};
+
+#[cfg(test)]
+mod tests;

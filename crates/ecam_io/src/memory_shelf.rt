@@ -141,7 +141,7 @@ impl MemoryShelf {
         requires { 0 < length into.old }
         ensures count { result ≡ min (min self.old.piece (length self.old.left)) (length into.old) }
         ensures moved { take result into.new ≡ take result self.old.left }
-        ensures end { result ≡ 0 → self.old.left ≡ [] }
+        ensures end { result ≡ 0 → self.new.left ≡ [] }
         ensures state { self.new ≡ record self.old { left = drop result self.old.left } }
     {
         let rest = unread(&self.files, self.file, self.taken);
@@ -166,7 +166,7 @@ impl Source for MemoryShelf {
         requires { 0 < length into.old }
         ensures bound { IfOk result (λ n. n ≤ length into.old) }
         ensures moved { IfOk result (λ n. Consumes (Some self.old.left) (Some self.new.left) (take n into.new)) }
-        ensures end { IfOk result (λ n. n ≡ 0 → IsAtEnd (Some self.old.left)) }
+        ensures end { IfOk result (λ n. n ≡ 0 → IsAtEnd (Some self.new.left)) }
         ensures kept { OnErr result (Some self.new.left ≡ Some self.old.left) }
         ensures files { Some self.new.files ≡ Some self.old.files }
         ensures opens { self.new.opens ≡ self.old.opens }

@@ -92,10 +92,8 @@ impl MemorySink {
         ensures some { 0 < result }
         ensures state { self.new ≡ record self.old { bytes = self.old.bytes ++ take result bytes.now } }
     {
-        let n = self
-            .piece
-            .min(self.room - self.bytes.len())
-            .min(bytes.len());
+        let free = self.room - self.bytes.len();
+        let n = self.piece.min(free).min(bytes.len());
         self.bytes.extend_from_slice(&bytes[..n]).unwrap();
         n
     }

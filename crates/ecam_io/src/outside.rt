@@ -27,7 +27,7 @@ pub trait Source {
         requires { 0 < length into.old }
         ensures bound { IfOk result (λ n. n ≤ length into.old) }
         ensures moved { IfOk result (λ n. Consumes (left self.old) (left self.new) (take n into.new)) }
-        ensures end { IfOk result (λ n. n ≡ 0 → IsAtEnd (left self.old)) }
+        ensures end { IfOk result (λ n. n ≡ 0 → IsAtEnd (left self.new)) }
         ensures kept { OnErr result (left self.new ≡ left self.old) }
         ensures files { files self.new ≡ files self.old }
         ensures opens { opens self.new ≡ opens self.old }

@@ -1,9 +1,9 @@
 -- The step of each word of past-time logic: what it says in one more moment. Every proof over histories
 -- goes by these.
-use Rattle.std.proofs.Common.{◌≡◌, ℕ, zero, suc, ◌+◌, ◌-◌, ◌<◌, ◌≤◌, Bool, true, false, not, ◌&&◌, ◌||◌, Option, Some, None, ltb, leb, cond, refl, sym, ◌∙◌, ap, subst, arith}
-use Rattle.std.proofs.lemmas.Bool.{lt-ltb, le-ltb, le-leb}
-use Rattle.std.specs.Prelude.{is_some}
-use Rattle.ecam_spec.specs.Past.{Signal, once, historically, once_from, historically_from, once_within, historically_within, since, previous, rise, last, next, begin_of, count_up_to, count_from}
+use Rattle.std.proofs.Common.{◌≡◌, ℕ, zero, suc, ◌<◌, ◌≤◌, Bool, true, false, not, ◌&&◌, ◌||◌, Option, Some, None, ltb, leb, cond, refl, sym, ◌∙◌, ap, arith}
+use Rattle.std.proofs.lemmas.Bool.{lt-ltb, le-ltb, le-leb, lt-leb}
+use Rattle.std.specs.Prelude.{is_some, unwrap_or}
+use Rattle.ecam_spec.specs.Past.{Signal, once, historically, once_from, historically_from, since, previous, rise, last, next, begin_of}
 
 pub once-suc : (p : Signal) (k : ℕ) → once p (suc k) ≡ (p (suc k) || once p k)
 unfolding once
@@ -74,6 +74,10 @@ historically_from-suc j p k within =
     let past : ltb (suc k) j ≡ false = le-ltb (suc k) j within in
     ap (λ b. (b || p (suc k)) && historically (λ i. ltb i j || p i) k) past
 
+pub once_from-zero : (p : Signal) → once_from 0 p 0 ≡ p 0
+unfolding once_from once
+once_from-zero p = refl
+
 -- one more moment, which isn't before j
 pub once_from-suc : (j : ℕ) (p : Signal) (k : ℕ) → j ≤ suc k → once_from j p (suc k) ≡ (p (suc k) || once_from j p k)
 unfolding once_from once
@@ -92,9 +96,9 @@ since-suc p q k =
     ∙ ap (λ b. (p (suc k) && b) || once (λ j. p j && historically_from (suc j) q (suc k)) k) (historically_from-after (suc (suc k)) q (suc k) (omega arith))
     ∙ ap (λ b. b || once (λ j. p j && historically_from (suc j) q (suc k)) k) (and-true (p (suc k)))
     ∙ ap (λ b. p (suc k) || b)
-        (once-below (λ j. p j && historically_from (suc j) q (suc k)) (λ j. q (suc k) && (p j && historically_from (suc j) q k)) k
-            (λ j h. ap (λ b. p j && b) (historically_from-suc (suc j) q k (omega arith)) ∙ and-swap (p j) (q (suc k)) (historically_from (suc j) q k))
-        ∙ once-and (q (suc k)) (λ j. p j && historically_from (suc j) q k) k)
+    (once-below (λ j. p j && historically_from (suc j) q (suc k)) (λ j. q (suc k) && (p j && historically_from (suc j) q k)) k
+    (λ j h. ap (λ b. p j && b) (historically_from-suc (suc j) q k (omega arith)) ∙ and-swap (p j) (q (suc k)) (historically_from (suc j) q k))
+    ∙ once-and (q (suc k)) (λ j. p j && historically_from (suc j) q k) k)
 
 pub rise-suc : (p : Signal) (k : ℕ) → rise p (suc k) ≡ (p (suc k) && not (p k))
 unfolding rise previous
@@ -123,3 +127,97 @@ begin_of-suc p k =
 pub begin_of-zero : (p : Signal) → begin_of p 0 ≡ cond (p 0) 0 1
 unfolding begin_of last
 begin_of-zero p = elim (p 0) as (λ b. next (elim (not b) [ true ↦ Some 0 | false ↦ None ]) ≡ cond b 0 1) [ true ↦ refl | false ↦ refl ]
+
+pub historically_from-below : (j : ℕ) (p q : Signal) (k : ℕ) → ((i : ℕ) → i ≤ k → p i ≡ q i) → historically_from j p k ≡ historically_from j q k
+unfolding historically_from
+historically_from-below j p q k same =
+    historically-below (λ i. ltb i j || p i) (λ i. ltb i j || q i) k (λ i h. ap (λ b. ltb i j || b) (same i h))
+
+-- signals that agree up to now agree in one since the other
+pub since-below : (p q r s : Signal) (k : ℕ) → ((i : ℕ) → i ≤ k → p i ≡ r i) → ((i : ℕ) → i ≤ k → q i ≡ s i) → since p q k ≡ since r s k
+unfolding since
+since-below p q r s k first second =
+    once-below (λ j. p j && historically_from (suc j) q k) (λ j. r j && historically_from (suc j) s k) k
+    (λ j h.
+    let begun : p j ≡ r j = first j h in
+    let kept : historically_from (suc j) q k ≡ historically_from (suc j) s k = historically_from-below (suc j) q s k second in
+    cc)
+
+or-false : (b : Bool) → (b || false) ≡ b
+or-false true = refl
+or-false false = refl
+
+and-false : (b : Bool) → (b && false) ≡ false
+and-false true = refl
+and-false false = refl
+
+-- q since p, now, by the moment before
+pub since-now : (p q : Signal) (k : ℕ) → since p q k ≡ (p k || (q k && previous (since p q) k))
+unfolding previous
+since-now p q zero = since-zero p q ∙ sym (ap (λ b. p 0 || b) (and-false (q 0)) ∙ or-false (p 0))
+since-now p q (suc k) = since-suc p q k
+
+-- no moment is left
+pub once_from-after : (j : ℕ) (p : Signal) (k : ℕ) → k < j → once_from j p k ≡ false
+unfolding once_from
+once_from-after j p k after =
+    once-below (λ i. leb j i && p i) (λ i. false) k (λ i h. ap (λ b. b && p i) (lt-leb j i (omega arith))) ∙ once-nowhere k
+
+-- from now on there is now alone
+pub once_from-here : (p : Signal) (k : ℕ) → once_from k p k ≡ p k
+once_from-here p zero = once_from-zero p
+once_from-here p (suc k) =
+    once_from-suc (suc k) p k (omega arith) ∙ ap (λ b. p (suc k) || b) (once_from-after (suc k) p k (omega arith)) ∙ or-false (p (suc k))
+
+-- what is so now was so in some moment from j up to now
+pub once_from-now : (j : ℕ) (p : Signal) (k : ℕ) → j ≤ k → p k ≡ true → once_from j p k ≡ true
+once_from-now j p zero within now =
+    let first : j ≡ 0 = omega arith in
+    ap (λ i. once_from i p 0) first ∙ once_from-zero p ∙ now
+once_from-now j p (suc k) within now = once_from-suc j p k within ∙ or-first (p (suc k)) (once_from j p k) now
+
+pub last-zero : (p : Signal) → last p 0 ≡ cond (p 0) (Some 0) None
+unfolding last
+last-zero p = elim (p 0) as (λ b. elim b [ true ↦ Some 0 | false ↦ None ] ≡ cond {A = Option ℕ} b (Some 0) None) [ true ↦ refl | false ↦ refl ]
+
+-- the last moment with p is now where p holds now
+pub last-here : (p : Signal) (k : ℕ) → p k ≡ true → last p k ≡ Some k
+last-here p zero now = last-zero p ∙ ap (λ b. cond b (Some 0) None) now
+last-here p (suc k) now = last-suc p k ∙ ap (λ b. cond b (Some (suc k)) (last p k)) now
+
+-- the last moment with p is no later one
+pub last-le : (p : Signal) (k : ℕ) → unwrap_or (last p k) 0 ≤ k
+unfolding last
+last-le p zero = elim (p 0) as (λ b. unwrap_or {T = ℕ} (elim b [ true ↦ Some 0 | false ↦ None ]) 0 ≤ 0) [ true ↦ omega arith | false ↦ omega arith ]
+last-le p (suc k) = elim (p (suc k)) as (λ b. unwrap_or {T = ℕ} (elim b [ true ↦ Some (suc k) | false ↦ last p k ]) 0 ≤ suc k) [ true ↦ omega arith | false ↦ omega (arith, last-le p k) ]
+
+-- the stretch is empty where p doesn't hold now
+pub begin_of-off : (p : Signal) (k : ℕ) → p k ≡ false → begin_of p k ≡ suc k
+begin_of-off p zero off = begin_of-zero p ∙ ap (λ b. cond b 0 1) off
+begin_of-off p (suc k) off = begin_of-suc p k ∙ ap (λ b. cond b (begin_of p k) (suc (suc k))) off
+
+-- the stretch goes on
+pub begin_of-on : (p : Signal) (k : ℕ) → p (suc k) ≡ true → begin_of p (suc k) ≡ begin_of p k
+begin_of-on p k on = begin_of-suc p k ∙ ap (λ b. cond b (begin_of p k) (suc (suc k))) on
+
+-- the stretch begins now
+pub begin_of-rise : (p : Signal) (k : ℕ) → p k ≡ true → previous p k ≡ false → begin_of p k ≡ k
+unfolding previous
+begin_of-rise p zero on before = begin_of-zero p ∙ ap (λ b. cond b 0 1) on
+begin_of-rise p (suc k) on before = begin_of-on p k on ∙ begin_of-off p k before
+
+cond-le : (b : Bool) (x y n : ℕ) → x ≤ n → y ≤ n → cond b x y ≤ n
+cond-le true x y n first second = first
+cond-le false x y n first second = second
+
+-- the stretch begins no later than after now
+pub begin_of-le : (p : Signal) (k : ℕ) → begin_of p k ≤ suc k
+begin_of-le p zero = rw (begin_of-zero p) (cond-le (p 0) 0 1 1 (omega arith) (omega arith))
+begin_of-le p (suc k) =
+    let before : begin_of p k ≤ suc k = begin_of-le p k in
+    rw (begin_of-suc p k) (cond-le (p (suc k)) (begin_of p k) (suc (suc k)) (suc (suc k)) (omega arith) (omega arith))
+
+-- a stretch that is there begins no later than now
+pub begin_of-on-le : (p : Signal) (k : ℕ) → p k ≡ true → begin_of p k ≤ k
+begin_of-on-le p zero on = rw (begin_of-zero p) (rw on (omega arith))
+begin_of-on-le p (suc k) on = rw (begin_of-on p k on) (begin_of-le p k)

@@ -35,6 +35,12 @@ abbrev pub comes_up : Event → Bool
 comes_up (Up n) = true
 comes_up _ = false
 
+-- a computer fails or comes up
+abbrev pub changes_computers : Event → Bool
+changes_computers (Fail n) = true
+changes_computers (Up n) = true
+changes_computers _ = false
+
 -- at this place of a history a computer comes up while both were down
 unfoldable pub begins_era : List Event → Signal
 begins_era h i = comes_up (get_or h i Tick) && none_up (flags_after (take i h))

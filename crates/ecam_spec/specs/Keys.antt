@@ -1,12 +1,17 @@
 -- The keys in each moment: pressed, held, and the long recall. The keys are the A320's (DSC-31); what counts
 -- as a press, and how long a long one is, are this project's own.
-use Rattle.std.specs.Prelude.{ℕ, suc, ◌+◌, Bool, false, ◌&&◌, ◌==◌, List, [], ◌∷◌, get_or, Option, Some, None, is_none, unwrap_or, if◌then◌else◌}
+use Rattle.std.specs.Prelude.{ℕ, ◌+◌, ◌≤◌, Bool, false, ◌&&◌, ◌==◌, List, [], ◌∷◌, Option, Some, None, is_none, unwrap_or, if◌then◌else◌}
 use Rattle.std.specs.List.{list_any}
 use Rattle.std.specs.Option.{option_or}
 use Rattle.ecam_spec.specs.declared.kinds.Key.{Key}
 use Rattle.ecam_spec.specs.declared.kinds.Key.TheVariants.{Clr, Rcl, Sts, All, Emer, ToCfg, Mw, Mc, Page}
 use Rattle.ecam_spec.specs.Past.{Signal, since, historically_within}
 use Rattle.ecam_spec.specs.History.{Stroke}
+
+-- a page's key has a number from 1 to 16
+abbrev pub IsKey : Key → Type 0
+IsKey (Page i) = (1 ≤ i) × (i ≤ 16)
+IsKey _ = Unit {0}
 
 -- each key has a number of its own
 abbrev pub key_number : Key → ℕ

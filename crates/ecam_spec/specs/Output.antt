@@ -1,9 +1,8 @@
 -- The output: for each Tick whose picture differs from that of the Tick before, a block of the changed rows.
 -- Its form is this project's own.
-use Rattle.std.specs.Prelude.{ℕ, zero, suc, Bool, true, false, List, [], ◌∷◌, ◌++◌, map, codes, decimal, if◌then◌else◌}
+use Rattle.std.specs.Prelude.{ℕ, zero, suc, List, [], ◌∷◌, ◌++◌, codes, decimal, if◌then◌else◌}
 use Rattle.ecam_spec.specs.declared.kinds.Colour.{Colour}
-use Rattle.ecam_spec.specs.declared.kinds.Colour.TheVariants.{Red, Amber, Green, White, Cyan, Magenta, Blank}
-use Rattle.ecam_spec.specs.Places.{below}
+use Rattle.ecam_spec.specs.declared.kinds.Colour.TheVariants.{Blank}
 use Rattle.ecam_spec.specs.Book.{Text}
 use Rattle.ecam_spec.specs.Picture.{Row, Picture, blank, colour_letter, same_row, same_picture}
 

@@ -1,6 +1,7 @@
 -- Past-time temporal logic: what was so up to now. A signal is a truth in each moment, and each word
 -- here makes a signal, or a number, of signals. The moments are numbered from 0.
 use Rattle.std.specs.Prelude.{ℕ, zero, suc, ◌+◌, ◌-◌, Bool, true, false, not, ◌&&◌, ◌||◌, Option, Some, None, nat_le, nat_lt}
+use Rattle.std.specs.Option.{option_map_or}
 
 abbrev pub Signal : Type 0
 Signal = ℕ → Bool
@@ -66,3 +67,13 @@ count_up_to p (suc k) = elim (p (suc k)) [ true ↦ count_up_to p k + 1 | false 
 -- in how many moments from j up to now p holds
 unfoldable pub count_from : ℕ → Signal → ℕ → ℕ
 count_from j p = count_up_to (λ i. nat_le j i && p i)
+
+-- for how many moments in a row p held, up to the moment before now
+unfoldable pub run_length : Signal → ℕ → ℕ
+run_length p zero = 0
+run_length p (suc k) = suc k - begin_of p k
+
+-- for how many moments, from now on, `once_within n p` holds even if p holds no more
+unfoldable pub moments_left : ℕ → Signal → ℕ → ℕ
+moments_left n p zero = 0
+moments_left n p (suc k) = option_map_or (λ j. j + n - k) (last p k) 0

@@ -1,6 +1,6 @@
 -- The flight phase, 1 to 10, from six signals. The outline is the A320's (DSC-31); the exact rules, with a
 -- rejected take-off, a go-around and a restart, are this project's own.
-use Rattle.std.specs.Prelude.{ℕ, ◌-◌, Bool, not, ◌&&◌, ◌||◌, nat_lt, Option, if◌then◌else◌}
+use Rattle.std.specs.Prelude.{ℕ, ◌-◌, not, ◌&&◌, ◌||◌, nat_lt, if◌then◌else◌}
 use Rattle.std.specs.Prelude.{unwrap_or}
 use Rattle.ecam_spec.specs.Past.{Signal, once_from, since, previous, rise, last, begin_of}
 

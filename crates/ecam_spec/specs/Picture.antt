@@ -1,6 +1,6 @@
 -- The picture: 36 rows, each with a colour and a text, or blank. The zones are the A320's (DSC-31); the number
 -- of their rows is this project's own.
-use Rattle.std.specs.Prelude.{ℕ, ◌-◌, Bool, ◌&&◌, ◌==◌, List, [], ◌∷◌, ◌++◌, length, take, replicate, codes}
+use Rattle.std.specs.Prelude.{ℕ, Bool, ◌&&◌, List, [], ◌∷◌, ◌++◌, take, replicate, codes}
 use Rattle.std.specs.Str.{bytes_eq}
 use Rattle.std.specs.Cmp.Lexicographic.{pointwise}
 use Rattle.ecam_spec.specs.declared.kinds.Colour.{Colour}

@@ -1,8 +1,7 @@
 -- The record: bytes in lines, of which each says an event. Its form, its faults and their order are this
 -- project's own. A place is a byte's, from 0; each rule speaks of the whole text.
-use Rattle.std.specs.Prelude.{ℕ, zero, suc, ◌+◌, ◌-◌, ◌*◌, Bool, true, false, not, ◌&&◌, ◌||◌, ◌==◌, nat_le, nat_lt, List, [], ◌∷◌, ◌++◌, length, get_or, take, drop, filter, filter_map, Option, Some, None, is_some, is_none, unwrap_or, if◌then◌else◌}
+use Rattle.std.specs.Prelude.{ℕ, zero, suc, ◌+◌, not, ◌&&◌, ◌==◌, nat_le, nat_lt, List, length, get_or, take, drop, filter, filter_map, Option, Some, None, is_some, is_none, unwrap_or, if◌then◌else◌}
 use Rattle.ecam_spec.specs.declared.kinds.Event.{Event}
-use Rattle.ecam_spec.specs.declared.kinds.Event.TheVariants.{End}
 use Rattle.ecam_spec.specs.declared.kinds.FaultKind.{FaultKind}
 use Rattle.ecam_spec.specs.declared.kinds.FaultKind.TheVariants.{Long, Form, Cut, NoEnd, AfterEnd, Limit}
 use Rattle.ecam_spec.specs.declared.kinds.RecordFault.{RecordFault}
@@ -73,4 +72,4 @@ module _ (text : List ℕ) where
   unfoldable pub events : ℕ → List Event
   events limit =
       filter (λ e. not (is_end_event e))
-          (filter_map (λ i. event_of (line_before i)) (filter is_feed (below (sound_length limit))))
+      (filter_map (λ i. event_of (line_before i)) (filter is_feed (below (sound_length limit))))

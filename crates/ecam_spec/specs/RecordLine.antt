@@ -1,6 +1,6 @@
 -- The forms of a record's line, and the event that each says: a letter, and after one blank what it speaks of.
 -- The form is this project's own.
-use Rattle.std.specs.Prelude.{ℕ, ◌+◌, ◌-◌, ◌*◌, Bool, true, false, ◌&&◌, ◌==◌, nat_le, List, [], ◌∷◌, ◌++◌, length, take, drop, find, map, fold, Option, Some, None, option_map, option_and_then, if◌then◌else◌, codes, decimal}
+use Rattle.std.specs.Prelude.{ℕ, ◌+◌, ◌-◌, ◌*◌, Bool, true, false, ◌&&◌, ◌==◌, nat_le, List, ◌∷◌, ◌++◌, length, take, drop, find, map, fold, Option, Some, None, option_map, option_and_then, if◌then◌else◌, codes, decimal}
 use Rattle.std.specs.List.{before_first, after_first, list_all}
 use Rattle.ecam_spec.specs.declared.kinds.Event.{Event}
 use Rattle.ecam_spec.specs.declared.kinds.Event.TheVariants.{Word, Tick, Press, Release, Fail, Up, End}
@@ -48,10 +48,10 @@ bits_of word =
     else None
 
 -- a bus, one blank, and the word's eight digits
-unfoldable pub word_of : Text → Option Event
-word_of words =
+unfoldable pub word_event : Text → Option Event
+word_event words =
     option_and_then (λ b. option_map (λ w. Word b w) (bits_of (after_first (λ c. c == 32) words)))
-        (bus_of (before_first (λ c. c == 32) words))
+    (bus_of (before_first (λ c. c == 32) words))
 
 unfoldable pub is_end : Text → Bool
 is_end line = same_text line (codes "E")
@@ -61,7 +61,7 @@ unfoldable pub event_of : Text → Option Event
 event_of line =
     if same_text line (codes "T") then Some Tick
     else (if is_end line then Some End
-    else (if begins_with (codes "W ") line then word_of (drop 2 line)
+    else (if begins_with (codes "W ") line then word_event (drop 2 line)
     else (if begins_with (codes "P ") line then option_map Press (key_of (drop 2 line))
     else (if begins_with (codes "R ") line then option_map Release (key_of (drop 2 line))
     else (if begins_with (codes "F ") line then option_map Fail (computer_of (drop 2 line))

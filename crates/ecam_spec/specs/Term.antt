@@ -1,6 +1,6 @@
 -- The truth of a condition in each moment, in past-time temporal logic over what the computers know then.
 -- The language of conditions is this project's own.
-use Rattle.std.specs.Prelude.{ℕ, Bool, true, false, not, ◌&&◌, ◌||◌, ◌==◌, nat_le, ℤ, pos, int_lt, int_le, List, [], ◌∷◌, count_by, Option, Some, None, is_some}
+use Rattle.std.specs.Prelude.{ℕ, Bool, false, not, ◌&&◌, ◌==◌, nat_le, ℤ, pos, int_lt, int_le, List, [], ◌∷◌, count_by, Option, Some, None, is_some}
 use Rattle.std.specs.List.{list_any, list_all}
 use Rattle.std.specs.Ordering.{int_eq}
 use Rattle.ecam_spec.specs.declared.kinds.Key.{Key}

@@ -144,3 +144,24 @@ pub struct RecordFault {
     pub kind: FaultKind,
     pub line: u32,
 }
+
+/// A section of a book. Its faults are told in this order.
+#[derive(Clone, Copy, Debug, PartialEq, Eq)]
+pub enum Section {
+    Top,
+    System,
+    Page,
+    Param,
+    Phase,
+    Alert,
+    Memo,
+}
+
+/// What is wrong with a book: the fault's code, 1 to 26, the section in which it stands, and the item of the
+/// section, counted from 1, or 0 for the section as a whole.
+#[derive(Clone, Copy, Debug, PartialEq, Eq)]
+pub struct BookFault {
+    pub code: u8,
+    pub section: Section,
+    pub item: u32,
+}

@@ -1,1 +1,9 @@
-// What the definitions say, as theorems: each is the contract of a function that does nothing.
+//! What the definitions say, as theorems: each is the contract of a function that does nothing.
+
+pub mod accounts;
+pub mod alerts;
+pub mod conditions;
+pub mod crew;
+pub mod failures;
+pub mod history;
+pub mod phases;

@@ -3,8 +3,13 @@
 #![tactic(auto)]
 
 mod kinds;
-mod laws;
+pub mod laws;
+pub mod replay_laws;
+mod terms;
+pub mod title_laws;
 
 pub use kinds::{
-    Choice, Colour, Event, FaultKind, Key, Kind, Level, Op, RecordFault, Sound, Standing,
+    BookFault, Choice, Colour, Event, FaultKind, Key, Kind, Level, Op, RecordFault, Section, Sound,
+    Standing,
 };
+pub use terms::{Expected, Listed, NameRole, NumberRole, Reserved, Span, Step, Token};

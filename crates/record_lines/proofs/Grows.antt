@@ -9,7 +9,7 @@ use Rattle.std.proofs.lemmas.Slice.Eq.{bytes_eq-Decides}
 use Rattle.ecam_spec.specs.declared.kinds.Event.{Event}
 use Rattle.ecam_spec.specs.declared.kinds.Event.TheVariants.{Word, Tick, Press, Release, Fail, Up, End}
 use Rattle.ecam_spec.specs.declared.kinds.FaultKind.TheVariants.{Long, Form, AfterEnd, Limit}
-use Rattle.ecam_spec.specs.RecordLine.{event_of, is_end, is_end_event, begins_with, word_of, key_of, computer_of, bits_of, bus_of}
+use Rattle.ecam_spec.specs.RecordLine.{event_of, is_end, is_end_event, begins_with, word_event as word_of, key_of, computer_of, bits_of, bus_of}
 use Rattle.ecam_spec.specs.Record.{wrong_place, events}
 use Rattle.record_lines.specs.Reads.{last_line, last_number, is_over}
 use Rattle.record_lines.proofs.Steps.{said, line_events}

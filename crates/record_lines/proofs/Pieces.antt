@@ -19,11 +19,10 @@ slice_range-empty xs n fits empty =
     let none = ap length empty in
     omega (arith, length-drop 0 xs)
 
--- a source that was at its end, and of which nothing was taken
-pub IsSpent-read : (old new : Option (List ℕ)) (bytes : List ℕ) → bytes ≡ [] → Consumes old new bytes → IsAtEnd old → IsSpent old new
-IsSpent-read None new bytes none moved end = tt
-IsSpent-read (Some xs) None bytes none moved end = absurd moved
-IsSpent-read (Some xs) (Some ys) bytes none moved end = sym (ap (λ l. l ++ ys) none) ∙ sym moved ∙ end
+-- a source that is at its end
+pub IsSpent-end : (old new : Option (List ℕ)) → IsAtEnd new → IsSpent old new
+IsSpent-end None new end = tt
+IsSpent-end (Some xs) new end = end
 
 -- nothing is left after some bytes were taken and nothing was left
 pub IsSpent-after : (old mid new : Option (List ℕ)) (bytes : List ℕ) → Consumes old mid bytes → IsSpent mid new → IsSpent old new

@@ -1,6 +1,6 @@
 // The forms of a line.
 ghost use Rattle.std.specs.Prelude.{◌≡◌, ◌==◌, [], ◌∷◌, position};
-ghost use Rattle.ecam_spec.specs.RecordLine.{bits_of, event_of, key_of, word_of};
+ghost use Rattle.ecam_spec.specs.RecordLine.{bits_of, event_of, key_of, word_event as word_of};
 ghost use Rattle.record_lines.specs.Line.{digit_value, named_key_of, number_of, number_within};
 
 use ecam_kinds::{Event, Key};

@@ -1,0 +1,36 @@
+use crate::Word;
+
+/// Words, and what their data say in binary from a lowest bit with a range.
+const BINARY: [(u32, u8, u32, Option<i64>); 5] = [
+    (0x70000000, 11, 1000, Some(-1000)),
+    (0x6ffffc00, 11, 1000, Some(999)),
+    (0x7ffffc00, 11, 1000, Some(-1)),
+    (0x68000000, 28, 1000, Some(500)),
+    (0x10000000, 11, 1000, None),
+];
+
+/// Words, and what their data say in decimal.
+const DECIMAL: [(u32, Option<i64>); 4] = [
+    (0x048d1400, Some(12345)),
+    (0x648d1400, Some(-12345)),
+    (0x248d1400, None),
+    (0x048d2800, None),
+];
+
+#[test]
+fn words_are_read(rt: HostRuntime) {
+    for (bits, low, range, value) in BINARY {
+        assert!(rt; low >= 11 && low <= 28 && range >= 1 && range <= 1000000);
+        assert_eq!(rt; Word::new(bits).bnr(low, range), value);
+    }
+    for (bits, value) in DECIMAL {
+        assert_eq!(rt; Word::new(bits).bcd(), value);
+    }
+    let discrete = Word::new(0x0000041d);
+    assert_eq!(rt; discrete.label(), 0o270);
+    assert_eq!(rt; discrete.sdi(), 0);
+    assert_eq!(rt; discrete.ssm(), 0);
+    assert!(rt; discrete.odd());
+    assert_eq!(rt; discrete.disc(11), Some(1));
+    assert_eq!(rt; discrete.disc(12), Some(0));
+}

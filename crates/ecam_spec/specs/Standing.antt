@@ -1,0 +1,58 @@
+-- Where an alert stands, as `why` tells it: the first of the standings that applies.
+use Rattle.std.specs.Prelude.{ℕ, Bool, true, false, not, ◌++◌, nat_le, Option, Some, None, codes, decimal, if◌then◌else◌}
+use Rattle.ecam_spec.specs.declared.kinds.Standing.{Standing}
+use Rattle.ecam_spec.specs.declared.kinds.Standing.TheVariants.{Dead, Quiet, Waiting, Starred, Cancelled, Cleared, Titled, Counted}
+use Rattle.ecam_spec.specs.Book.{Text}
+
+-- what is so of an alert in a moment: it is present, active; the first active primary; it is cancelled,
+-- cleared; the row of its title among all rows of the left zone
+pub record Facts : Type 0 where
+  pub present : Bool
+  pub active : Bool
+  pub starred_by : Option ℕ
+  pub cancelled : Bool
+  pub cleared : Bool
+  pub title_row : Option ℕ
+
+-- by its title, in the first seven rows or beyond
+abbrev pub standing_by_row : Option ℕ → Standing
+standing_by_row None = Counted
+standing_by_row (Some r) = if nat_le r 7 then Titled r else Counted
+
+abbrev pub standing_by_primary : Option ℕ → Standing → Standing
+standing_by_primary (Some p) other = Starred p
+standing_by_primary None other = other
+
+-- of an alert in the last moment of an era with a computer up
+unfoldable pub standing_of : Facts → Standing
+standing_of f =
+    if not f.present then Quiet
+    else (if not f.active then Waiting
+    else standing_by_primary f.starred_by
+    (if f.cancelled then Cancelled
+    else (if f.cleared then Cleared
+    else standing_by_row f.title_row)))
+
+-- the standings that an active alert has
+abbrev pub accounts : Standing → Bool
+accounts (Starred p) = true
+accounts Cancelled = true
+accounts Cleared = true
+accounts (Titled r) = true
+accounts Counted = true
+accounts _ = false
+
+abbrev pub is_counted : Standing → Bool
+is_counted Counted = true
+is_counted _ = false
+
+-- how `why` prints it, where `names` tells the alerts' names
+unfoldable pub standing_text : (ℕ → Text) → Standing → Text
+standing_text names Dead = codes "dead"
+standing_text names Quiet = codes "quiet"
+standing_text names Waiting = codes "waiting"
+standing_text names (Starred p) = codes "starred " ++ names p
+standing_text names Cancelled = codes "cancelled"
+standing_text names Cleared = codes "cleared"
+standing_text names (Titled r) = codes "titled " ++ decimal r
+standing_text names Counted = codes "counted"

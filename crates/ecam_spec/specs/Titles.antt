@@ -1,0 +1,74 @@
+-- The books that use nothing but titles, and what they show: an amber title for each alert whose discrete is one.
+-- They are this project's own.
+use Rattle.std.specs.Prelude.{◌≡◌, ℕ, ◌-◌, true, false, nat_lt, pos, List, [], ◌∷◌, ◌++◌, map, length, filter, ⊤, All, replicate, Option, Some, None, option_and_then}
+use Rattle.std.specs.Ordering.{int_eq}
+use Rattle.ecam_spec.specs.declared.kinds.Colour.TheVariants.{Amber}
+use Rattle.ecam_spec.specs.declared.kinds.Event.{Event}
+use Rattle.ecam_spec.specs.declared.kinds.Event.TheVariants.{Word, Tick, Press, Release}
+use Rattle.ecam_spec.specs.declared.kinds.Key.TheVariants.{ToCfg}
+use Rattle.ecam_spec.specs.declared.kinds.Level.TheVariants.{One}
+use Rattle.ecam_spec.specs.Past.{Signal}
+use Rattle.ecam_spec.specs.Book.{Tree, constant, discrete, PhaseTerms, Alert, Book}
+use Rattle.ecam_spec.specs.Term.{is_so}
+use Rattle.ecam_spec.specs.History.{Stroke, Moment}
+use Rattle.ecam_spec.specs.Picture.{row, blank_row, zone, Picture}
+use Rattle.ecam_spec.specs.StatusPage.{flags, flags_row}
+use Rattle.ecam_spec.specs.Situation.{alert_at, value_in}
+use Rattle.ecam_spec.specs.Screen.{alert_numbers}
+
+-- the phase's conditions where the book names none: always on ground, with no engine running
+abbrev pub always_parked : PhaseTerms
+always_parked =
+    record { gnd = constant true; run = constant false; tp = constant false; fast = constant false; high = constant false; low = constant false }
+
+-- an alert that is its title alone: of level 1, at once where a discrete is one, in each phase
+pub record IsTitle (a : Alert) : Type 0 where
+  pub level : a.level ≡ One
+  pub when : (p : ℕ) × (a.when ≡ discrete p)
+  pub page : a.page ≡ None
+  pub confirm : a.confirm ≡ 0
+  pub inhibit : a.inhibit ≡ 0
+  pub secondary : a.secondary ≡ []
+  pub lines : a.lines ≡ []
+  pub status : a.status ≡ []
+
+-- a book of such alerts, with no pages, phases or memos
+pub record IsTitleBook (b : Book) : Type 0 where
+  pub pages : b.pages ≡ []
+  pub phase : b.phase ≡ always_parked
+  pub alerts : All IsTitle b.alerts
+  pub memos : b.memos ≡ []
+
+-- the parameter of a condition that is one discrete and no more
+abbrev pub discrete_of : Tree → Option ℕ
+discrete_of (discrete p) = Some p
+discrete_of _ = None
+
+module _ (b : Book) (moments : ℕ → Moment) where
+  -- the discrete of the alert is one
+  unfoldable pub is_titled : ℕ → Signal
+  is_titled a k = is_so (int_eq (pos 1)) (option_and_then (λ p. value_in b moments p k) (discrete_of (alert_at b a).when))
+
+  -- the alerts whose discrete is one, by their numbers in the book's order
+  unfoldable pub titles_in : ℕ → List ℕ
+  titles_in k = filter (λ a. is_titled a k) (alert_numbers b)
+
+-- seven titles in the left zone, how many stand beyond them in the flags, and no other row
+unfoldable pub title_picture : Book → List ℕ → Picture
+title_picture b alerts =
+    zone 7 (map (λ a. row Amber (alert_at b a).title) alerts)
+    ++ replicate 7 blank_row
+    ++ flags_row (flags (nat_lt 7 (length alerts)) (length alerts - 7) 0 []) ∷ []
+    ++ replicate 21 blank_row
+
+-- of all keys T.O. CONFIG alone goes down or up in the moment
+abbrev pub OnlyToCfg : Moment → Type 0
+OnlyToCfg m = All (λ (s : Stroke). s.key ≡ ToCfg) m.strokes
+
+-- an event of such a moment, while both computers stay up
+abbrev pub IsTitleEvent : Event → Type 0
+IsTitleEvent (Word b w) = ⊤
+IsTitleEvent Tick = ⊤
+IsTitleEvent (Press k) = k ≡ ToCfg
+IsTitleEvent (Release k) = k ≡ ToCfg
+IsTitleEvent _ = ⊥

@@ -1,0 +1,5 @@
+pub mod Trips
+pub mod Stretches
+pub mod Climbing
+pub mod Numbers
+pub mod Agree

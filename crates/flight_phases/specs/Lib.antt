@@ -1,0 +1,4 @@
+pub mod Inputs
+pub mod Climbs
+pub mod Situations
+pub mod State

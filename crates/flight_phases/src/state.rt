@@ -1,0 +1,53 @@
+// The automaton.
+ghost use Rattle.std.specs.Prelude.{◌≡◌, ◌≤◌, ℕ, suc};
+ghost use Rattle.ecam_spec.specs.Phase.{Flight, phase};
+ghost use Rattle.flight_phases.specs.Inputs.{AreInputs};
+ghost use Rattle.flight_phases.specs.Situations.{StandsAs};
+ghost use Rattle.flight_phases.specs.State.{Stands};
+
+use crate::inputs::PhaseInputs;
+use crate::situation::Situation;
+use ecam_kinds::Phase;
+
+/// What the phases so far leave for the next: how the last moment stands among those before it. It has
+/// the same few bytes whatever the history.
+#[derive(Clone, Copy, Debug, PartialEq, Eq)]
+pub struct PhaseState {
+    last: Option<Situation>,
+}
+
+impl PhaseState {
+    /// The state before the first moment.
+    pub fn new() -> PhaseState
+        ensures { (f : Flight) → Stands f 0 result }
+    {
+        PhaseState { last: None }
+    }
+
+    /// Takes one moment more, of 100 ms, and answers its phase, in a few comparisons.
+    pub fn step(&mut self, inputs: &PhaseInputs) -> Phase
+        ensures first { 1 ≤ result.number }
+        ensures last { result.number ≤ 10 }
+        // Whatever the moments before were, the phase is that of the definition over all of them.
+        ensures answer { (f : Flight) (k : ℕ) → Stands f k self.old → AreInputs f k inputs.now
+            → result.number ≡ phase f k }
+        ensures stands { (f : Flight) (k : ℕ) → Stands f k self.old → AreInputs f k inputs.now
+            → Stands f (suc k) self.new }
+    {
+        let situation = self.next_situation(inputs);
+        self.last = Some(situation);
+        Phase {
+            number: situation.number(inputs),
+        }
+    }
+
+    // The situation of the next moment.
+    fn next_situation(&self, inputs: &PhaseInputs) -> Situation
+        ensures { (f : Flight) (k : ℕ) → Stands f k self.now → AreInputs f k inputs.now → StandsAs f k result }
+    {
+        match self.last {
+            None => Situation::first(inputs),
+            Some(last) => last.next(inputs),
+        }
+    }
+}

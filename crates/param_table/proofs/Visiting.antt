@@ -1,0 +1,141 @@
+-- A word comes: the sources that listen to its bus and label are visited, from the last place down.
+use Rattle.std.proofs.Common.{◌≡◌, ℕ, suc, ◌*◌, ◌<◌, ◌≤◌, Bool, true, false, ltb, ◌==◌, ◌&&◌, List, length, get_or, set, Option, Some, None, cond, refl, sym, ap, ◌∙◌, subst, arith, inl, inr}
+use Rattle.std.specs.Prelude.{IfSome}
+use Rattle.std.specs.Option.{option_map_or}
+use Rattle.std.proofs.lemmas.Bool.{cases_Bool, cases_lt, cases_order, and_parts, eqb-true, and_left, and_right}
+use Rattle.std.proofs.lemmas.Bool.Decides.{nat_tests}
+use Rattle.std.proofs.lemmas.List.{get_or-set_same, get_or-set_other, length-set}
+use Rattle.ecam_spec.specs.Book.{Source, Parameter}
+use Rattle.ecam_spec.specs.Word.{label, is_odd}
+use Rattle.ecam_spec.specs.Value.{BusWord, takes, has_sdi}
+use Rattle.param_table.specs.Places.{source_at, passes, listens, takes_at, last_below}
+use Rattle.param_table.specs.Listening.{IsIndex}
+use Rattle.param_table.specs.declared.index.Index.{Index}
+use Rattle.param_table.specs.declared.table.Received.{Received}
+use Rattle.param_table.proofs.Chains.{is_past, past_fails, found_passes}
+use Rattle.param_table.proofs.Sources.{no_source, source_there, place_within, takes_listens, takes_sdi}
+
+-- all places behind the next one are visited: those that take the word have it
+pub record IsVisited (params : List Parameter) (w : BusWord) (x : Option Received) (next : Option ℕ) (old new : List (Option Received)) : Type 0 where
+  pub size : length new ≡ length old
+  pub listening : IfSome next (λ h. listens params w.bus (label w.bits) h ≡ true)
+  pub places : (q : ℕ) → get_or new q None ≡ cond (is_past next q && takes_at params w q) x (get_or old q None)
+
+weaker : (p : ℕ → Bool) (n : ℕ) (o : Option ℕ) → IfSome o (λ h. (h < n) × (p h ≡ true)) → IfSome o (λ h. p h ≡ true)
+weaker p n None h = h
+weaker p n (Some x) h = h.1
+
+-- what is found below h leaves what isn't below h behind
+beyond : (p : ℕ → Bool) (h q : ℕ) (o : Option ℕ) → IfSome o (λ i. (i < h) × (p i ≡ true)) → h ≤ q → is_past o q ≡ true
+beyond p h q None f le = refl
+beyond p h q (Some i) f le = let less : i < q = omega arith in grind (arith, nat_tests)
+
+module _ (params : List Parameter) (w : BusWord) where
+  -- a place that is passed by has no source that takes the word
+  passed_by : (n q : ℕ) → q < n → (is_past (last_below (listens params w.bus (label w.bits)) n) q && takes_at params w q) ≡ false
+  passed_by n q less = elim (cases_Bool (is_past (last_below (listens params w.bus (label w.bits)) n) q)) [
+    | inl past ↦
+        and_right (is_past (last_below (listens params w.bus (label w.bits)) n) q) (takes_at params w q)
+        (takes_listens params w q (past_fails (listens params w.bus (label w.bits)) n q less past))
+    | inr to_come ↦ and_left (is_past (last_below (listens params w.bus (label w.bits)) n) q) (takes_at params w q) to_come
+  ]
+
+  -- before the first visit
+  pub visited_none : (x : Option Received) (old : List (Option Received)) (next : Option ℕ)
+      → next ≡ last_below (listens params w.bus (label w.bits)) (3 * length params) → IsVisited params w x next old old
+  visited_none x old next first = record {
+    size = refl;
+    listening = subst (λ o. IfSome o (λ h. listens params w.bus (label w.bits) h ≡ true)) (sym first)
+        (weaker (listens params w.bus (label w.bits)) (3 * length params) (last_below (listens params w.bus (label w.bits)) (3 * length params)) (found_passes (listens params w.bus (label w.bits)) (3 * length params)));
+    places = λ q. sym (ap (λ b. cond b x (get_or old q None)) (ap (λ o. is_past o q && takes_at params w q) first ∙ none_taken q));
+  } where
+    none_taken : (q : ℕ) → (is_past (last_below (listens params w.bus (label w.bits)) (3 * length params)) q && takes_at params w q) ≡ false
+    none_taken q = elim (cases_lt q (3 * length params)) [
+      | inl within ↦ passed_by (3 * length params) q within
+      | inr past ↦
+          and_right (is_past (last_below (listens params w.bus (label w.bits)) (3 * length params)) q) (takes_at params w q)
+          (ap (λ o. option_map_or (λ s. takes s w) o false) (no_source params q past))
+    ]
+
+  -- a source that listens: its place is there, and the place before it in its chain
+  pub record IsNext (index : Index) (h : ℕ) : Type 0 where
+    pub within : h < 3 * length params
+    pub chain : get_or index.before.items h None ≡ last_below (listens params w.bus (label w.bits)) h
+    pub taken : is_odd w.bits ≡ true → takes_at params w h ≡ passes (λ s. has_sdi s.sdi w.bits) params h
+
+  pub next_listens : (index : Index) → IsIndex params index → (h : ℕ) → listens params w.bus (label w.bits) h ≡ true → IsNext index h
+  next_listens index is h hears =
+      let there = source_there (λ (s : Source). w.bus == s.bus && label w.bits == s.label) (source_at params h) hears in
+      let s = there.0 in
+      let parts : (w.bus == s.bus ≡ true) × (label w.bits == s.label ≡ true) = and_parts (w.bus == s.bus) (label w.bits == s.label) there.2 in
+      let one : w.bus ≡ s.bus = eqb-true w.bus s.bus parts.0 in
+      let two : label w.bits ≡ s.label = eqb-true (label w.bits) s.label parts.1 in
+      record {
+        within = place_within params h s there.1;
+        chain = is.before h s there.1 ∙ ap (λ b. last_below (listens params b s.label) h) (sym one) ∙ ap (λ l. last_below (listens params w.bus l) h) (sym two);
+        taken = λ odd.
+            ap (λ o. option_map_or (λ t. takes t w) o false) there.1
+            ∙ takes_sdi w s odd there.2
+            ∙ sym (ap (λ o. option_map_or (λ (t : Source). has_sdi t.sdi w.bits) o false) there.1);
+      }
+
+  module _ (x : Option Received) (index : Index) (h : ℕ) (old new : List (Option Received))
+      (visited : IsVisited params w x (Some h) old new) (at : IsNext index h) where
+    next_is : IfSome (get_or index.before.items h None) (λ i. (i < h) × (listens params w.bus (label w.bits) i ≡ true))
+    next_is = subst (λ o. IfSome o (λ i. (i < h) × (listens params w.bus (label w.bits) i ≡ true))) (sym at.chain) (found_passes (listens params w.bus (label w.bits)) h)
+
+    -- a place other than h is as it was
+    others : (q : ℕ) → (q < h → get_or new q None ≡ cond (is_past (get_or index.before.items h None) q && takes_at params w q) x (get_or old q None))
+        × (h < q → get_or new q None ≡ cond (is_past (get_or index.before.items h None) q && takes_at params w q) x (get_or old q None))
+    others q = (
+      λ less.
+          let to_come : ltb h q ≡ false = grind (arith, nat_tests) in
+          visited.places q ∙ ap (λ b. cond (b && takes_at params w q) x (get_or old q None)) to_come
+          ∙ sym (ap (λ b. cond b x (get_or old q None)) (ap (λ o. is_past o q && takes_at params w q) at.chain ∙ passed_by h q less)),
+      λ more.
+          let behind : ltb h q ≡ true = grind (arith, nat_tests) in
+          visited.places q ∙ ap (λ b. cond (b && takes_at params w q) x (get_or old q None)) behind
+          ∙ sym (ap (λ b. cond (b && takes_at params w q) x (get_or old q None)) (beyond (listens params w.bus (label w.bits)) h q (get_or index.before.items h None) next_is (omega arith))),
+    )
+
+    here : is_past (get_or index.before.items h None) h ≡ true
+    here = beyond (listens params w.bus (label w.bits)) h h (get_or index.before.items h None) next_is (omega arith)
+
+    -- a source that takes the word
+    pub visited_taken : h < length new → takes_at params w h ≡ true → IsVisited params w x (get_or index.before.items h None) old (set new h x)
+    visited_taken within takes_it = record {
+      size = length-set new h x ∙ visited.size;
+      listening = weaker (listens params w.bus (label w.bits)) h (get_or index.before.items h None) next_is;
+      places = λ q. elim (cases_order q h) [
+        | inl same ↦
+            ap (λ i. get_or (set new h x) i None) same
+            ∙ get_or-set_same new h x None within
+            ∙ sym (ap (λ i. cond (is_past (get_or index.before.items h None) i && takes_at params w i) x (get_or old i None)) same
+            ∙ ap (λ b. cond (b && takes_at params w h) x (get_or old h None)) here
+            ∙ ap (λ b. cond b x (get_or old h None)) takes_it)
+        | inr (inl less) ↦ get_or-set_other new h q x None (omega arith) ∙ (others q).0 less
+        | inr (inr more) ↦ get_or-set_other new h q x None (omega arith) ∙ (others q).1 more
+      ];
+    }
+
+    -- and one that doesn't
+    pub visited_left : takes_at params w h ≡ false → IsVisited params w x (get_or index.before.items h None) old new
+    visited_left takes_not = record {
+      size = visited.size;
+      listening = weaker (listens params w.bus (label w.bits)) h (get_or index.before.items h None) next_is;
+      places = λ q. elim (cases_order q h) [
+        | inl same ↦
+            let not_behind : ltb h q ≡ false = grind (arith, nat_tests) in
+            visited.places q ∙ ap (λ b. cond (b && takes_at params w q) x (get_or old q None)) not_behind
+            ∙ sym (ap (λ b. cond b x (get_or old q None)) (and_right (is_past (get_or index.before.items h None) q) (takes_at params w q) (ap (takes_at params w) same ∙ takes_not)))
+        | inr (inl less) ↦ (others q).0 less
+        | inr (inr more) ↦ (others q).1 more
+      ];
+    }
+
+    -- the next place is below h
+    pub next_below : option_map_or suc (get_or index.before.items h None) 0 ≤ h
+    next_below = below (get_or index.before.items h None) next_is where
+      below : (o : Option ℕ) → IfSome o (λ i. (i < h) × (listens params w.bus (label w.bits) i ≡ true)) → option_map_or suc o 0 ≤ h
+      below None f = omega arith
+      below (Some i) f = omega arith

@@ -1,0 +1,44 @@
+use Rattle.std.proofs.Common.{◌≡◌, ◌+◌, ◌<◌, ℕ, List, [], ◌∷◌, ◌++◌, map, replicate, get_or, set, Option, Some, None, All, MatchOption, refl, sym, ◌∙◌, subst, arith}
+use Rattle.std.specs.Prelude.{⊤, option_map}
+use Rattle.ecam_spec.specs.Book.{Parameter}
+use Rattle.ecam_spec.specs.Sound.{IsSoundParameter, IsSoundSource}
+use Rattle.book_model.specs.declared.draft.From.{From}
+use Rattle.book_model.specs.View.{source_of, parameter_of}
+use Rattle.param_table.specs.Places.{source_at}
+use Rattle.param_table.specs.Listening.{key_of}
+use Rattle.param_table.proofs.Sources.{sound_source}
+use Rattle.param_table.proofs.Entering.{IsEntered, entered_none, enter_none, enter_some}
+use Rattle.param_table.proofs.index.Index.new.Goals as goal
+
+key_within : (params : List Parameter) (n keys : ℕ) (o : Option From) → All IsSoundParameter params → option_map source_of o ≡ source_at params n → keys ≡ 4096
+    → MatchOption o ⊤ (λ s. key_of s.bus s.label < keys)
+key_within params n keys None sound e all = tt
+key_within params n keys (Some s) sound e all =
+    let is : IsSoundSource (source_of s) = sound_source params n (source_of s) sound (sym e) in
+    omega (arith, is.bus, is.label)
+
+entered : (params : List Parameter) (n : ℕ) (last before last' before' : List (Option ℕ)) (r : Option ℕ) (o : Option From)
+    → All IsSoundParameter params → option_map source_of o ≡ source_at params n
+    → MatchOption o (r ≡ None) (λ s. r ≡ get_or last (key_of s.bus s.label) None)
+    → MatchOption o (last' ≡ last) (λ s. last' ≡ set last (key_of s.bus s.label) (Some n))
+    → before' ≡ before ++ r ∷ [] → IsEntered params n last before → IsEntered params (n + 1) last' before'
+entered params n last before last' before' r None sound e front kept pushed is =
+    rw (pushed, kept, front) (enter_none params n last before is (sym e))
+entered params n last before last' before' r (Some s) sound e front kept pushed is =
+    let sound_one : IsSoundSource (source_of s) = sound_source params n (source_of s) sound (sym e) in
+    rw (pushed, kept, front) (enter_some params n last before is (source_of s) (sym e) sound_one.bus sound_one.label)
+
+pub loop-place-init : goal.loop-place-init
+loop-place-init c =
+    let blank : c.resize.new.self.items ≡ replicate 4096 None = c.in_ok-resize.ensures.items ∙ rw (c.new-last.ensures.items, c.new-last.ensures.len) refl in
+    subst (IsEntered (map parameter_of c.args.params.now) 0 c.resize.new.self.items) (sym c.new-before.ensures.items)
+    (entered_none (map parameter_of c.args.params.now) c.resize.new.self.items 4096 refl blank)
+
+pub enter-earlier-requires : goal.enter-earlier-requires
+enter-earlier-requires c =
+    key_within (map parameter_of c.args.params.now) c.loop-place.place _ c.source_at.result c.requires.sound c.source_at.ensures (omega (arith, c.loop-place.invariant.keys))
+
+pub loop-place-preserved : goal.loop-place-preserved
+loop-place-preserved c =
+    entered (map parameter_of c.args.params.now) c.loop-place.place c.loop-place.last.items c.loop-place.before.items c.enter-earlier.new.last.items c.push.new.self.items
+    c.enter-earlier.result c.source_at.result c.requires.sound c.source_at.ensures c.enter-earlier.ensures.result c.enter-earlier.ensures.last c.in_ok-push.ensures.items c.loop-place.invariant

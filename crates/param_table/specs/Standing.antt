@@ -1,0 +1,57 @@
+-- What a table of parameters says of the words so far.
+use Rattle.std.specs.Prelude.{◌≡◌, ℕ, suc, ◌-◌, ◌*◌, ◌^◌, ◌<◌, ◌≤◌, nat_le, min, ℤ, pos, negsuc, ◌≤ℤ◌, List, [], ◌∷◌, ◌++◌, length, get_or, Option, Some, None, All, IfSome, option_map, if◌then◌else◌}
+use Rattle.std.specs.Option.{option_and_then, option_or}
+use Rattle.ecam_spec.specs.declared.kinds.Kind.{Kind}
+use Rattle.ecam_spec.specs.declared.kinds.Kind.TheVariants.{Disc, Bnr, Bcd}
+use Rattle.ecam_spec.specs.Past.{last}
+use Rattle.ecam_spec.specs.Book.{Source, Book}
+use Rattle.ecam_spec.specs.Sound.{IsSoundParameter}
+use Rattle.ecam_spec.specs.Value.{BusWord, arrives, word_of, reading}
+use Rattle.param_table.specs.Places.{parameter_with, source_at}
+use Rattle.param_table.specs.Listening.{IsIndex}
+use Rattle.param_table.specs.declared.table.Received.{Received}
+use Rattle.param_table.specs.declared.table.Params.{Params}
+
+-- The word that a source took last is there, with the number of Ticks since it, which ends at `stale` + 1.
+pub record SourceStands (stale : ℕ) (s : Source) (words : ℕ → List BusWord) (k clock : ℕ) (received : Option Received) : Type 0 where
+  pub word : option_map (λ r. r.bits) received ≡ word_of s words k
+  pub age : option_map (λ r. min (clock - r.at) (suc stale)) received ≡ option_map (λ m. min (k - m) (suc stale)) (last (arrives s words) k)
+  pub past : IfSome received (λ r. r.at ≤ clock)
+
+-- the table was made for the book: it has the places of the book's sources, and finds them by bus and label
+pub record ParamsFit (b : Book) (p : Params) : Type 0 where
+  pub sound : All IsSoundParameter b.parameters
+  pub places : length p.received.items ≡ 3 * length b.parameters
+  pub index : IsIndex b.parameters p.index
+
+-- the table stands for the words of the moments up to k, which hasn't ended
+pub record ParamsStand (b : Book) (words : ℕ → List BusWord) (k : ℕ) (p : Params) : Type 0 where
+  pub fits : ParamsFit b p
+  pub sources : (q : ℕ) (s : Source) → source_at b.parameters q ≡ Some s → SourceStands (parameter_with b.parameters q).stale s words k p.clock (get_or p.received.items q None)
+
+-- one more word comes in moment k, and the moments before are the same
+pub record WordComes (old new : ℕ → List BusWord) (k : ℕ) (w : BusWord) : Type 0 where
+  pub before : (i : ℕ) → i < k → new i ≡ old i
+  pub now : new k ≡ old k ++ w ∷ []
+
+-- the values that a parameter can have
+abbrev pub IsValueOf : Kind → ℤ → Type 0
+IsValueOf Disc v = (pos 0 ≤ℤ v) × (v ≤ℤ pos 1)
+IsValueOf Bnr v = (negsuc 999999 ≤ℤ v) × (v ≤ℤ pos 1000000)
+IsValueOf Bcd v = (negsuc 999999 ≤ℤ v) × (v ≤ℤ pos 1000000)
+
+-- what a source gives by the word that it took last, where the clock shows this
+abbrev pub held_value : Kind → ℕ → Source → ℕ → Option Received → Option ℤ
+held_value kind stale s clock received =
+    option_and_then (λ r. if nat_le (clock - r.at) stale then reading kind s r.bits else None) received
+
+-- what the first source that gives something gives, where the sources stand from a place on
+abbrev pub first_held : Kind → ℕ → ℕ → List (Option Received) → ℕ → List Source → Option ℤ
+first_held kind stale clock received place [] = None
+first_held kind stale clock received place (s ∷ ss) =
+    option_or (held_value kind stale s clock (get_or received place None)) (first_held kind stale clock received (suc place) ss)
+
+-- the word came half of the clock earlier, or when it showed 0
+abbrev pub set_back : Option Received → Option Received
+set_back None = None
+set_back (Some r) = Some (record r { at = r.at - 2 ^ 31 })

@@ -1,0 +1,77 @@
+// Which sources listen to a bus and a label.
+ghost use Rattle.std.specs.Prelude.{◌≡◌, ◌*◌, ◌+◌, ◌<◌, ◌≤◌, map, length, vec_len, slice_index_or, slice_set, None, Some, IfOk, All, MatchOption, ⊤};
+ghost use Rattle.ecam_spec.specs.Sound.{IsSoundParameter};
+ghost use Rattle.book_model.specs.View.{parameter_of};
+ghost use Rattle.param_table.specs.Listening.{key_of};
+
+use crate::place::source_at;
+use book_model::{From, Param};
+use std::alloc::{AllocError, Global};
+
+/// How many keys there are: 256 labels on each of 16 buses.
+const KEYS: usize = 4096;
+
+/// The places of the sources that listen to each bus and label, as chains: from the last of them down to the
+/// first. It is made once for a book.
+#[derive(Drop)]
+pub struct Index {
+    // By 256 times the bus and the label: the last place.
+    last: Vec<Option<u16>>,
+    // By place: the place before it in its chain.
+    before: Vec<Option<u16>>,
+}
+
+impl Index {
+    ghost use Rattle.param_table.specs.Listening.{IsIndex};
+
+    /// The index of a book's parameters. An error is want of memory.
+    pub fn new(alloc: Global, params: &[Param]) -> Result<Index, AllocError>
+        requires few { length params.now ≤ 1024 }
+        requires sound { All IsSoundParameter (map parameter_of params.now) }
+        ensures { IfOk result (IsIndex (map parameter_of params.now)) }
+    {
+        let mut last = Vec::new(alloc);
+        last.resize(KEYS, None)?;
+        let mut before = Vec::new(alloc);
+        for place in 0..3 * params.len() {
+            let earlier = enter(&mut last, source_at(params, place), place as u16);
+            before.push(earlier)?;
+        }
+        Ok(Index { last, before })
+    }
+
+    /// The last place of a source that listens to this bus and label, at the cost of one look-up.
+    pub fn last(&self, bus: u8, label: u8) -> Option<u16>
+        ensures { result ≡ slice_index_or self.now.last.items (256 * bus + label) None }
+    {
+        at(&self.last, 256 * usize::from(bus) + usize::from(label))
+    }
+
+    /// The place before this one of a source that listens to the same bus and label.
+    pub fn before(&self, place: usize) -> Option<u16>
+        ensures { result ≡ slice_index_or self.now.before.items place None }
+    {
+        at(&self.before, place)
+    }
+}
+
+fn at(places: &[Option<u16>], i: usize) -> Option<u16>
+    ensures { result ≡ slice_index_or places.now i None }
+{
+    if i < places.len() { places[i] } else { None }
+}
+
+// Puts a place in front of the chain of its source, and answers what was in front.
+fn enter(last: &mut Vec<Option<u16>>, source: Option<From>, place: u16) -> Option<u16>
+    requires { MatchOption source ⊤ (λ s. key_of s.bus s.label < vec_len last.old) }
+    ensures result { MatchOption source (result ≡ None)
+        (λ s. result ≡ slice_index_or last.old.items (key_of s.bus s.label) None) }
+    ensures last { MatchOption source (last.new.items ≡ last.old.items)
+        (λ s. last.new.items ≡ slice_set last.old.items (key_of s.bus s.label) (Some place)) }
+{
+    let source = source?;
+    let key = 256 * usize::from(source.bus) + usize::from(source.label);
+    let front = last[key];
+    last[key] = Some(place);
+    front
+}

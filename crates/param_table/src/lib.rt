@@ -1,0 +1,9 @@
+//! The values of a book's parameters: what the words on the buses said last, and whether it is fresh.
+#![tactic(auto)]
+
+mod index;
+mod place;
+mod table;
+mod words;
+
+pub use table::Params;

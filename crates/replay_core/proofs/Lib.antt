@@ -1,0 +1,8 @@
+mod Blocks
+mod Limits
+mod Forms
+mod TitleRows
+mod Files
+mod Steps
+mod Built
+mod Endings

@@ -1,0 +1,37 @@
+use Rattle.std.proofs.Common.{◌≡◌, arith, length, ap, sym, ◌∙◌, length-set, get_or}
+use Rattle.ecam_spec.specs.Situation.{alert_at}
+use Rattle.book_model.specs.Sealed.{the_book}
+use Rattle.book_model.specs.View.{tree_in}
+use Rattle.book_model.specs.declared.draft.Alert.{Alert}
+use Rattle.replay_core.specs.Standing.{is_one}
+use Rattle.replay_core.proofs.Steps.{many_alerts, book_when, looked}
+use Rattle.replay_core.proofs.replay.look.Goals as goal
+use Rattle.replay_core.proofs.replay.look.Goals.{After-is_shown}
+
+pub bounds-shown-i : goal.bounds-shown-i
+bounds-shown-i c = omega (arith, c.loop-i.invariant.long, many_alerts c.args.book.now, ap length c.alerts-alerts.ensures.value)
+
+-- the condition of the alert that is looked at
+condition : (c : After-is_shown) → tree_in c.index-alerts-i.result.when ≡ (alert_at (the_book c.args.book.now) c.loop-i.i).when
+condition c =
+    let x = c.index-alerts-i.result in
+    ap (λ (y : Alert). tree_in y.when) (c.index-alerts-i.is ∙ ap (λ alerts. get_or alerts c.loop-i.i x) c.alerts-alerts.ensures.value)
+    ∙ sym (book_when c.args.book.now c.loop-i.i x (omega (arith, ap length c.alerts-alerts.ensures.value)))
+
+pub loop-i-preserved : goal.loop-i-preserved
+loop-i-preserved c =
+    let b = the_book c.args.book.now in
+    record {
+      long = length-set c.loop-i.shown c.loop-i.i c.is_shown.result ∙ c.loop-i.invariant.long;
+      each = λ words k stands.
+          looked c.loop-i.shown c.loop-i.i c.is_shown.result (λ a. is_one b words k (alert_at b a).when)
+          (omega (arith, c.loop-i.invariant.long, many_alerts c.args.book.now, ap length c.alerts-alerts.ensures.value))
+          (c.loop-i.invariant.each words k stands)
+          (c.is_shown.ensures words k stands ∙ ap (is_one b words k) (condition c));
+    }
+
+pub returns : goal.returns
+returns c = λ words k stands. record {
+  long = c.loop-i.invariant.long;
+  each = λ a h. c.loop-i.invariant.each words k stands a (omega (arith, many_alerts c.args.book.now, ap length c.alerts-alerts.ensures.value));
+}

@@ -1,0 +1,15 @@
+use Rattle.std.proofs.Common.{◌≡◌, ℕ, ◌<◌, List, length, get_or, false}
+use Rattle.ecam_spec.specs.Value.{BusWord}
+use Rattle.ecam_spec.specs.Situation.{alert_at}
+use Rattle.book_model.specs.Sealed.{the_book}
+use Rattle.replay_core.specs.Stub.{ParamsStand}
+use Rattle.replay_core.specs.Standing.{is_one}
+use Rattle.replay_core.proofs.replay.look.Given as goal
+
+-- those so far are noted
+abbrev pub invariant-loop-i : goal.invariant-loop-i
+invariant-loop-i l = record {
+  long : length l.shown ≡ length (the_book l.book).alerts;
+  each : (words : ℕ → List BusWord) (k : ℕ) → ParamsStand (the_book l.book) words k l.params
+      → (a : ℕ) → a < l.i → get_or l.shown a false ≡ is_one (the_book l.book) words k (alert_at (the_book l.book) a).when;
+}

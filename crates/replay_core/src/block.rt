@@ -1,0 +1,158 @@
+// The block that a Tick writes: the rows that changed.
+ghost use Rattle.std.specs.Prelude.{◌≡◌, ◌≤◌, ◌<◌, ◌+◌, ◌^◌, ◌*◌, ◌++◌, [], ◌∷◌, length, decimal, slice_index_or, map, ℕ, List, if◌then◌else◌};
+ghost use Rattle.std.specs.Borrow.{Bor};
+ghost use Rattle.ecam_spec.specs.Picture as spec;
+ghost use Rattle.ecam_spec.specs.Output as output;
+ghost use Rattle.ecam_kinds.specs.Shown.{row_of, rows_of, picture_of};
+
+use arrayvec::ArrayVec;
+use ecam_kinds::{Colour, Picture, ROWS, Row};
+use itoa::Buffer;
+
+// A block's line of its number, and a line for each row of at most 47 bytes, take fewer bytes.
+const BLOCK: usize = 2048;
+
+pub(crate) type Block = ArrayVec<u8, BLOCK>;
+
+// The names of the rows, in the picture's order.
+const NAMES: [&str; ROWS] = [
+    "L1", "L2", "L3", "L4", "L5", "L6", "L7", "R1", "R2", "R3", "R4", "R5", "R6", "R7", "FL",
+    "S01", "S02", "S03", "S04", "S05", "S06", "S07", "S08", "S09", "S10", "S11", "S12", "S13",
+    "S14", "S15", "S16", "S17", "S18", "MW", "MC", "AU",
+];
+
+fn letter_of(colour: Colour) -> &'static str
+    ensures { result.now ≡ spec.colour_letter colour }
+{
+    match colour {
+        Colour::Red => "R",
+        Colour::Amber => "A",
+        Colour::Green => "G",
+        Colour::White => "W",
+        Colour::Cyan => "C",
+        Colour::Magenta => "M",
+        Colour::Blank => "-",
+    }
+}
+
+fn is_same(old: &Row, new: &Row) -> bool
+    ensures { result ≡ spec.same_row (row_of old.now) (row_of new.now) }
+{
+    letter_of(old.colour) == letter_of(new.colour) && old.text.as_slice() == new.text.as_slice()
+}
+
+// Whether no row changed.
+fn are_same(old: &[Row], new: &[Row]) -> bool
+    requires old { length old.now ≡ ROWS }
+    requires new { length new.now ≡ ROWS }
+    ensures { result ≡ spec.same_picture (rows_of old.now) (rows_of new.now) }
+{
+    for i in 0..ROWS {
+        if !is_same(&old[i], &new[i]) {
+            return false;
+        }
+    }
+    true
+}
+
+// Appends bytes for which there is room.
+pub(crate) fn put<const CAP: usize>(out: &mut ArrayVec<u8, CAP>, bytes: &[u8])
+    requires { length out.old.items + length bytes.now ≤ CAP }
+    ensures { out.new.items ≡ out.old.items ++ bytes.now }
+{
+    let _ = out.try_extend_from_slice(bytes);
+}
+
+// Appends a row's colour letter and its text.
+fn put_text(out: &mut Block, row: &Row)
+    requires { length out.old.items + 42 ≤ BLOCK }
+    ensures text { out.new.items ≡ out.old.items ++ output.row_text row.now.colour row.now.text.items }
+    ensures short { length out.new.items ≤ length out.old.items + 42 }
+{
+    let colour = row.colour;
+    put(out, letter_of(colour).as_bytes());
+    if let Colour::Blank = colour {
+        return;
+    }
+    put(out, b" ");
+    put(out, row.text.as_slice());
+}
+
+// Appends the line of a row.
+fn put_row(out: &mut Block, name: &str, row: &Row)
+    requires room { length out.old.items + 47 ≤ BLOCK }
+    requires name { length name.now ≤ 3 }
+    ensures line { out.new.items ≡ out.old.items ++ output.row_line name.now (row_of row.now) }
+    ensures short { length out.new.items ≤ length out.old.items + 47 }
+{
+    put(out, name.as_bytes());
+    put(out, b" ");
+    put_text(out, row);
+    put(out, b"\n");
+}
+
+// Appends the line of a row that changed.
+fn put_change(out: &mut Block, name: &str, old: &Row, new: &Row)
+    requires room { length out.old.items + 47 ≤ BLOCK }
+    requires name { length name.now ≤ 3 }
+    ensures line { out.new.items ≡ out.old.items ++ (if spec.same_row (row_of old.now) (row_of new.now) then [] else output.row_line name.now (row_of new.now)) }
+    ensures short { length out.new.items ≤ length out.old.items + 47 }
+{
+    if !is_same(old, new) {
+        put_row(out, name, new);
+    }
+}
+
+// The name of a row by its place in the picture.
+fn name_in(names: &[&'static str], row: usize) -> &'static str
+    requires names { map (λ (n : Bor (List ℕ)). n.now) names.now ≡ output.row_names }
+    requires row { row < length names.now }
+    ensures { result.now ≡ slice_index_or output.row_names row [] }
+{
+    names[row]
+}
+
+fn name_of(row: usize) -> &'static str
+    requires { row < ROWS }
+    ensures name { result.now ≡ slice_index_or output.row_names row [] }
+    ensures short { length result.now ≤ 3 }
+{
+    name_in(&NAMES, row)
+}
+
+// Appends the line that begins the block of a Tick.
+fn put_number(out: &mut Block, tick: u64)
+    requires room { length out.old.items + 42 ≤ BLOCK }
+    ensures line { out.new.items ≡ out.old.items ++ output.line (64 ∷ decimal tick) }
+    ensures short { length out.new.items ≤ length out.old.items + 42 }
+{
+    let mut buffer = Buffer::new();
+    put(out, b"@");
+    put(out, buffer.format(tick).as_bytes());
+    put(out, b"\n");
+}
+
+// Appends the lines of the rows that changed.
+fn put_changes(out: &mut Block, old: &[Row], new: &[Row])
+    requires room { length out.old.items + 47 * ROWS ≤ BLOCK }
+    requires old { length old.now ≡ ROWS }
+    requires new { length new.now ≡ ROWS }
+    ensures { out.new.items ≡ out.old.items ++ output.changed_lines output.row_names (rows_of old.now) (rows_of new.now) }
+{
+    for i in 0..ROWS {
+        put_change(out, name_of(i), &old[i], &new[i]);
+    }
+}
+
+// The block of Tick number `tick`, whose picture is `new` where that of the Tick before was `old`. Its cost is a
+// comparison of each row, and where one changed, a copy of each that did.
+pub(crate) fn block(tick: u64, old: &Picture, new: &Picture) -> Block
+    ensures { result.items ≡ output.block tick (picture_of old.now) (picture_of new.now) }
+{
+    let mut out = ArrayVec::new();
+    if !are_same(&old.rows, &new.rows) {
+        put_number(&mut out, tick);
+        put_changes(&mut out, &old.rows, &new.rows);
+    }
+    out
+}

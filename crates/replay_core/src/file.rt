@@ -1,0 +1,73 @@
+// Reads a file whole, as far as a book may go.
+ghost use Rattle.std.specs.Prelude.{◌≡◌, ◌≤◌, ◌<◌, ◌+◌, length, take, IfOk, IfSome, Err};
+ghost use Rattle.ecam_io.specs.Outside.{raised, Rose, FileHas, MayRefuse};
+ghost use Rattle.replay_core.specs.declared.file.FileError.{FileError};
+ghost use Rattle.replay_core.specs.declared.file.FileError.TheVariants.{Failed as Unreadable, Memory};
+
+use ecam_io::{Failed, Shelf, Source};
+use std::alloc::{AllocError, Global};
+
+// A book of this many bytes is too large, whatever follows.
+const ENOUGH: usize = 4_194_305;
+
+const PIECE: usize = 4096;
+
+// Why a file wasn't read.
+#[derive(Clone, Copy, Debug, PartialEq, Eq)]
+pub(crate) enum FileError {
+    Failed,
+    Memory,
+}
+
+impl From<Failed> for FileError {
+    ghost from_gives = { λ _ e. e ≡ Unreadable };
+
+    fn from(_: Failed) -> Self {
+        FileError::Failed
+    }
+}
+
+impl From<AllocError> for FileError {
+    ghost from_gives = { λ _ e. e ≡ Memory };
+
+    fn from(_: AllocError) -> Self {
+        FileError::Memory
+    }
+}
+
+// The first bytes of a file, up to one more than a book may have.
+pub(crate) fn read_book_file<F: Shelf>(
+    alloc: Global,
+    files: &mut F,
+    name: &str,
+) -> Result<Vec<u8>, FileError>
+    ensures bytes { IfOk result (λ v. FileHas (F.files files.old) name.now (λ bytes. v.items ≡ take ENOUGH bytes)) }
+    ensures failed { result ≡ Err Unreadable → MayRefuse (F.files files.old) name.now (F.faults files.old) (F.faults files.new) }
+    ensures files { F.files files.new ≡ F.files files.old }
+    ensures opens { F.opens files.new ≡ raised (F.opens files.old) }
+    ensures faults { F.faults files.old ≤ F.faults files.new }
+{
+    files.open(name)?;
+    read_up_to(alloc, files)
+}
+
+// The first bytes that a source has left.
+fn read_up_to<S: Source>(alloc: Global, source: &mut S) -> Result<Vec<u8>, FileError>
+    ensures bytes { IfOk result (λ v. IfSome (S.left source.old) (λ left. v.items ≡ take ENOUGH left)) }
+    ensures failed { result ≡ Err Unreadable → Rose (S.faults source.old) (S.faults source.new) }
+    ensures files { S.files source.new ≡ S.files source.old }
+    ensures opens { S.opens source.new ≡ S.opens source.old }
+    ensures faults { S.faults source.old ≤ S.faults source.new }
+{
+    let mut bytes = Vec::new(alloc);
+    let mut piece = [0; PIECE];
+    while bytes.len() < ENOUGH {
+        let room = PIECE.min(ENOUGH - bytes.len());
+        let count = source.read(&mut piece[..room])?;
+        if count == 0 {
+            return Ok(bytes);
+        }
+        bytes.extend_from_slice(&piece[..count])?;
+    }
+    Ok(bytes)
+}

@@ -1,0 +1,6 @@
+pub mod Frames
+pub mod Nodes
+pub mod Members
+pub mod Atoms
+pub mod Arms
+pub mod Fresh

@@ -1,0 +1,16 @@
+use Rattle.std.proofs.Common.{◌≡◌, ◌+◌, ◌≤◌, ℕ, List, length, drop}
+use Rattle.ecam_spec.specs.TermSize.{slots_of}
+use Rattle.ecam_spec.specs.TermNames.{AreWithin}
+use Rattle.term_tree.specs.View.{trees_of}
+use Rattle.term_eval.specs.Steps.{StepsAll}
+use Rattle.term_eval.proofs.walk.+walk.Given as goal
+
+-- What is left begins at `next`, and once it is stepped from here, all is stepped.
+abbrev pub invariant-step_each-loop-member : goal.invariant-step_each-loop-member
+invariant-step_each-loop-member l = record {
+  place : l.next + slots_of (trees_of (drop l.member-index l.members)) ≡ l.initial.next + slots_of (trees_of l.members);
+  names : AreWithin (length l.env.values.now) (length l.env.active.now) (trees_of (drop l.member-index l.members));
+  few : l.count ≤ l.member-index;
+  ahead : (final : List ℕ) (rest : ℕ) → StepsAll l.env (trees_of (drop l.member-index l.members)) l.next l.cells final rest
+      → StepsAll l.env (trees_of l.members) l.initial.next l.initial.cells final (l.count + rest);
+}

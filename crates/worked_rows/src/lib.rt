@@ -1,0 +1,15 @@
+//! Worked examples of the definitions, as theorems: a book, a record, and what a replay of it writes. Each is
+//! proved by computing the definitions. To add one, write its book in specs/Books.antt, and here a function with
+//! the record and the output, in which `/` stands for a line's end.
+#![tactic(auto, unfolding(ecam_spec::specs::Opened::opened))]
+
+pub mod computers;
+pub mod conditions;
+pub mod keys;
+pub mod lamps;
+pub mod pages;
+pub mod phases;
+pub mod procedures;
+pub mod records;
+pub mod titles;
+pub mod words;
