@@ -1,20 +1,25 @@
 use crate::Word;
 
 /// Words, and what their data say in binary from a lowest bit with a range.
-const BINARY: [(u32, u8, u32, Option<i64>); 5] = [
+const BINARY: [(u32, u8, u32, Option<i64>); 8] = [
     (0x70000000, 11, 1000, Some(-1000)),
     (0x6ffffc00, 11, 1000, Some(999)),
     (0x7ffffc00, 11, 1000, Some(-1)),
     (0x68000000, 28, 1000, Some(500)),
     (0x10000000, 11, 1000, None),
+    (0x6bb80003, 17, 4096, Some(3000)),
+    (0x7fff0003, 17, 4096, Some(-1)),
+    (0xe0000003, 17, 4096, Some(0)),
 ];
 
 /// Words, and what their data say in decimal.
-const DECIMAL: [(u32, Option<i64>); 4] = [
+const DECIMAL: [(u32, Option<i64>); 6] = [
     (0x048d1400, Some(12345)),
     (0x648d1400, Some(-12345)),
     (0x248d1400, None),
     (0x048d2800, None),
+    (0x848d151e, Some(12345)),
+    (0xe48d151e, Some(-12345)),
 ];
 
 #[test]
@@ -33,4 +38,10 @@ fn words_are_read(rt: HostRuntime) {
     assert!(rt; discrete.odd());
     assert_eq!(rt; discrete.disc(11), Some(1));
     assert_eq!(rt; discrete.disc(12), Some(0));
+    assert!(rt; !Word::new(0x8000041d).odd());
+    let decimal = Word::new(0xe48d151e);
+    assert_eq!(rt; decimal.label(), 0o170);
+    assert_eq!(rt; decimal.sdi(), 1);
+    assert_eq!(rt; decimal.ssm(), 3);
+    assert!(rt; decimal.odd());
 }

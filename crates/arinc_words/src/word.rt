@@ -22,6 +22,12 @@ impl Model for Word {
 }
 
 impl Clone for Word {
+    ghost use Rattle.std.specs.Prelude.{◌≡◌, ⊤};
+
+    ghost is_clone = { λ v w. w ≡ v };
+
+    ghost is_infallible = { λ v. ⊤ };
+
     fn clone(&self) -> Result<Self, std::alloc::AllocError> {
         Ok(*self)
     }
