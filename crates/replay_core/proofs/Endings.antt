@@ -27,7 +27,7 @@ use Rattle.replay_core.specs.declared.run.RunError.TheVariants.{Read, Write, Rec
 use Rattle.replay_core.proofs.Built.{title-built, built-push, read-all, fault-all, read-until, fault-until, read-more}
 
 -- what a source that told its bytes has left after some of them
-told : (text : Text) (left rest : Option (List ℕ)) (taken : List ℕ) → left ≡ Some text → Consumes left rest taken → (more : List ℕ) × (rest ≡ Some more) × (text ≡ taken ++ more)
+pub told : (text : Text) (left rest : Option (List ℕ)) (taken : List ℕ) → left ≡ Some text → Consumes left rest taken → (more : List ℕ) × (rest ≡ Some more) × (text ≡ taken ++ more)
 told text left rest taken is moved = by rest (subst (λ l. Consumes l rest taken) is moved) where
   by : (rest : Option (List ℕ)) → Consumes (Some text) rest taken → (more : List ℕ) × (rest ≡ Some more) × (text ≡ taken ++ more)
   by None moved = absurd moved
@@ -40,6 +40,13 @@ some_is xs ys same = cc
 ended : (rest later : Option (List ℕ)) (before : List ℕ) → rest ≡ Some before → (behind : List ℕ) → later ≡ Some behind → IsSpent rest later → later ≡ Some []
 ended rest later before was behind is spent =
     is ∙ ap Some (subst IsAtEnd is (subst (λ r. IsSpent r later) was spent))
+
+-- without the line that ends it, a reply is its blocks
+reply-faulty : (b : Book) (text : Text) (limit : ℕ) (f : RecordFault) → fault_read text limit ≡ Some f → reply_read b text limit ≡ history_blocks b (events_read text limit)
+unfolding reply_read
+reply-faulty b text limit f is =
+    ap (λ o. history_blocks b (events_read text limit) ++ cond (is_none o) (end_line (tick_count (events_read text limit))) []) is
+    ∙ append-nil (history_blocks b (events_read text limit))
 
 module _ (b : Book) {S : Type 0} (agrees : S → List ℕ → Type 0) (old : S) (limit : ℕ) (left : Option (List ℕ)) where
   -- before the first line
@@ -137,9 +144,11 @@ module _ (b : Book) {S : Type 0} (agrees : S → List ℕ → Type 0) (old : S) 
         let faulty = tells.faulty where_it_is.0
             (λ shown. some_is where_it_is.0 [] (sym where_it_is.1 ∙ ended rest later rest_is.0 rest_is.1 where_it_is.0 where_it_is.1 (spent shown))) in
         let events_are : events text limit ≡ at.answered = ap (λ t. events t limit) where_it_is.2 ∙ faulty.events in
+        let fault_is : fault_read text limit ≡ Some f = fault-all text limit at.answered at.built events_are ∙ ap (λ t. fault t limit) where_it_is.2 ∙ faulty.fault in
         record {
-          fault_is = fault-all text limit at.answered at.built events_are ∙ ap (λ t. fault t limit) where_it_is.2 ∙ faulty.fault;
-          written = subst (λ es. Appended agrees old mid (history_blocks b es)) (sym (read-all text limit at.answered at.built events_are)) at.written;
+          fault_is = fault_is;
+          written = subst (Appended agrees old mid)
+              (sym (reply-faulty b text limit f fault_is ∙ ap (history_blocks b) (read-all text limit at.answered at.built events_are))) at.written;
         }
 
     -- the source failed
@@ -166,10 +175,12 @@ module _ (b : Book) {S : Type 0} (agrees : S → List ℕ → Type 0) (old : S) 
         → (text : Text) → left ≡ Some text → HasMetFault b agrees old new limit text f
     at-refused new later next e more f moved tells has text is =
         let on = onward text is later next e more moved tells in
+        let fault_is : fault_read text limit ≡ Some f = fault-until text limit at.answered at.built e on.0 has.unbuilt on.1
+            ∙ ap Some (ap (λ n. record { kind = Form; line = n }) (sym at.line_is) ∙ sym has.fault_is) in
         record {
-          fault_is = fault-until text limit at.answered at.built e on.0 has.unbuilt on.1
-              ∙ ap Some (ap (λ n. record { kind = Form; line = n }) (sym at.line_is) ∙ sym has.fault_is);
-          written = subst (λ es. Appended agrees old new (history_blocks b es)) (sym (read-until text limit at.answered at.built e on.0 has.unbuilt on.1))
+          fault_is = fault_is;
+          written = subst (Appended agrees old new)
+              (sym (reply-faulty b text limit f fault_is ∙ ap (history_blocks b) (read-until text limit at.answered at.built e on.0 has.unbuilt on.1)))
               (Appended-kept agrees old mid new (history_blocks b at.answered) at.written has.kept);
         }
 

@@ -7,3 +7,5 @@ mod Steps
 mod Built
 mod Endings
 pub mod Feeding
+pub mod Causes
+pub mod Decided

@@ -3,3 +3,4 @@ pub mod TitleList
 pub mod Outcomes
 pub mod Standing
 pub mod Runs
+pub mod Answers

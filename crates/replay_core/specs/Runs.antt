@@ -25,10 +25,10 @@ module _ (b : Book) {S : Type 0} (agrees : S → List ℕ → Type 0) (old new :
     pub written : Appended agrees old new (reply_read b text limit)
     pub spent : rest ≡ Some []
 
-  -- the record has this fault, and the blocks before it are written
+  -- the record has this fault, and its reply is written
   pub record HasMetFault (limit : ℕ) (text : Text) (f : RecordFault) : Type 0 where
     pub fault_is : fault_read text limit ≡ Some f
-    pub written : Appended agrees old new (history_blocks b (events_read text limit))
+    pub written : Appended agrees old new (reply_read b text limit)
 
   -- the blocks of the bytes that came are written
   pub record HasBroken (limit : ℕ) (left rest : Option (List ℕ)) : Type 0 where

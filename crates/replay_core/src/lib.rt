@@ -2,11 +2,14 @@
 #![tactic(auto)]
 
 mod block;
+mod commands;
 mod file;
+mod load;
 mod outcome;
 mod replay;
 mod run;
 mod titles;
 mod words;
 
+pub use commands::ecam;
 pub use outcome::Status;

@@ -1,0 +1,134 @@
+-- How the commands end: each ending with its cause, and what is written.
+use Rattle.std.specs.Prelude.{◌≡◌, ◌⊎◌, ℕ, ◌≤◌, ◌+◌, List, [], ◌++◌, Option, Some, None, Result, Ok, Err, IsSomeAnd}
+use Rattle.ecam_io.specs.Outside.{Rose, FileHas, LacksFile, MayRefuse, Appended, AppendedPrefix, IsKept, file_named}
+use Rattle.ecam_spec.specs.declared.kinds.RecordFault.{RecordFault}
+use Rattle.ecam_spec.specs.Book.{Text, Book}
+use Rattle.ecam_spec.specs.Titles.{IsTitleBook}
+use Rattle.ecam_spec.specs.Replay.{history_blocks}
+use Rattle.ecam_spec.specs.Command.{Command, command_of, replay}
+use Rattle.ecam_spec.specs.Stage.{events_read, fault_read, reply_read}
+use Rattle.book_spec.specs.TitleDocument.{title_book}
+use Rattle.book_model.specs.Sealed.{the_book}
+use Rattle.title_reader.specs.Reading.{no_title_book}
+use Rattle.replay_core.specs.Standing.{Fits, Stands}
+use Rattle.replay_core.specs.declared.outcome.Status.{Status}
+use Rattle.replay_core.specs.declared.outcome.Status.TheVariants as statuses
+use Rattle.replay_core.specs.declared.outcome.Outcome.{Outcome}
+use Rattle.replay_core.specs.declared.outcome.Outcome.TheVariants as outcomes
+use Rattle.replay_core.specs.declared.load.Loaded.{Loaded}
+
+-- the files of a shelf that tells them
+abbrev pub Files : Type 0
+Files = Option (List (Text × Text))
+
+-- where a shelf tells its files, one has that name and is a title book of which P holds
+abbrev pub BookHas : Files → Text → (Book → Type 0) → Type 0
+BookHas files name P = FileHas files name (λ bytes. IsSomeAnd (title_book bytes) P)
+
+-- ---- loading a book
+
+-- a replay by the book stands ready, and nothing came yet
+pub record IsReady (l : Loaded) : Type 0 where
+  pub titles : IsTitleBook (the_book l.book)
+  pub fits : Fits (the_book l.book) l.replay
+  pub stands : Stands (the_book l.book) [] l.replay
+
+-- the book of the file stands ready
+pub record HasLoaded (files : Files) (name : Text) (l : Loaded) : Type 0 where
+  pub book : BookHas files name (λ b. b ≡ the_book l.book)
+  pub ready : IsReady l
+
+-- how loading ends, where the shelf's count of faults was `before` and is `now`
+abbrev pub Loads : Files → Text → ℕ → ℕ → Result Loaded Outcome → Type 0
+Loads files name before now (Ok l) = HasLoaded files name l
+Loads files name before now (Err (outcomes.BookRefused f)) = (f ≡ no_title_book) × FileHas files name (λ bytes. title_book bytes ≡ None)
+Loads files name before now (Err outcomes.ReadFault) = MayRefuse files name before now
+Loads files name before now (Err outcomes.NoMemory) = Unit {0}
+Loads files name before now (Err outcomes.Done) = ⊥
+Loads files name before now (Err outcomes.Usage) = ⊥
+Loads files name before now (Err (outcomes.RecordRefused f)) = ⊥
+Loads files name before now (Err outcomes.WriteFault) = ⊥
+
+-- ---- a replay
+
+-- the record has no fault, its whole reply is written, and it was read to its end
+pub record RepliesWhole {S : Type 0} (agrees : S → Text → Type 0) (old new : S) (limit : ℕ) (b : Book) (text : Text) (left : Option Text) : Type 0 where
+  pub faultless : fault_read text limit ≡ None
+  pub written : Appended agrees old new (reply_read b text limit)
+  pub spent : left ≡ Some []
+
+-- the record has this fault, and its reply is written
+pub record RepliesTo {S : Type 0} (agrees : S → Text → Type 0) (old new : S) (limit : ℕ) (b : Book) (text : Text) (f : RecordFault) : Type 0 where
+  pub fault_is : fault_read text limit ≡ Some f
+  pub written : Appended agrees old new (reply_read b text limit)
+
+-- these first bytes of the record came, and their blocks are written
+pub record RepliesInPart {S : Type 0} (agrees : S → Text → Type 0) (old new : S) (limit : ℕ) (b : Book) (text : Text) : Type 0 where
+  pub taken : Text
+  pub behind : Text
+  pub part : text ≡ taken ++ behind
+  pub written : Appended agrees old new (history_blocks b (events_read taken limit))
+
+module _ (files : Files) (faults faults' : ℕ) (left : Option Text) {S : Type 0} (agrees : S → Text → Type 0) (out_faults out_faults' : ℕ) (old new : S) where
+  -- how a replay by a loaded book ends, where `faults` and `out_faults` were the counts of faults and `faults'` and `out_faults'` are
+  abbrev pub Plays : Book → Text → ℕ → Outcome → Type 0
+  Plays b record' limit outcomes.Done = FileHas files record' (λ text. RepliesWhole agrees old new limit b text left)
+  Plays b record' limit (outcomes.RecordRefused f) = FileHas files record' (λ text. RepliesTo agrees old new limit b text f)
+  Plays b record' limit outcomes.ReadFault =
+      (MayRefuse files record' faults faults' × IsKept agrees old new) ⊎ (Rose faults faults' × FileHas files record' (RepliesInPart agrees old new limit b))
+  Plays b record' limit outcomes.WriteFault =
+      Rose out_faults out_faults' × FileHas files record' (λ text. AppendedPrefix agrees old new (reply_read b text limit))
+  Plays b record' limit outcomes.Usage = ⊥
+  Plays b record' limit (outcomes.BookRefused f) = ⊥
+  Plays b record' limit outcomes.NoMemory = ⊥
+
+  -- the record wasn't opened: the shelf counted a fault, or tells that it lacks the book's file, or the record's by a book that is there
+  pub record NotOpened (book record' : Text) : Type 0 where
+    pub cause : Rose faults faults' ⊎ (LacksFile files book ⊎ (LacksFile files record' × BookHas files book (λ b. Unit {0})))
+    pub kept : IsKept agrees old new
+
+  -- reading the record failed
+  pub record NotRead (book record' : Text) (limit : ℕ) : Type 0 where
+    pub cause : Rose faults faults'
+    pub replies : BookHas files book (λ b. FileHas files record' (RepliesInPart agrees old new limit b))
+
+  -- writing failed, and a prefix of the reply is written
+  pub record NotWritten (book record' : Text) (limit : ℕ) : Type 0 where
+    pub cause : Rose out_faults out_faults'
+    pub replies : BookHas files book (λ b. FileHas files record' (λ text. AppendedPrefix agrees old new (reply_read b text limit)))
+
+module _ (files : Files) (opens opens' faults faults' : ℕ) (left : Option Text) {S : Type 0} (agrees : S → Text → Type 0) (out_faults out_faults' : ℕ) (old new : S) where
+  -- how a replay of these two files under this limit ends
+  abbrev pub Replays : Text → Text → ℕ → Outcome → Type 0
+  Replays book record' limit outcomes.Done = BookHas files book (λ b. FileHas files record' (λ text. RepliesWhole agrees old new limit b text left))
+  Replays book record' limit outcomes.Usage = ⊥
+  Replays book record' limit (outcomes.BookRefused f) = (f ≡ no_title_book) × FileHas files book (λ bytes. title_book bytes ≡ None) × IsKept agrees old new
+  Replays book record' limit (outcomes.RecordRefused f) = BookHas files book (λ b. FileHas files record' (λ text. RepliesTo agrees old new limit b text f))
+  Replays book record' limit outcomes.ReadFault =
+      NotOpened files faults faults' left agrees out_faults out_faults' old new book record' ⊎ NotRead files faults faults' left agrees out_faults out_faults' old new book record' limit
+  Replays book record' limit outcomes.WriteFault = NotWritten files faults faults' left agrees out_faults out_faults' old new book record' limit
+  Replays book record' limit outcomes.NoMemory = (opens' ≤ opens + 1) × IsKept agrees old new
+
+  -- how the program ends that has these words
+  abbrev pub Ends : Option Command → Outcome → Type 0
+  Ends None outcome = (outcome ≡ outcomes.Usage) × (opens' ≡ opens) × (faults' ≡ faults) × (old ≡ new)
+  Ends (Some (replay book record' limit)) outcome = Replays book record' limit outcome
+
+-- ---- which ending must come
+
+-- one of two, but for want of memory
+abbrev pub IsButForMemory : Status → Status → Type 0
+IsButForMemory status result = (result ≡ status) ⊎ (result ≡ statuses.NoMemory)
+
+-- where a shelf tells its files, and neither it nor the sink counted a fault, the words and the files say how the program ends
+pub record Decides (words : List Text) (files : List (Text × Text)) (result : Status) : Type 0 where
+  pub usage : command_of words ≡ None → result ≡ statuses.Usage
+  pub form : result ≡ statuses.Usage → command_of words ≡ None
+  pub book : (book record' : Text) (limit : ℕ) → command_of words ≡ Some (replay book record' limit)
+      → (bytes : Text) → file_named files book ≡ Some bytes → title_book bytes ≡ None → IsButForMemory statuses.BookRefused result
+  pub fault : (book record' : Text) (limit : ℕ) → command_of words ≡ Some (replay book record' limit)
+      → (bytes : Text) → file_named files book ≡ Some bytes → (b : Book) → title_book bytes ≡ Some b
+      → (text : Text) → file_named files record' ≡ Some text → (f : RecordFault) → fault_read text limit ≡ Some f → IsButForMemory statuses.RecordRefused result
+  pub done : (book record' : Text) (limit : ℕ) → command_of words ≡ Some (replay book record' limit)
+      → (bytes : Text) → file_named files book ≡ Some bytes → (b : Book) → title_book bytes ≡ Some b
+      → (text : Text) → file_named files record' ≡ Some text → fault_read text limit ≡ None → IsButForMemory statuses.Done result
