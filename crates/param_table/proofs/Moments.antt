@@ -57,7 +57,7 @@ word_of-suc s words k =
     ∙ found (λ m. last_taken s (words m)) (suc k) (last (arrives s words) k) (last_taken s (words (suc k))) refl
 
 -- what comes later has no bearing
-word_of-below : (s : Source) (old new : ℕ → List BusWord) (k : ℕ) → ((i : ℕ) → i ≤ k → new i ≡ old i) → word_of s new k ≡ word_of s old k
+pub word_of-below : (s : Source) (old new : ℕ → List BusWord) (k : ℕ) → ((i : ℕ) → i ≤ k → new i ≡ old i) → word_of s new k ≡ word_of s old k
 word_of-below s old new zero same = word_of-zero s new ∙ ap (last_taken s) (same 0 (omega arith)) ∙ sym (word_of-zero s old)
 word_of-below s old new (suc k) same =
     word_of-suc s new k
@@ -65,7 +65,7 @@ word_of-below s old new (suc k) same =
     ∙ ap (option_or (last_taken s (old (suc k)))) (word_of-below s old new k (λ i h. same i (omega arith)))
     ∙ sym (word_of-suc s old k)
 
-last-below : (p q : Signal) (k : ℕ) → ((i : ℕ) → i ≤ k → p i ≡ q i) → last p k ≡ last q k
+pub last-below : (p q : Signal) (k : ℕ) → ((i : ℕ) → i ≤ k → p i ≡ q i) → last p k ≡ last q k
 last-below p q zero same = last-zero p ∙ ap (λ b. cond b (Some 0) None) (same 0 (omega arith)) ∙ sym (last-zero q)
 last-below p q (suc k) same =
     last-suc p k
