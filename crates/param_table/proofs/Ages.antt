@@ -1,7 +1,6 @@
 -- What a table says of one source, step by step, against the definition of a source's value.
 use Rattle.std.proofs.Common.{◌≡◌, ℕ, suc, ◌-◌, ◌^◌, ◌≤◌, min, Bool, true, false, leb, List, [], Option, Some, None, ℤ, cond, refl, sym, ap, ◌∙◌, arith, inl, inr}
 use Rattle.std.specs.Prelude.{unwrap_or, option_map, IfSome}
-use Rattle.std.specs.List.{list_any}
 use Rattle.std.specs.Option.{option_map_or, option_or, option_and_then}
 use Rattle.std.proofs.lemmas.Bool.{cases_Bool}
 use Rattle.std.proofs.lemmas.Bool.Decides.{nat_tests}
@@ -14,7 +13,7 @@ use Rattle.ecam_spec.proofs.PastWithin.{once_from-last}
 use Rattle.param_table.specs.declared.table.Received.{Received}
 use Rattle.param_table.specs.Standing.{SourceStands, WordComes}
 use Rattle.param_table.specs.Steps.{held_value, set_back}
-use Rattle.param_table.proofs.Moments.{word_of-push, last-push, word_of-moment, last-moment, word_of-start, last-start, word_of-below, last-below}
+use Rattle.param_table.proofs.Moments.{word_of-push, last-push, word_of-moment, last-moment, word_of-start, last-start}
 
 -- the age of a word by the clock, and by the moment in which it came
 abbrev held_age : ℕ → ℕ → Option Received → Option ℕ
@@ -70,15 +69,6 @@ module _ (stale : ℕ) (s : Source) where
         older stale k clock received (last (arrives s words) k) (last-le (arrives s words) k) stands.past stands.age
         ∙ sym (ap (age_of stale (suc k)) (last-moment s words k none));
     past = later clock received stands.past;
-  }
-
-  -- what comes later has no bearing
-  pub below_stands : (old new : ℕ → List BusWord) (k clock : ℕ) (received : Option Received) → ((i : ℕ) → i ≤ k → new i ≡ old i)
-      → SourceStands stale s old k clock received → SourceStands stale s new k clock received
-  below_stands old new k clock received same stands = record {
-    word = stands.word ∙ sym (word_of-below s old new k same);
-    age = stands.age ∙ sym (ap (age_of stale k) (last-below (arrives s new) (arrives s old) k (λ i h. ap (list_any (takes s)) (same i h))));
-    past = stands.past;
   }
 
   pub set_back_stands : (words : ℕ → List BusWord) (k : ℕ) (received : Option Received) → stale ≤ 600

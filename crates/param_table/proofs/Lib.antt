@@ -6,3 +6,4 @@ pub mod Entering
 pub mod Visiting
 pub mod Values
 pub mod Tables
+pub mod Agree

@@ -19,7 +19,7 @@ use Rattle.param_table.specs.Standing.{SourceStands, ParamsFit, ParamsStand, Wor
 use Rattle.param_table.specs.Steps.{set_back}
 use Rattle.param_table.proofs.Sources.{sound_parameter, not_even}
 use Rattle.param_table.proofs.Entering.{none_replicate}
-use Rattle.param_table.proofs.Ages.{start_stands, moment_stands, below_stands, set_back_stands, word_stands}
+use Rattle.param_table.proofs.Ages.{start_stands, moment_stands, set_back_stands, word_stands}
 
 -- the parameters of a book are those of its draft, which are sound
 pub book_parameters : (d : Draft) → (the_book d).parameters ≡ map parameter_of d.params.items
@@ -58,13 +58,6 @@ same_stands b words k old new fits clock same stands = record {
   fits = fits;
   sources = λ q s there.
       rw (clock, same) (stands.sources q s there);
-}
-
--- words that agree up to now: a table that stands for the ones stands for the others
-pub stands_below : (b : Book) (old new : ℕ → List BusWord) (k : ℕ) (p : Params) → ((i : ℕ) → i ≤ k → new i ≡ old i) → ParamsStand b old k p → ParamsStand b new k p
-stands_below b old new k p same stands = record {
-  fits = stands.fits;
-  sources = λ q s there. below_stands (parameter_with b.parameters q).stale s old new k p.clock (get_or p.received.items q None) same (stands.sources q s there);
 }
 
 -- one more moment

@@ -5,7 +5,7 @@ use Rattle.std.proofs.lemmas.List.{drop_all, get_or-take}
 use Rattle.std.specs.Option.{option_map, option_and_then}
 use Rattle.std.specs.List.{position, position_or_len, before_first, after_first}
 use Rattle.ecam_spec.specs.declared.kinds.Event.TheVariants.{Word, Tick, Press, Release, Fail, Up, End}
-use Rattle.ecam_spec.specs.RecordLine.{event_of, is_end, word_event as word_of, bits_of, bus_of, key_of, computer_of}
+use Rattle.ecam_spec.specs.RecordLine.{event_of, is_end, word_event, bits_of, bus_of, key_of, computer_of}
 use Rattle.record_lines.specs.Line.{number_within}
 use Rattle.record_lines.proofs.Numbers.{and-false, AreBytes, bus_of-within}
 
@@ -28,7 +28,7 @@ event_of-letter l t e =
     let no_e = ne_eqb l 69 e in
     simp (no_t, no_e, and-false) refl
 
-pub event_of-word : (words : List ℕ) → event_of (87 ∷ 32 ∷ words) ≡ word_of words
+pub event_of-word : (words : List ℕ) → event_of (87 ∷ 32 ∷ words) ≡ word_event words
 unfolding event_of is_end
 event_of-word words = refl
 
@@ -100,18 +100,18 @@ no_bits (Some b) = refl
 no_bits None = refl
 
 -- no word without a blank
-pub word_of-nowhere : (words : List ℕ) → position (λ b. b == 32) words ≡ None → word_of words ≡ None
-unfolding word_of bits_of
-word_of-nowhere words none =
+pub word_event-nowhere : (words : List ℕ) → position (λ b. b == 32) words ≡ None → word_event words ≡ None
+unfolding word_event bits_of
+word_event-nowhere words none =
     let past = nowhere-len is_blank words none in
     let empty : after_first is_blank words ≡ [] = drop_all (position_or_len is_blank words + 1) words (omega arith) in
     ap (λ l. option_and_then (λ b. option_map (λ w. Word b w) (bits_of l)) (bus_of (before_first is_blank words))) empty
     ∙ no_bits (bus_of (before_first is_blank words))
 
 -- a word whose first blank is there
-pub word_of-at : (words : List ℕ) (i : ℕ) → position (λ b. b == 32) words ≡ Some i → AreBytes words → word_of words ≡ option_and_then (λ b. option_map (λ w. Word b w) (bits_of (drop (i + 1) words))) (number_within 0 15 (take i words))
-unfolding word_of
-word_of-at words i some bytes =
+pub word_event-at : (words : List ℕ) (i : ℕ) → position (λ b. b == 32) words ≡ Some i → AreBytes words → word_event words ≡ option_and_then (λ b. option_map (λ w. Word b w) (bits_of (drop (i + 1) words))) (number_within 0 15 (take i words))
+unfolding word_event
+word_event-at words i some bytes =
     let here = somewhere-len is_blank words i some in
     ap (λ n. option_and_then (λ b. option_map (λ w. Word b w) (bits_of (drop (n + 1) words))) (bus_of (take n words))) here
     ∙ ap (option_and_then (λ b. option_map (λ w. Word b w) (bits_of (drop (i + 1) words)))) (bus_of-within (take i words) (bytes_taken words i bytes))

@@ -9,7 +9,7 @@ use Rattle.std.proofs.lemmas.Slice.Eq.{bytes_eq-Decides}
 use Rattle.ecam_spec.specs.declared.kinds.Event.{Event}
 use Rattle.ecam_spec.specs.declared.kinds.Event.TheVariants.{Word, Tick, Press, Release, Fail, Up, End}
 use Rattle.ecam_spec.specs.declared.kinds.FaultKind.TheVariants.{Long, Form, AfterEnd, Limit}
-use Rattle.ecam_spec.specs.RecordLine.{event_of, is_end, is_end_event, begins_with, word_event as word_of, key_of, computer_of, bits_of, bus_of}
+use Rattle.ecam_spec.specs.RecordLine.{event_of, is_end, is_end_event, begins_with, word_event, key_of, computer_of, bits_of, bus_of}
 use Rattle.ecam_spec.specs.Record.{wrong_place, events}
 use Rattle.record_lines.specs.Reads.{last_line, last_number, is_over}
 use Rattle.record_lines.proofs.Steps.{said, line_events}
@@ -75,14 +75,14 @@ no_end-cond : (b : Bool) (x y : Option Event) → IsNoEnd x → IsNoEnd y → Is
 no_end-cond true x y p q = p
 no_end-cond false x y p q = q
 
-no_end-word : (words : List ℕ) → IsNoEnd (word_of words)
-unfolding word_of
+no_end-word : (words : List ℕ) → IsNoEnd (word_event words)
+unfolding word_event
 no_end-word words = no_end-bus (bus_of _) (bits_of _)
 
 -- the forms after the first two
 forms_after : List ℕ → Option Event
 forms_after line =
-    if begins_with (codes "W ") line then word_of (drop 2 line)
+    if begins_with (codes "W ") line then word_event (drop 2 line)
     else (if begins_with (codes "P ") line then option_map Press (key_of (drop 2 line))
     else (if begins_with (codes "R ") line then option_map Release (key_of (drop 2 line))
     else (if begins_with (codes "F ") line then option_map Fail (computer_of (drop 2 line))

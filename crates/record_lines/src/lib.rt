@@ -1,5 +1,8 @@
 //! Reads a record: bytes in lines, each of which says an event. The events and the fault are those of the whole
-//! text, in whatever pieces the bytes come.
+//! text, whatever pieces the bytes come in.
+//!
+//! A caller that reads to the end keeps what was taken and answered so far beside the reader, as `Reads` relates
+//! them, and joins each call to it by the lemmas of `proofs/Callers.antt`. Its loop ends by `room`.
 #![tactic(auto)]
 
 mod line;
@@ -9,6 +12,6 @@ mod reader;
 #[cfg(test)]
 mod tests;
 
-pub use ecam_spec::{Event, FaultKind, Key, RecordFault};
+pub use ecam_spec::{FaultKind, RecordFault};
 pub use outcome::LineError;
 pub use reader::LineReader;

@@ -1,9 +1,9 @@
 // The forms of a line.
 ghost use Rattle.std.specs.Prelude.{◌≡◌, ◌==◌, [], ◌∷◌, position};
-ghost use Rattle.ecam_spec.specs.RecordLine.{bits_of, event_of, key_of, word_event as word_of};
+ghost use Rattle.ecam_spec.specs.RecordLine.{bits_of, event_of, key_of, word_event};
 ghost use Rattle.record_lines.specs.Line.{digit_value, named_key_of, number_of, number_within};
 
-use ecam_spec::{Event, Key};
+use ecam_kinds::{Event, Key};
 
 // The event that a line says, without its line feed.
 pub(crate) fn event_of(line: &[u8]) -> Option<Event>
@@ -32,7 +32,7 @@ fn event_of_words(letter: u8, words: &[u8]) -> Option<Event>
     ensures { result ≡ event_of (letter ∷ 32 ∷ words.now) }
 {
     match letter {
-        b'W' => word_of(words),
+        b'W' => word_event(words),
         b'P' => key_of(words).map(Event::Press),
         b'R' => key_of(words).map(Event::Release),
         b'F' => number_within(words, 1, 2).map(Event::Fail),
@@ -42,8 +42,8 @@ fn event_of_words(letter: u8, words: &[u8]) -> Option<Event>
 }
 
 // A bus, one blank, and the word's eight digits.
-fn word_of(words: &[u8]) -> Option<Event>
-    ensures { result ≡ word_of words.now }
+fn word_event(words: &[u8]) -> Option<Event>
+    ensures { result ≡ word_event words.now }
 {
     let blank = place_of(b' ', words)?;
     let bus = number_within(&words[..blank], 0, 15)?;

@@ -12,7 +12,8 @@ use crate::outcome::{LineError, Stage};
 use crate::piece::Piece;
 use arrayvec::ArrayVec;
 use ecam_io::{Failed, Source};
-use ecam_spec::{Event, FaultKind, RecordFault};
+use ecam_kinds::Event;
+use ecam_spec::{FaultKind, RecordFault};
 use std::marker::Model;
 
 // How many bytes a line has at most, without its line feed.
@@ -71,9 +72,9 @@ impl LineReader {
         }
     }
 
-    /// Answers the next event of the record. `End` comes only once the record's last line was read and the source answered
-    /// its end; it is answered again without reading, as is a fault of the record. After `Failed` all bytes taken so
-    /// far are kept, and the next call reads again.
+    /// The next event of the record. `End` comes only once the record's last line was read and the source answered
+    /// its end; it is answered again without reading, as is a fault of the record. After `Failed` all bytes taken
+    /// so far are kept, and the next call reads again.
     pub fn next<S: Source>(&mut self, source: &mut S) -> Result<Event, LineError>
         // Some bytes were taken, which tell this, whatever bytes were taken and events answered before.
         ensures told { Takes (S.left source.old) (S.left source.new) (λ more. Tells self.old self.new more result) }

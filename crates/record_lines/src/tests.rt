@@ -3,6 +3,7 @@ ghost use Rattle.std.specs.Prelude.{◌<◌};
 
 use super::*;
 use ecam_io::{MemoryFile, MemoryShelf, Shelf};
+use ecam_kinds::{Event, Key};
 use std::alloc::{AllocError, Global};
 
 // A shelf with one open file, which gives pieces of this size, and fails at the call of this number, from 1.

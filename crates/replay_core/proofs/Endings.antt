@@ -1,6 +1,7 @@
 -- How a replay goes on from line to line, and how it ends.
-use Rattle.std.proofs.Common.{◌≡◌, ℕ, ◌+◌, ◌*◌, ◌≤◌, true, false, List, [], ◌∷◌, ◌++◌, length, Option, Some, None, refl, sym, ap, ◌∙◌, subst, arith, length-append, append_assoc, append-nil, cond}
-use Rattle.std.specs.Prelude.{All, is_none}
+use Rattle.std.proofs.Common.{◌≡◌, ℕ, ◌+◌, ◌*◌, ◌^◌, ◌<◌, ◌≤◌, Result, Ok, Err, true, false, List, [], ◌∷◌, ◌++◌, length, Option, Some, None, refl, sym, ap, ◌∙◌, subst, arith, length-append, append_assoc, append-nil, cond}
+use Rattle.std.specs.Prelude.{All, is_none, OnOk, OnErr, IfOk, IfErr}
+use Rattle.std.proofs.lemmas.List.Sums.{count_by-le-length}
 use Rattle.std.specs.Io.KnownBytes.{Consumes, IsAtEnd}
 use Rattle.std.proofs.KnownBytes.{Consumes-nil, Consumes-trans}
 use Rattle.std.proofs.lemmas.List.Elements.{All-nil, All-push}
@@ -13,14 +14,16 @@ use Rattle.ecam_spec.specs.Book.{Text, Book}
 use Rattle.ecam_spec.specs.Record.{fault, events}
 use Rattle.ecam_spec.specs.Output.{end_line, blocks}
 use Rattle.ecam_spec.specs.Titles.{IsTitleEvent}
-use Rattle.ecam_spec.specs.Replay.{history_blocks, tick_count}
+use Rattle.ecam_spec.specs.Replay.{history_blocks, is_tick, tick_count}
 use Rattle.ecam_spec.specs.Stage.{is_built, while_built, events_read, fault_read, reply_read}
 use Rattle.ecam_spec.proofs.ReplaySteps.{history_blocks_begun}
 use Rattle.record_lines.specs.Reader.{ReaderState, room, settled}
 use Rattle.record_lines.specs.Reads.{Reads, TellsEvent, TellsEnd, TellsFault, TellsFailure, IsSpent, BeginEvents, is_shown_at_end}
 use Rattle.replay_core.specs.declared.replay.Replay.{Replay}
 use Rattle.replay_core.specs.Standing.{Stands}
-use Rattle.replay_core.specs.Runs.{HasRun, HasMetFault, HasBroken, HasFed, HasBegun, HasRefused, IsAt}
+use Rattle.replay_core.specs.Runs.{HasRun, HasMetFault, HasBroken, HasFed, HasBegun, HasRefused, Runs, Feeds, IsAt}
+use Rattle.replay_core.specs.declared.run.RunError.{RunError}
+use Rattle.replay_core.specs.declared.run.RunError.TheVariants.{Read, Write, Record}
 use Rattle.replay_core.proofs.Built.{title-built, built-push, read-all, fault-all, read-until, fault-until, read-more}
 
 -- what a source that told its bytes has left after some of them
@@ -186,3 +189,26 @@ module _ (b : Book) {S : Type 0} (agrees : S → List ℕ → Type 0) (old : S) 
         subst (AppendedPrefix agrees old new) (sym whole)
             (AppendedPrefix-longer agrees old new (history_blocks b at.answered ++ has.more) (begun.0 ++ ends)
                 (AppendedPrefix-after agrees old mid new (history_blocks b at.answered) has.more at.written has.written))
+
+    -- few Ticks were met, since each is a line
+    pub at-few : limit < 2 ^ 32 → tick_count at.answered < 2 ^ 63
+    unfolding tick_count
+    at-few small = omega (arith, at.few, small, count_by-le-length is_tick at.answered)
+
+    -- an event wasn't taken, or not written
+    pub at-stopped : (new : S) (later : Option (List ℕ)) (next : ReaderState) (fed : Replay) (e : Event) (more : List ℕ) (error : RunError)
+        → Consumes rest later more → TellsEvent limit (at.taken ++ more) (at.answered ++ e ∷ []) next → Feeds b agrees mid new at.answered e line fed (Err error)
+        → Runs b agrees old new limit left later (Err error)
+    at-stopped new later next fed e more Read moved tells fed_so = absurd fed_so
+    at-stopped new later next fed e more Write moved tells fed_so = at-unwritten new later next e more moved tells fed_so
+    at-stopped new later next fed e more (Record f) moved tells fed_so = at-refused new later next e more f moved tells fed_so
+
+    -- the line that ends the output is written, or a prefix of it
+    pub at-finished : (new : S) (later : Option (List ℕ)) (next : ReaderState) (more : List ℕ) (result : Result ℕ RunError)
+        → Consumes rest later more → TellsEnd limit (at.taken ++ more) at.answered next → IsSpent rest later
+        → IfOk result (λ n. n ≡ tick_count at.answered) → OnOk result (Appended agrees mid new (end_line (tick_count at.answered)))
+        → OnErr result (AppendedPrefix agrees mid new (end_line (tick_count at.answered))) → IfErr result (λ e. e ≡ Write)
+        → Runs b agrees old new limit left later result
+    at-finished new later next more (Ok n) moved tells spent count written part cause = at-end new later next more n moved tells spent count written
+    at-finished new later next more (Err e) moved tells spent count written part cause =
+        subst (λ x. Runs b agrees old new limit left later (Err x)) (sym cause) (at-end-unwritten new later next more moved tells spent part)

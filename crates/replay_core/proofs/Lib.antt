@@ -6,3 +6,4 @@ mod Files
 mod Steps
 mod Built
 mod Endings
+pub mod Feeding

@@ -23,8 +23,9 @@ use Rattle.book_model.specs.declared.draft.Draft.{Draft}
 use Rattle.book_model.specs.View.{alert_of, parameter_of, draft_of, tree_in}
 use Rattle.book_model.specs.Sealed.{the_book}
 use Rattle.replay_core.specs.Standing.{AreShown, Fits, Stands, is_one, ones}
-use Rattle.replay_core.specs.Stub.{ParamsFit, ParamsStand, WordComes}
-use Rattle.replay_core.specs.declared.stub.Params.{Params}
+use Rattle.param_table.specs.Standing.{ParamsFit, ParamsStand, WordComes}
+use Rattle.param_table.proofs.Agree.{ParamsStand-below}
+use Rattle.param_table.specs.declared.table.Params.{Params}
 use Rattle.replay_core.specs.declared.replay.Replay.{Replay}
 use Rattle.ecam_kinds.specs.Shown.{picture_of}
 use Rattle.std.proofs.lemmas.List.{get_or_past, length-map}
@@ -82,10 +83,6 @@ pub many_alerts : (d : Draft) → length (the_book d).alerts ≡ length d.alerts
 unfolding book_of draft_of
 many_alerts d = length-map (map alert_of d.alerts.items) _ ∙ length-map d.alerts.items alert_of
 
--- a table stands for words that are the same up to now
-pub ParamsStand-below : (b : Book) (words later : ℕ → List BusWord) (k : ℕ) (p : Params) → ((i : ℕ) → i ≤ k → words i ≡ later i) → ParamsStand b words k p → ParamsStand b later k p
-ParamsStand-below b words later k p same stands = ?
-
 module _ (b : Book) (h : List Event) (old new : Replay) (stands : Stands b h old) where
   -- a word came
   pub word-stands : (bus bits : ℕ) → Fits b new → new.picture ≡ old.picture → new.ticks ≡ old.ticks
@@ -115,8 +112,8 @@ module _ (b : Book) (h : List Event) (old new : Replay) (stands : Stands b h old
       let e = era h in
       let on : era (h ++ Tick ∷ []) ≡ era_with e Tick = era_goes_on h Tick refl in
       let before : ParamsStand b (words_in b (moment_of (era_with e Tick))) (length e.moments) old.params =
-      ParamsStand-below b (words_in b (moment_of e)) (words_in b (moment_of (era_with e Tick))) (length e.moments) old.params
-      (λ i within. sym (words_tick b e i within)) stands.params in
+      ParamsStand-below (words_in b (moment_of e)) (words_in b (moment_of (era_with e Tick))) (length e.moments)
+      (λ i within. sym (words_tick b e i within)) b old.params stands.params in
       let after : ParamsStand b (words_in b (moment_of (era_with e Tick))) (suc (length e.moments)) new.params =
       ticks (words_in b (moment_of (era_with e Tick))) (length e.moments) (words_begun b e) before in
       record {
@@ -140,8 +137,8 @@ module _ (b : Book) (h : List Event) (replay : Replay) (stands : Stands b h repl
       let on : era (h ++ e ∷ []) ≡ era_with (era h) e = era_goes_on h e (begins_none (flags_after h) e same_computers) in
       let kept : (era_with (era h) e).moments ≡ (era h).moments = moments_kept (era h) e still in
       let here : ParamsStand b (words_in b (moment_of (era_with (era h) e))) (length (era h).moments) replay.params =
-          ParamsStand-below b (words_in b (moment_of (era h))) (words_in b (moment_of (era_with (era h) e))) (length (era h).moments) replay.params
-              (λ i within. sym (same i)) stands.params in
+          ParamsStand-below (words_in b (moment_of (era h))) (words_in b (moment_of (era_with (era h) e))) (length (era h).moments)
+              (λ i within. sym (same i)) b replay.params stands.params in
       record {
         fits = stands.fits;
         params = subst (λ E. ParamsStand b (words_in b (moment_of E)) (length E.moments) replay.params) (sym on)

@@ -2,5 +2,4 @@ pub mod Words
 pub mod TitleList
 pub mod Outcomes
 pub mod Standing
-pub mod Stub
 pub mod Runs

@@ -13,7 +13,7 @@ use Rattle.std.specs.Ordering.{int_eq}
 use Rattle.std.specs.Option.{option_and_then}
 use Rattle.ecam_spec.specs.Replay.{moment_of, tick_count, last_picture}
 use Rattle.ecam_kinds.specs.Shown.{picture_of}
-use Rattle.replay_core.specs.Stub.{ParamsFit, ParamsStand}
+use Rattle.param_table.specs.Standing.{ParamsFit, ParamsStand}
 use Rattle.replay_core.specs.declared.replay.Replay.{Replay}
 
 -- it was made for the book

@@ -6,7 +6,6 @@ mod file;
 mod outcome;
 mod replay;
 mod run;
-mod stub;
 mod titles;
 mod words;
 

@@ -6,7 +6,7 @@ ghost use Rattle.ecam_spec.specs.Output as output;
 ghost use Rattle.ecam_spec.specs.Titles.{IsTitleBook, IsTitleEvent, title_picture};
 ghost use Rattle.ecam_spec.specs.Replay.{tick_count, last_picture, picture_at};
 ghost use Rattle.book_model.specs.Sealed.{the_book};
-ghost use Rattle.replay_core.specs.Stub.{ParamsFit, ParamsStand};
+ghost use Rattle.param_table.specs.Standing.{ParamsFit, ParamsStand};
 ghost use Rattle.std.specs.Prelude.{pos};
 ghost use Rattle.std.specs.Ordering.{int_eq};
 ghost use Rattle.ecam_spec.specs.Term.{is_so};
@@ -17,7 +17,7 @@ ghost use Rattle.ecam_kinds.specs.Shown.{picture_of};
 ghost use Rattle.replay_core.specs.Standing.{Fits, Stands, AreShown, is_one, ones};
 
 use crate::block::{Block, block};
-use crate::stub::Params;
+use param_table::Params;
 use crate::titles::draw_titles;
 use book_model::{Alert, Book};
 use ecam_kinds::Picture;

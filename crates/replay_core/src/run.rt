@@ -1,9 +1,12 @@
 // A whole replay: the record line by line, and the block of each Tick.
-ghost use Rattle.std.specs.Prelude.{◌≡◌, ℕ, ◌<◌, ◌≤◌, ◌+◌, ◌^◌, ◌++◌, ◌∷◌, [], List, length, All, OnOk, OnErr, IfOk, IfErr, Err, ◌≢◌};
+ghost use Rattle.std.specs.Prelude.{◌≡◌, ℕ, ◌<◌, ◌≤◌, ◌+◌, ◌^◌, ◌++◌, ◌∷◌, [], List, length, All, OnOk, OnErr, IfOk, IfErr, Ok, Err, if◌then◌else◌, ◌≢◌};
 ghost use Rattle.ecam_io.specs.Outside.{Rose, Appended, AppendedPrefix};
 ghost use Rattle.ecam_spec.specs.declared.kinds.Event.{Event};
 ghost use Rattle.ecam_spec.specs.Titles.{IsTitleBook, IsTitleEvent};
+ghost use Rattle.ecam_spec.specs.RecordLine.{is_end_event};
 ghost use Rattle.ecam_spec.specs.Replay.{tick_count};
+ghost use Rattle.ecam_spec.specs.Stage.{is_built_key};
+ghost use Rattle.ecam_spec.specs.declared.kinds.FaultKind as FaultKind;
 ghost use Rattle.ecam_spec.specs.Output as output;
 ghost use Rattle.book_model.specs.Sealed.{the_book};
 ghost use Rattle.replay_core.specs.Standing.{Fits, Stands};
@@ -53,14 +56,23 @@ pub(crate) fn run<S: Source, O: Sink>(
     let mut line: u32 = 1;
     'lines: loop {
         let event = match reader.next(source) {
-            Ok(Event::End) => return finish(replay, out),
             Ok(event) => event,
             Err(LineError::Failed) => return Err(RunError::Read),
             Err(LineError::Record(fault)) => return Err(RunError::Record(fault)),
         };
+        if is_end(event) {
+            return finish(replay, out);
+        }
         feed(book, replay, event, line, out)?;
         line += 1;
     }
+}
+
+// Whether an event is the record's end.
+fn is_end(event: Event) -> bool
+    ensures { result ≡ is_end_event event }
+{
+    matches!(event, Event::End)
 }
 
 // Takes one event, and writes what it shows. `line` is the number of its line.
@@ -87,9 +99,26 @@ fn feed<O: Sink>(
         }
         Event::Tick => {
             let block = replay.tick(book);
-            put_all(out, block.as_slice()).map_err(|_: Failed| RunError::Write)
+            match put_all(out, block.as_slice()) {
+                Ok(()) => Ok(()),
+                Err(Failed) => Err(RunError::Write),
+            }
         }
-        Event::Press(Key::ToCfg) | Event::Release(Key::ToCfg) => Ok(()),
+        Event::Press(key) => stroke(key, line),
+        Event::Release(key) => stroke(key, line),
+        _ => Err(RunError::Record(RecordFault {
+            kind: FaultKind::Form,
+            line,
+        })),
+    }
+}
+
+// What a key does that goes down or up: no title asks about the only one that is read.
+fn stroke(key: Key, line: u32) -> Result<(), RunError>
+    ensures { result ≡ (if is_built_key key then Ok tt else Err (RunError.Record (record { kind = FaultKind.Form; line = line }))) }
+{
+    match key {
+        Key::ToCfg => Ok(()),
         _ => Err(RunError::Record(RecordFault {
             kind: FaultKind::Form,
             line,

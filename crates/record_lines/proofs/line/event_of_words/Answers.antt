@@ -10,7 +10,7 @@ use Rattle.record_lines.proofs.line.event_of_words.Goals as goal
 pub returns-in-87 : goal.returns-in-87
 returns-in-87 c =
     let e = ap (λ l. event_of (l ∷ 32 ∷ c.args.words.now)) c.in-87.is ∙ event_of-word c.args.words.now in
-    c.word_of.ensures ∙ sym e
+    c.word_event.ensures ∙ sym e
 
 pub returns-in-80 : goal.returns-in-80
 returns-in-80 c =

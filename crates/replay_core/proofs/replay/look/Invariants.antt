@@ -2,7 +2,7 @@ use Rattle.std.proofs.Common.{◌≡◌, ℕ, ◌<◌, List, length, get_or, fal
 use Rattle.ecam_spec.specs.Value.{BusWord}
 use Rattle.ecam_spec.specs.Situation.{alert_at}
 use Rattle.book_model.specs.Sealed.{the_book}
-use Rattle.replay_core.specs.Stub.{ParamsStand}
+use Rattle.param_table.specs.Standing.{ParamsStand}
 use Rattle.replay_core.specs.Standing.{is_one}
 use Rattle.replay_core.proofs.replay.look.Given as goal
 

@@ -1,18 +1,18 @@
-use Rattle.std.proofs.Common.{rules, ◌≡◌, ℕ, ◌<◌, ◌≤◌, ◌+◌, ◌^◌, ◌++◌, ◌∷◌, [], List, length, All, OnOk, OnErr, IfOk, IfErr, Err, ◌≢◌, ◌-◌, ◌*◌, ◌/◌, ◌%◌, Bool, true, false, nat_eq, nat_lt, slice_index_or, slice_set, bit_and, bit_or, w8, w32, w64, Bor, MutBor}
-use Rattle.ecam_io.specs.Outside.{Rose, Appended, AppendedPrefix}
-use Rattle.ecam_spec.specs.declared.kinds.Event.{Event}
-use Rattle.ecam_spec.specs.Titles.{IsTitleBook, IsTitleEvent}
-use Rattle.ecam_spec.specs.Replay.{tick_count}
+use Rattle.std.proofs.Common.{◌≡◌, ◌∷◌, ◌++◌, [], sym, ap, ◌∙◌, subst}
+use Rattle.std.specs.Prelude.{decimal}
+use Rattle.ecam_io.specs.Outside.{Appended, AppendedPrefix}
 use Rattle.ecam_spec.specs.Output as output
-use Rattle.book_model.specs.Sealed.{the_book}
-use Rattle.replay_core.specs.Standing.{Fits, Stands}
-use Rattle.replay_core.specs.Runs.{Feeds, Runs}
+use Rattle.replay_core.proofs.Feeding.{end_text}
 use Rattle.replay_core.proofs.run.finish.Goals as goal
 
--- src/run.rt:101:1
 pub returns-in-Ok-clause-ok : goal.returns-in-Ok-clause-ok
-returns-in-Ok-clause-ok g c = ?
+returns-in-Ok-clause-ok g c = λ b h stands.
+    let pieces : c.as_slice.result.now ≡ ((c.new-text.result.items ++ (69 ∷ 78 ∷ 68 ∷ 32 ∷ [])) ++ decimal c.ticks-ticks.result) ++ 10 ∷ [] = cc in
+    subst (Appended g.O.Sink.agrees c.args.out.now c.put_all.new.out)
+        (pieces ∙ end_text c.ticks-ticks.result c.new-text.result.items c.new-text.ensures ∙ ap output.end_line (c.ticks-ticks.ensures h b stands)) c.in-Ok.ensures.all
 
--- src/run.rt:101:1
 pub returns-in-Err-clause-err : goal.returns-in-Err-clause-err
-returns-in-Err-clause-err g c = ?
+returns-in-Err-clause-err g c = λ b h stands.
+    let pieces : c.as_slice.result.now ≡ ((c.new-text.result.items ++ (69 ∷ 78 ∷ 68 ∷ 32 ∷ [])) ++ decimal c.ticks-ticks.result) ++ 10 ∷ [] = cc in
+    subst (AppendedPrefix g.O.Sink.agrees c.args.out.now c.put_all.new.out)
+        (pieces ∙ end_text c.ticks-ticks.result c.new-text.result.items c.new-text.ensures ∙ ap output.end_line (c.ticks-ticks.ensures h b stands)) c.in-Err.ensures.prefix

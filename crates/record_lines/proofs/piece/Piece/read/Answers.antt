@@ -1,5 +1,5 @@
 -- Where no bytes came the source was at its end.
-use Rattle.std.proofs.Common.{ap, arith, take, ◌≡◌}
+use Rattle.std.proofs.Common.{arith, ◌≡◌}
 use Rattle.record_lines.proofs.Pieces.{slice_range-empty, IsSpent-end}
 use Rattle.record_lines.proofs.piece.Piece.read.Goals as goal
 

@@ -4,7 +4,7 @@ use Rattle.ecam_spec.specs.History.{empty_era, both_up}
 use Rattle.ecam_spec.specs.Replay.{moment_of, last_picture, tick_count}
 use Rattle.ecam_spec.proofs.HistoryLaws.{era_nil}
 use Rattle.book_model.specs.Sealed.{the_book}
-use Rattle.replay_core.specs.Stub.{ParamsStand}
+use Rattle.param_table.specs.Standing.{ParamsStand}
 use Rattle.replay_core.proofs.Steps.{many_alerts}
 use Rattle.replay_core.proofs.replay.Replay.new.Goals as goal
 use Rattle.replay_core.proofs.replay.Replay.new.Goals.{After-blank}

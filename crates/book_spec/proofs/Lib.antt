@@ -1,0 +1,5 @@
+pub mod FieldFacts
+pub mod Once
+pub mod TitleSound
+pub mod TitleFacts
+pub mod TitleDraft

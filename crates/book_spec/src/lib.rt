@@ -1,0 +1,3 @@
+//! The form of a book's document, as definitions on the table that a TOML text is. No loop of the program is
+//! here.
+#![tactic(auto)]

@@ -1,7 +1,0 @@
-use Rattle.replay_core.proofs.stub.Params.new.Goals as goal
-
-pub returns-clause-fits : goal.returns-clause-fits
-returns-clause-fits c = ?
-
-pub returns-clause-stands : goal.returns-clause-stands
-returns-clause-stands c = ?

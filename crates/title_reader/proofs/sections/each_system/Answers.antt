@@ -1,0 +1,27 @@
+use Rattle.std.proofs.Common.{arith}
+use Rattle.std.proofs.lemmas.Result.{err_from_is_err_and}
+use Rattle.book_model.specs.View.{bytes_of}
+use Rattle.book_spec.specs.TitleDocument.{system_in}
+use Rattle.title_reader.specs.Reading.{texts_in}
+use Rattle.title_reader.proofs.EachItem.{each_first, each_more, each_refused, each_done}
+use Rattle.title_reader.proofs.sections.each_system.Goals as goal
+
+pub loop-item-init : goal.loop-item-init
+loop-item-init c = rw c.new-systems.ensures.items (each_first bytes_of system_in c.args.items.now)
+
+pub loop-item-preserved : goal.loop-item-preserved
+loop-item-preserved c =
+    let l = c.loop-item in
+    rw c.in_ok-push.ensures.items (each_more bytes_of system_in c.args.items.now l.item-index l.systems.items c.item-item.result c.in_ok-system.system c.loop-item-test.true c.item-item.is c.in_ok-system.ensures l.invariant)
+
+pub returns-in_err-system-clause-read : goal.returns-in_err-system-clause-read
+returns-in_err-system-clause-read c =
+    let l = c.loop-item in
+    let p = err_from_is_err_and c.from_residual.result c.from_residual.ensures.1 in
+    rw (p.1, p.2) (each_refused bytes_of system_in c.args.items.now texts_in l.item-index l.systems.items c.item-item.result c.in_err-system.field-0.0 c.loop-item-test.true c.item-item.is c.in_err-system.ensures l.invariant)
+
+pub returns-clause-read : goal.returns-clause-read
+returns-clause-read c = each_done bytes_of system_in c.args.items.now c.loop-item.item-index c.loop-item.systems.items c.loop-item-test.false c.loop-item.invariant
+
+pub returns-clause-count : goal.returns-clause-count
+returns-clause-count c = omega (arith, c.loop-item.invariant.count)
