@@ -11,7 +11,8 @@ use Rattle.ecam_spec.specs.Value.{BusWord, takes, arrives, word_of, is_fresh, re
 use Rattle.ecam_spec.proofs.PastSteps.{last-le}
 use Rattle.ecam_spec.proofs.PastWithin.{once_from-last}
 use Rattle.param_table.specs.declared.table.Received.{Received}
-use Rattle.param_table.specs.Standing.{SourceStands, WordComes, held_value, set_back}
+use Rattle.param_table.specs.Standing.{SourceStands, WordComes}
+use Rattle.param_table.specs.Steps.{held_value, set_back}
 use Rattle.param_table.proofs.Moments.{word_of-push, last-push, word_of-moment, last-moment, word_of-start, last-start}
 
 -- the age of a word by the clock, and by the moment in which it came

@@ -1,12 +1,12 @@
 -- A table stands for all words that agree up to now.
-use Rattle.std.proofs.Common.{◌≡◌, ℕ, ◌≤◌, ◌-◌, suc, List, get_or, Option, Some, None, ap, ◌∙◌}
+use Rattle.std.proofs.Common.{◌≡◌, ℕ, ◌≤◌, ◌-◌, suc, List, get_or, Option, None, ap, ◌∙◌}
 use Rattle.std.specs.Prelude.{min, option_map}
 use Rattle.std.specs.List.{list_any}
 use Rattle.ecam_spec.specs.Book.{Source, Book}
 use Rattle.ecam_spec.specs.Value.{BusWord, takes, arrives}
 use Rattle.ecam_spec.proofs.HistoryLaws.{last-below}
 use Rattle.ecam_spec.proofs.ValueAgree.{word_of-below}
-use Rattle.param_table.specs.Places.{parameter_with, source_at}
+use Rattle.param_table.specs.Places.{parameter_with}
 use Rattle.param_table.specs.Standing.{SourceStands, ParamsStand}
 use Rattle.param_table.specs.declared.table.Received.{Received}
 use Rattle.param_table.specs.declared.table.Params.{Params}

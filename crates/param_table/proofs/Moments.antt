@@ -1,12 +1,14 @@
 -- One more word, and one more moment, against the last word that a source takes.
-use Rattle.std.proofs.Common.{◌≡◌, ℕ, zero, suc, ◌≤◌, Bool, true, false, ◌||◌, List, [], ◌∷◌, ◌++◌, Option, Some, None, cond, refl, sym, ap, ◌∙◌, arith}
+use Rattle.std.proofs.Common.{◌≡◌, ℕ, zero, suc, Bool, true, false, ◌||◌, List, [], ◌∷◌, ◌++◌, Option, Some, None, cond, refl, sym, ap, ◌∙◌, arith}
 use Rattle.std.specs.Prelude.{is_some}
 use Rattle.std.specs.List.{list_any}
 use Rattle.std.specs.Option.{option_or, option_and_then}
-use Rattle.ecam_spec.specs.Past.{Signal, last}
+use Rattle.ecam_spec.specs.Past.{last}
 use Rattle.ecam_spec.specs.Book.{Source}
 use Rattle.ecam_spec.specs.Value.{BusWord, takes, last_taken, arrives, word_of}
 use Rattle.ecam_spec.proofs.PastSteps.{last-zero, last-suc}
+use Rattle.ecam_spec.proofs.HistoryLaws.{last-below}
+use Rattle.ecam_spec.proofs.ValueAgree.{word_of-below}
 use Rattle.param_table.specs.Standing.{WordComes}
 
 -- a word in its place, if it is taken
@@ -56,23 +58,6 @@ word_of-suc s words k =
     (last-suc (arrives s words) k ∙ ap (λ b. cond b (Some (suc k)) (last (arrives s words) k)) (some-taken s (words (suc k))))
     ∙ found (λ m. last_taken s (words m)) (suc k) (last (arrives s words) k) (last_taken s (words (suc k))) refl
 
--- what comes later has no bearing
-word_of-below : (s : Source) (old new : ℕ → List BusWord) (k : ℕ) → ((i : ℕ) → i ≤ k → new i ≡ old i) → word_of s new k ≡ word_of s old k
-word_of-below s old new zero same = word_of-zero s new ∙ ap (last_taken s) (same 0 (omega arith)) ∙ sym (word_of-zero s old)
-word_of-below s old new (suc k) same =
-    word_of-suc s new k
-    ∙ ap (λ ws. option_or (last_taken s ws) (word_of s new k)) (same (suc k) (omega arith))
-    ∙ ap (option_or (last_taken s (old (suc k)))) (word_of-below s old new k (λ i h. same i (omega arith)))
-    ∙ sym (word_of-suc s old k)
-
-last-below : (p q : Signal) (k : ℕ) → ((i : ℕ) → i ≤ k → p i ≡ q i) → last p k ≡ last q k
-last-below p q zero same = last-zero p ∙ ap (λ b. cond b (Some 0) None) (same 0 (omega arith)) ∙ sym (last-zero q)
-last-below p q (suc k) same =
-    last-suc p k
-    ∙ ap (λ b. cond b (Some (suc k)) (last p k)) (same (suc k) (omega arith))
-    ∙ ap (cond (q (suc k)) (Some (suc k))) (last-below p q k (λ i h. same i (omega arith)))
-    ∙ sym (last-suc q k)
-
 any-push : (s : Source) (ws : List BusWord) (w : BusWord) → list_any (takes s) (ws ++ w ∷ []) ≡ (takes s w || list_any (takes s) ws)
 any-push s [] w = refl
 any-push s (v ∷ ws) w = ap (λ b. takes s v || b) (any-push s ws w) ∙ or-swap (takes s v) (takes s w) (list_any (takes s) ws) where
@@ -97,7 +82,7 @@ module _ (s : Source) (old new : ℕ → List BusWord) (w : BusWord) where
       word_of-suc s new k
       ∙ ap (λ ws. option_or (last_taken s ws) (word_of s new k)) on.now
       ∙ ap (λ o. option_or o (word_of s new k)) (taken-push s (old (suc k)) w)
-      ∙ ap (option_or (option_or (if_taken s w) (last_taken s (old (suc k))))) (word_of-below s old new k (λ i h. on.before i (omega arith)))
+      ∙ ap (option_or (option_or (if_taken s w) (last_taken s (old (suc k))))) (word_of-below new old k (λ i h. on.before i (omega arith)) s)
       ∙ or-assoc (if_taken s w) (last_taken s (old (suc k))) (word_of s old k)
       ∙ ap (option_or (if_taken s w)) (sym (word_of-suc s old k))
 

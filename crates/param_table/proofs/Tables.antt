@@ -15,7 +15,8 @@ use Rattle.book_model.specs.Sealed.{the_book, IsSealed}
 use Rattle.param_table.specs.declared.table.Received.{Received}
 use Rattle.param_table.specs.declared.table.Params.{Params}
 use Rattle.param_table.specs.Places.{parameter_with, source_at, takes_at}
-use Rattle.param_table.specs.Standing.{SourceStands, ParamsFit, ParamsStand, WordComes, set_back}
+use Rattle.param_table.specs.Standing.{SourceStands, ParamsFit, ParamsStand, WordComes}
+use Rattle.param_table.specs.Steps.{set_back}
 use Rattle.param_table.proofs.Sources.{sound_parameter, not_even}
 use Rattle.param_table.proofs.Entering.{none_replicate}
 use Rattle.param_table.proofs.Ages.{start_stands, moment_stands, set_back_stands, word_stands}

@@ -10,7 +10,8 @@ use Rattle.ecam_spec.specs.Value.{BusWord, source_value, first_of, value}
 use Rattle.param_table.specs.declared.table.Received.{Received}
 use Rattle.param_table.specs.declared.table.Params.{Params}
 use Rattle.param_table.specs.Places.{source_at}
-use Rattle.param_table.specs.Standing.{SourceStands, ParamsStand, first_held}
+use Rattle.param_table.specs.Standing.{SourceStands, ParamsStand}
+use Rattle.param_table.specs.Steps.{first_held}
 use Rattle.param_table.proofs.Ages.{held_is}
 
 -- sources that stand from a place on give what the definitions say

@@ -1,3 +1,4 @@
 pub mod Places
 pub mod Listening
 pub mod Standing
+pub mod Steps

@@ -1,12 +1,11 @@
 -- What a table of parameters says of the words so far.
-use Rattle.std.specs.Prelude.{◌≡◌, ℕ, suc, ◌-◌, ◌*◌, ◌^◌, ◌<◌, ◌≤◌, nat_le, min, ℤ, pos, negsuc, ◌≤ℤ◌, List, [], ◌∷◌, ◌++◌, length, get_or, Option, Some, None, All, IfSome, option_map, if◌then◌else◌}
-use Rattle.std.specs.Option.{option_and_then, option_or}
+use Rattle.std.specs.Prelude.{◌≡◌, ℕ, suc, ◌-◌, ◌*◌, ◌<◌, ◌≤◌, min, ℤ, pos, negsuc, ◌≤ℤ◌, List, [], ◌∷◌, ◌++◌, length, get_or, Option, Some, None, All, IfSome, option_map}
 use Rattle.ecam_spec.specs.declared.kinds.Kind.{Kind}
 use Rattle.ecam_spec.specs.declared.kinds.Kind.TheVariants.{Disc, Bnr, Bcd}
 use Rattle.ecam_spec.specs.Past.{last}
 use Rattle.ecam_spec.specs.Book.{Source, Book}
 use Rattle.ecam_spec.specs.Sound.{IsSoundParameter}
-use Rattle.ecam_spec.specs.Value.{BusWord, arrives, word_of, reading}
+use Rattle.ecam_spec.specs.Value.{BusWord, arrives, word_of}
 use Rattle.param_table.specs.Places.{parameter_with, source_at}
 use Rattle.param_table.specs.Listening.{IsIndex}
 use Rattle.param_table.specs.declared.table.Received.{Received}
@@ -39,19 +38,3 @@ abbrev pub IsValueOf : Kind → ℤ → Type 0
 IsValueOf Disc v = (pos 0 ≤ℤ v) × (v ≤ℤ pos 1)
 IsValueOf Bnr v = (negsuc 999999 ≤ℤ v) × (v ≤ℤ pos 1000000)
 IsValueOf Bcd v = (negsuc 999999 ≤ℤ v) × (v ≤ℤ pos 1000000)
-
--- what a source gives by the word that it took last, where the clock shows this
-abbrev pub held_value : Kind → ℕ → Source → ℕ → Option Received → Option ℤ
-held_value kind stale s clock received =
-    option_and_then (λ r. if nat_le (clock - r.at) stale then reading kind s r.bits else None) received
-
--- what the first source that gives something gives, where the sources stand from a place on
-abbrev pub first_held : Kind → ℕ → ℕ → List (Option Received) → ℕ → List Source → Option ℤ
-first_held kind stale clock received place [] = None
-first_held kind stale clock received place (s ∷ ss) =
-    option_or (held_value kind stale s clock (get_or received place None)) (first_held kind stale clock received (suc place) ss)
-
--- the word came half of the clock earlier, or when it showed 0
-abbrev pub set_back : Option Received → Option Received
-set_back None = None
-set_back (Some r) = Some (record r { at = r.at - 2 ^ 31 })

@@ -7,3 +7,6 @@ mod table;
 mod words;
 
 pub use table::Params;
+
+#[cfg(test)]
+mod tests;

@@ -9,7 +9,8 @@ ghost use Rattle.book_model.specs.View.{source_of, parameter_of};
 ghost use Rattle.ecam_spec.specs.Sound.{IsSoundParameter, IsSoundSource};
 ghost use Rattle.param_table.specs.Places.{takes_at};
 ghost use Rattle.param_table.specs.Listening.{IsIndex};
-ghost use Rattle.param_table.specs.Standing.{ParamsFit, ParamsStand, WordComes, IsValueOf, held_value, first_held, set_back};
+ghost use Rattle.param_table.specs.Standing.{ParamsFit, ParamsStand, WordComes, IsValueOf};
+ghost use Rattle.param_table.specs.Steps.{held_value, first_held, set_back};
 
 use crate::index::Index;
 use crate::words::{has_sdi, reading};
@@ -31,7 +32,7 @@ struct Received {
 /// alone, and nothing grows with the history.
 #[derive(Drop)]
 pub struct Params {
-    // Counts Ticks.
+    // Counts Ticks. At its end it is set back.
     clock: u32,
     // Three places for each parameter, one for each of its sources.
     received: Vec<Option<Received>>,
@@ -102,7 +103,8 @@ impl Params {
         }
     }
 
-    /// The moment ends. The clock alone counts it: it costs nothing for any source, but in one Tick of 2^31.
+    /// The moment ends. A clock counts it, and the age of a word is told by what it showed when the word came: so a
+    /// Tick costs nothing for any source, fresh or stale, but one in 2^31, which costs a write a source.
     pub fn tick(&mut self, _book: &Book)
         requires { ParamsFit (the_book _book.now) self.old }
         ensures fits { ParamsFit (the_book _book.now) self.new }
@@ -145,7 +147,8 @@ impl Params {
         None
     }
 
-    // Sets the clock back by half of what it can show. A word from before that half is as stale as can be.
+    // Sets the clock back by half of what it can show, with the times of the words. One from before that half is
+    // stale by far, since a word stays fresh for 600 moments at most.
     fn set_clock_back(&mut self)
         requires { self.old.clock ≡ 2 ^ 32 - 1 }
         ensures clock { self.new.clock ≡ 2 ^ 31 - 1 }
@@ -174,6 +177,7 @@ impl Params {
     }
 }
 
+// The same word, where the clock is set back.
 fn set_back(received: Option<Received>) -> Option<Received>
     ensures { result ≡ set_back received }
 {

@@ -7,7 +7,7 @@ use Rattle.std.proofs.lemmas.List.Elements.{All-get_or}
 use Rattle.ecam_spec.specs.Sound.{IsSoundSource}
 use Rattle.book_model.specs.declared.draft.From.{From}
 use Rattle.book_model.specs.View.{source_of}
-use Rattle.param_table.specs.Standing.{held_value, first_held}
+use Rattle.param_table.specs.Steps.{held_value, first_held}
 use Rattle.param_table.proofs.table.Params.first_value.Goals as goal
 use Rattle.param_table.proofs.table.Params.first_value.Goals.{In-loop-i}
 

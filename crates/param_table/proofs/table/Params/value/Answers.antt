@@ -5,7 +5,8 @@ use Rattle.ecam_spec.specs.Sound.{IsSoundParameter}
 use Rattle.ecam_spec.specs.Situation.{no_parameter, parameter_at}
 use Rattle.book_model.specs.Sealed.{the_book}
 use Rattle.book_model.specs.View.{parameter_of}
-use Rattle.param_table.specs.Standing.{IsValueOf, first_held}
+use Rattle.param_table.specs.Standing.{IsValueOf}
+use Rattle.param_table.specs.Steps.{first_held}
 use Rattle.param_table.proofs.Values.{value_is}
 use Rattle.param_table.proofs.Tables.{parameter_is, parameter_count}
 use Rattle.param_table.proofs.table.Params.value.Goals as goal
