@@ -3,9 +3,8 @@
 
 use ecam_io::{OsErr, OsOut, OsShelf};
 use replay_core::ecam;
-use std::env;
-use std::io;
 use std::process::ExitCode;
+use std::{env, io};
 
 /// How the program ends where the command line's words can't be had; no status of `ecam` has this number.
 const NO_WORDS: u8 = 9;

@@ -70,7 +70,7 @@ module _ (text : Text) (limit : ℕ) (es : List Event) (all : list_all is_built 
   unfolding fault_read
   fault-until e later un is =
       ap (λ b. cond b (fault text limit) (Some (record { kind = Form; line = length (events_read text limit) + 1 })))
-          (ap (list_all is_built) is ∙ list_all-append is_built es (e ∷ later) ∙ ap (λ b. b && (is_built e && list_all is_built later)) all ∙ ap (λ b. b && list_all is_built later) un)
+      (ap (list_all is_built) is ∙ list_all-append is_built es (e ∷ later) ∙ ap (λ b. b && (is_built e && list_all is_built later)) all ∙ ap (λ b. b && list_all is_built later) un)
       ∙ ap (λ (read : List Event). Some (record { kind = Form; line = length read + 1 })) (read-until e later un is)
 
   -- more lines are read

@@ -42,9 +42,9 @@ module _ (files : Files) (opens mid_opens opens' faults mid_faults faults' : ℕ
     replies = BookHas-weaker files book (λ b. b ≡ the_book l.book) _ (λ b is. subst (λ x. FileHas files record' (λ text. AppendedPrefix agrees old new (reply_read x text limit))) (sym is) plays.1) has.book;
   }
   played book record' limit l outcomes.ReadFault has less (inl (inl rose, kept)) =
-      inl (record { cause = inl (Rose-earlier faults mid_faults faults' less rose); kept = kept; })
+      inl (record { cause = inl (Rose-earlier faults mid_faults faults' less rose); kept = kept })
   played book record' limit l outcomes.ReadFault has less (inl (inr lacks, kept)) =
-      inl (record { cause = inr (inr (lacks, BookHas-weaker files book (λ b. b ≡ the_book l.book) (λ b. Unit {0}) (λ b is. tt) has.book)); kept = kept; })
+      inl (record { cause = inr (inr (lacks, BookHas-weaker files book (λ b. b ≡ the_book l.book) (λ b. Unit {0}) (λ b is. tt) has.book)); kept = kept })
   played book record' limit l outcomes.ReadFault has less (inr (rose, replies)) = inr (record {
     cause = Rose-earlier faults mid_faults faults' less rose;
     replies = BookHas-weaker files book (λ b. b ≡ the_book l.book) _ (λ b is. subst (λ x. FileHas files record' (RepliesInPart agrees old new limit x)) (sym is) replies) has.book;
@@ -57,8 +57,8 @@ module _ (files : Files) (opens mid_opens opens' faults mid_faults faults' : ℕ
   pub unloaded : (book record' : Text) (limit : ℕ) (outcome : Outcome) → Loads files book faults faults' (Err outcome) → opens' ≡ raised opens → IsKept agrees old new
       → Replays files opens opens' faults faults' left agrees out_faults out_faults' old new book record' limit outcome
   unloaded book record' limit (outcomes.BookRefused f) (is, none) once kept = (is, none, kept)
-  unloaded book record' limit outcomes.ReadFault (inl rose) once kept = inl (record { cause = inl rose; kept = kept; })
-  unloaded book record' limit outcomes.ReadFault (inr lacks) once kept = inl (record { cause = inr (inl lacks); kept = kept; })
+  unloaded book record' limit outcomes.ReadFault (inl rose) once kept = inl (record { cause = inl rose; kept = kept })
+  unloaded book record' limit outcomes.ReadFault (inr lacks) once kept = inl (record { cause = inr (inl lacks); kept = kept })
   unloaded book record' limit outcomes.NoMemory loads once kept = (omega (arith, once), kept)
   unloaded book record' limit outcomes.Done loads once kept = absurd loads
   unloaded book record' limit outcomes.Usage loads once kept = absurd loads
@@ -90,12 +90,12 @@ module _ (files : Files) (faults mid_faults faults' : ℕ) (left left' : Option 
   pub ran-whole : (ticks : ℕ) → Runs b agrees old new limit left left' (Ok ticks) → Plays files faults faults' left' agrees out_faults out_faults' old new b record' limit outcomes.Done
   ran-whole ticks runs =
       FileHas-weaker files record' (λ bytes. left ≡ Some bytes) _
-          (λ text is. let run = runs text is in record { faultless = run.faultless; written = run.written; spent = run.spent; }) found
+      (λ text is. let run = runs text is in record { faultless = run.faultless; written = run.written; spent = run.spent }) found
 
   pub ran-into : (f : _) → Runs b agrees old new limit left left' (Err (ends.Record f)) → Plays files faults faults' left' agrees out_faults out_faults' old new b record' limit (outcomes.RecordRefused f)
   ran-into f runs =
       FileHas-weaker files record' (λ bytes. left ≡ Some bytes) _
-          (λ text is. let run = runs text is in record { fault_is = run.fault_is; written = run.written; }) found
+      (λ text is. let run = runs text is in record { fault_is = run.fault_is; written = run.written }) found
 
   pub ran-unwritten : Rose out_faults out_faults' → Runs b agrees old new limit left left' (Err ends.Write) → Plays files faults faults' left' agrees out_faults out_faults' old new b record' limit outcomes.WriteFault
   ran-unwritten rose runs = (rose, FileHas-weaker files record' (λ bytes. left ≡ Some bytes) _ runs found)
@@ -104,4 +104,4 @@ module _ (files : Files) (faults mid_faults faults' : ℕ) (left left' : Option 
       → Plays files faults faults' left' agrees out_faults out_faults' old new b record' limit outcomes.ReadFault
   ran-unread less rose runs = inr (Rose-earlier faults mid_faults faults' less rose, FileHas-weaker files record' (λ bytes. left ≡ Some bytes) _ part found) where
     part : (text : Text) → left ≡ Some text → RepliesInPart agrees old new limit b text
-    part text is = let split = told text left left' runs.taken is runs.moved in record { taken = runs.taken; behind = split.0; part = split.2; written = runs.written; }
+    part text is = let split = told text left left' runs.taken is runs.moved in record { taken = runs.taken; behind = split.0; part = split.2; written = runs.written }

@@ -104,7 +104,7 @@ module _ (told : List (Text × Text)) where
     pub decided : (words : List Text) (o : Outcome) → Ends (Some told) opens opens' faults faults' left agrees out_faults out_faults' old new (command_of words) o → Decides words told (status_of o)
     decided words o ends =
         let of : (c : Option Command) → command_of words ≡ c → Ends (Some told) opens opens' faults faults' left agrees out_faults out_faults' old new c o =
-            λ c is. subst (λ c. Ends (Some told) opens opens' faults faults' left agrees out_faults out_faults' old new c o) is ends in
+        λ c is. subst (λ c. Ends (Some told) opens opens' faults faults' left agrees out_faults out_faults' old new c o) is ends in
         record {
           usage = λ none. ap status_of (of None none).0;
           form = λ is. formless (command_of words) o ends is;

@@ -110,7 +110,7 @@ module _ (b : Book) {S : Type 0} (agrees : S → List ℕ → Type 0) (old : S) 
           ticks_are = count ∙ ap tick_count (sym read);
           written = subst (Appended agrees old new)
               (sym (ap (λ f. history_blocks b (events_read text limit) ++ cond (is_none f) (end_line (tick_count (events_read text limit))) []) fault_is
-                  ∙ ap (λ es. history_blocks b es ++ end_line (tick_count es)) read))
+              ∙ ap (λ es. history_blocks b es ++ end_line (tick_count es)) read))
               (Appended-append agrees old mid new (history_blocks b at.answered) (end_line (tick_count at.answered)) at.written written);
           spent = nothing;
         }
@@ -130,9 +130,9 @@ module _ (b : Book) {S : Type 0} (agrees : S → List ℕ → Type 0) (old : S) 
         let fault_is : fault_read text limit ≡ None = fault-all text limit at.answered at.built events_are ∙ ap (λ t. fault t limit) whole ∙ tells.whole.fault in
         let read : events_read text limit ≡ at.answered = read-all text limit at.answered at.built events_are in
         subst (AppendedPrefix agrees old new)
-            (sym (ap (λ f. history_blocks b (events_read text limit) ++ cond (is_none f) (end_line (tick_count (events_read text limit))) []) fault_is
-                ∙ ap (λ es. history_blocks b es ++ end_line (tick_count es)) read))
-            (AppendedPrefix-after agrees old mid new (history_blocks b at.answered) (end_line (tick_count at.answered)) at.written part)
+        (sym (ap (λ f. history_blocks b (events_read text limit) ++ cond (is_none f) (end_line (tick_count (events_read text limit))) []) fault_is
+        ∙ ap (λ es. history_blocks b es ++ end_line (tick_count es)) read))
+        (AppendedPrefix-after agrees old mid new (history_blocks b at.answered) (end_line (tick_count at.answered)) at.written part)
 
     -- the record has a fault
     pub at-fault : (later : Option (List ℕ)) (next : ReaderState) (more : List ℕ) (f : RecordFault)
@@ -142,7 +142,7 @@ module _ (b : Book) {S : Type 0} (agrees : S → List ℕ → Type 0) (old : S) 
         let where_it_is = here text is later more moved in
         let rest_is = told text left rest at.taken is at.moved in
         let faulty = tells.faulty where_it_is.0
-            (λ shown. some_is where_it_is.0 [] (sym where_it_is.1 ∙ ended rest later rest_is.0 rest_is.1 where_it_is.0 where_it_is.1 (spent shown))) in
+        (λ shown. some_is where_it_is.0 [] (sym where_it_is.1 ∙ ended rest later rest_is.0 rest_is.1 where_it_is.0 where_it_is.1 (spent shown))) in
         let events_are : events text limit ≡ at.answered = ap (λ t. events t limit) where_it_is.2 ∙ faulty.events in
         let fault_is : fault_read text limit ≡ Some f = fault-all text limit at.answered at.built events_are ∙ ap (λ t. fault t limit) where_it_is.2 ∙ faulty.fault in
         record {
@@ -176,7 +176,7 @@ module _ (b : Book) {S : Type 0} (agrees : S → List ℕ → Type 0) (old : S) 
     at-refused new later next e more f moved tells has text is =
         let on = onward text is later next e more moved tells in
         let fault_is : fault_read text limit ≡ Some f = fault-until text limit at.answered at.built e on.0 has.unbuilt on.1
-            ∙ ap Some (ap (λ n. record { kind = Form; line = n }) (sym at.line_is) ∙ sym has.fault_is) in
+        ∙ ap Some (ap (λ n. record { kind = Form; line = n }) (sym at.line_is) ∙ sym has.fault_is) in
         record {
           fault_is = fault_is;
           written = subst (Appended agrees old new)
@@ -195,11 +195,11 @@ module _ (b : Book) {S : Type 0} (agrees : S → List ℕ → Type 0) (old : S) 
         let begun = history_blocks_begun b (at.answered ++ e ∷ []) (while_built on.0) in
         let ends : Text = cond (is_none (fault_read text limit)) (end_line (tick_count (events_read text limit))) [] in
         let whole : history_blocks b (events_read text limit) ++ ends ≡ (history_blocks b at.answered ++ has.more) ++ (begun.0 ++ ends) =
-            ap (λ es. history_blocks b es ++ ends) read ∙ ap (λ w. w ++ ends) (begun.1 ∙ ap (λ w. w ++ begun.0) has.blocks)
-            ∙ append_assoc (history_blocks b at.answered ++ has.more) begun.0 ends in
+        ap (λ es. history_blocks b es ++ ends) read ∙ ap (λ w. w ++ ends) (begun.1 ∙ ap (λ w. w ++ begun.0) has.blocks)
+        ∙ append_assoc (history_blocks b at.answered ++ has.more) begun.0 ends in
         subst (AppendedPrefix agrees old new) (sym whole)
-            (AppendedPrefix-longer agrees old new (history_blocks b at.answered ++ has.more) (begun.0 ++ ends)
-                (AppendedPrefix-after agrees old mid new (history_blocks b at.answered) has.more at.written has.written))
+        (AppendedPrefix-longer agrees old new (history_blocks b at.answered ++ has.more) (begun.0 ++ ends)
+        (AppendedPrefix-after agrees old mid new (history_blocks b at.answered) has.more at.written has.written))
 
     -- few Ticks were met, since each is a line
     pub at-few : limit < 2 ^ 32 → tick_count at.answered < 2 ^ 63

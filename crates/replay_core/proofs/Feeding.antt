@@ -40,7 +40,7 @@ module _ (b : Book) {S : Type 0} (agrees : S → List ℕ → Type 0) (h : List 
   struck : (s : S) (line : ℕ) (e : Event) (replay : Replay) (built : Bool) → is_built e ≡ built → is_tick e ≡ false → Stands b (h ++ e ∷ []) replay
       → Feeds b agrees s s h e line replay (if built then Ok tt else Err (Record (record { kind = Form; line = line })))
   struck s line e replay true built quiet stands = fed-quiet s e replay quiet built stands
-  struck s line e replay false built quiet stands = record { unbuilt = built; fault_is = refl; kept = λ w was. was; }
+  struck s line e replay false built quiet stands = record { unbuilt = built; fault_is = refl; kept = λ w was. was }
 
   pub pressed : (s : S) (line : ℕ) (key : Key) (replay : Replay) → Stands b h replay
       → Feeds b agrees s s h (Press key) line replay (if is_built_key key then Ok tt else Err (Record (record { kind = Form; line = line })))

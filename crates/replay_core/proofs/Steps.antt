@@ -137,8 +137,8 @@ module _ (b : Book) (h : List Event) (replay : Replay) (stands : Stands b h repl
       let on : era (h ++ e ∷ []) ≡ era_with (era h) e = era_goes_on h e (begins_none (flags_after h) e same_computers) in
       let kept : (era_with (era h) e).moments ≡ (era h).moments = moments_kept (era h) e still in
       let here : ParamsStand b (words_in b (moment_of (era_with (era h) e))) (length (era h).moments) replay.params =
-          ParamsStand-below (words_in b (moment_of (era h))) (words_in b (moment_of (era_with (era h) e))) (length (era h).moments)
-              (λ i within. sym (same i)) b replay.params stands.params in
+      ParamsStand-below (words_in b (moment_of (era h))) (words_in b (moment_of (era_with (era h) e))) (length (era h).moments)
+      (λ i within. sym (same i)) b replay.params stands.params in
       record {
         fits = stands.fits;
         params = subst (λ E. ParamsStand b (words_in b (moment_of E)) (length E.moments) replay.params) (sym on)

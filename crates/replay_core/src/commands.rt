@@ -27,7 +27,7 @@ pub fn ecam<F: Shelf, O: Sink, E: Sink>(
 ) -> Status
     ensures ends { (ending : Ending) × (result ≡ status_of ending)
         × Ends (F.files files.old) (F.opens files.old) (F.opens files.new) (F.faults files.old) (F.faults files.new) (F.left files.new) O.agrees (O.faults out.old) (O.faults out.new) out.old out.new
-            (command_of (map string_bytes words.now)) ending
+        (command_of (map string_bytes words.now)) ending
         × Complains E.agrees (E.faults err.old) (E.faults err.new) err.old err.new ending }
     ensures decides { (told : _) → F.files files.old ≡ Some told → (Rose (F.faults files.old) (F.faults files.new) → ⊥) → (Rose (O.faults out.old) (O.faults out.new) → ⊥)
         → Decides (map string_bytes words.now) told result }
@@ -41,12 +41,7 @@ pub fn ecam<F: Shelf, O: Sink, E: Sink>(
     outcome.status()
 }
 
-fn answer<F: Shelf, O: Sink>(
-    alloc: Global,
-    words: &[String],
-    files: &mut F,
-    out: &mut O,
-) -> Outcome
+fn answer<F: Shelf, O: Sink>(alloc: Global, words: &[String], files: &mut F, out: &mut O) -> Outcome
     ensures ends { Ends (F.files files.old) (F.opens files.old) (F.opens files.new) (F.faults files.old) (F.faults files.new) (F.left files.new) O.agrees (O.faults out.old) (O.faults out.new) out.old out.new
         (command_of (map string_bytes words.now)) result }
     ensures files { F.files files.new ≡ F.files files.old }
@@ -54,11 +49,13 @@ fn answer<F: Shelf, O: Sink>(
     ensures out_faults { O.faults out.old ≤ O.faults out.new }
 {
     match parse(words) {
-        Some(Command::Replay {
-            book,
-            record,
-            limit,
-        }) => replay_files(alloc, book, record, limit, files, out),
+        Some(
+            Command::Replay {
+                book,
+                record,
+                limit,
+            },
+        ) => replay_files(alloc, book, record, limit, files, out),
         None => Outcome::Usage,
     }
 }

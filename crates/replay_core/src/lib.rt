@@ -8,6 +8,8 @@ mod load;
 mod outcome;
 mod replay;
 mod run;
+#[cfg(test)]
+mod tests;
 mod titles;
 mod words;
 

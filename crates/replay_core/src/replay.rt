@@ -17,10 +17,10 @@ ghost use Rattle.ecam_kinds.specs.Shown.{picture_of};
 ghost use Rattle.replay_core.specs.Standing.{Fits, Stands, AreShown, is_one, ones};
 
 use crate::block::{Block, block};
-use param_table::Params;
 use crate::titles::draw_titles;
 use book_model::{Alert, Book};
 use ecam_kinds::Picture;
+use param_table::Params;
 use std::alloc::{AllocError, Global};
 use std::mem;
 use term_tree::Cond;

@@ -9,10 +9,10 @@ pub returns-in-Ok-clause-ok : goal.returns-in-Ok-clause-ok
 returns-in-Ok-clause-ok g c = λ b h stands.
     let pieces : c.as_slice.result.now ≡ ((c.new-text.result.items ++ (69 ∷ 78 ∷ 68 ∷ 32 ∷ [])) ++ decimal c.ticks-ticks.result) ++ 10 ∷ [] = cc in
     subst (Appended g.O.Sink.agrees c.args.out.now c.put_all.new.out)
-        (pieces ∙ end_text c.ticks-ticks.result c.new-text.result.items c.new-text.ensures ∙ ap output.end_line (c.ticks-ticks.ensures h b stands)) c.in-Ok.ensures.all
+    (pieces ∙ end_text c.ticks-ticks.result c.new-text.result.items c.new-text.ensures ∙ ap output.end_line (c.ticks-ticks.ensures h b stands)) c.in-Ok.ensures.all
 
 pub returns-in-Err-clause-err : goal.returns-in-Err-clause-err
 returns-in-Err-clause-err g c = λ b h stands.
     let pieces : c.as_slice.result.now ≡ ((c.new-text.result.items ++ (69 ∷ 78 ∷ 68 ∷ 32 ∷ [])) ++ decimal c.ticks-ticks.result) ++ 10 ∷ [] = cc in
     subst (AppendedPrefix g.O.Sink.agrees c.args.out.now c.put_all.new.out)
-        (pieces ∙ end_text c.ticks-ticks.result c.new-text.result.items c.new-text.ensures ∙ ap output.end_line (c.ticks-ticks.ensures h b stands)) c.in-Err.ensures.prefix
+    (pieces ∙ end_text c.ticks-ticks.result c.new-text.result.items c.new-text.ensures ∙ ap output.end_line (c.ticks-ticks.ensures h b stands)) c.in-Err.ensures.prefix

@@ -26,7 +26,7 @@ lines-preserved g c =
     let other : is_end_event c.in-Ok.event ≡ false = sym c.is_end.ensures ∙ c.if-is_end.false in
     let told = c.in-Ok.ensures.told in
     let tells = subst (λ b. MatchBool b (TellsEnd c.args.limit (at.taken ++ told.more) at.answered c.next.new.self) (TellsEvent c.args.limit (at.taken ++ told.more) (at.answered ++ c.in-Ok.event ∷ []) c.next.new.self))
-        other (told.tells c.args.limit at.taken at.answered at.reads) in
+    other (told.tells c.args.limit at.taken at.answered at.reads) in
     record {
       at = at-next (the_book c.args.book.now) g.O.Sink.agrees c.args.out.now c.args.limit (g.S.Source.left c.args.source.now)
           c.lines.out (g.S.Source.left c.lines.source) c.lines.reader c.lines.replay c.lines.line at
@@ -46,9 +46,9 @@ returns-in-Err-Failed-clause-runs g c =
     let at = c.lines.invariant.at in
     let told = c.in-Err-Failed.ensures.told in
     at-broken (the_book c.args.book.now) g.O.Sink.agrees c.args.out.now c.args.limit (g.S.Source.left c.args.source.now)
-        c.lines.out (g.S.Source.left c.lines.source) c.lines.reader c.lines.replay c.lines.line at
-        (g.S.Source.left c.next.new.source) c.next.new.self told.more told.moved
-        (subst (λ e. TellsAfter c.args.limit (at.taken ++ told.more) at.answered (Err e) c.next.new.self) c.in-Err-Failed.field-0-is (told.tells c.args.limit at.taken at.answered at.reads))
+    c.lines.out (g.S.Source.left c.lines.source) c.lines.reader c.lines.replay c.lines.line at
+    (g.S.Source.left c.next.new.source) c.next.new.self told.more told.moved
+    (subst (λ e. TellsAfter c.args.limit (at.taken ++ told.more) at.answered (Err e) c.next.new.self) c.in-Err-Failed.field-0-is (told.tells c.args.limit at.taken at.answered at.reads))
 
 pub returns-in-Err-Record-clause-runs : goal.returns-in-Err-Record-clause-runs
 returns-in-Err-Record-clause-runs g c =
@@ -56,10 +56,10 @@ returns-in-Err-Record-clause-runs g c =
     let told = c.in-Err-Record.ensures.told in
     subst (λ f. (text : List ℕ) → g.S.Source.left c.args.source.now ≡ Some text → HasMetFault (the_book c.args.book.now) g.O.Sink.agrees c.args.out.now c.lines.out c.args.limit text f) (sym c.in-Err-Record.fault-is)
     (at-fault (the_book c.args.book.now) g.O.Sink.agrees c.args.out.now c.args.limit (g.S.Source.left c.args.source.now)
-        c.lines.out (g.S.Source.left c.lines.source) c.lines.reader c.lines.replay c.lines.line at
-        (g.S.Source.left c.next.new.source) c.next.new.self told.more c.in-Err-Record.fault told.moved
-        (subst (λ e. TellsAfter c.args.limit (at.taken ++ told.more) at.answered (Err e) c.next.new.self) c.in-Err-Record.field-0-is (told.tells c.args.limit at.taken at.answered at.reads))
-        (subst (λ e. MeetsEnd (g.S.Source.left c.lines.source) (g.S.Source.left c.next.new.source) (Err e)) c.in-Err-Record.field-0-is (c.in-Err-Record.ensures.end at.unsettled)))
+    c.lines.out (g.S.Source.left c.lines.source) c.lines.reader c.lines.replay c.lines.line at
+    (g.S.Source.left c.next.new.source) c.next.new.self told.more c.in-Err-Record.fault told.moved
+    (subst (λ e. TellsAfter c.args.limit (at.taken ++ told.more) at.answered (Err e) c.next.new.self) c.in-Err-Record.field-0-is (told.tells c.args.limit at.taken at.answered at.reads))
+    (subst (λ e. MeetsEnd (g.S.Source.left c.lines.source) (g.S.Source.left c.next.new.source) (Err e)) c.in-Err-Record.field-0-is (c.in-Err-Record.ensures.end at.unsettled)))
 
 pub returns-then-is_end-clause-runs : goal.returns-then-is_end-clause-runs
 returns-then-is_end-clause-runs g c =
@@ -67,12 +67,12 @@ returns-then-is_end-clause-runs g c =
     let over : is_end_event c.in-Ok.event ≡ true = sym c.is_end.ensures ∙ c.if-is_end.true in
     let told = c.in-Ok.ensures.told in
     let tells = subst (λ b. MatchBool b (TellsEnd c.args.limit (at.taken ++ told.more) at.answered c.next.new.self) (TellsEvent c.args.limit (at.taken ++ told.more) (at.answered ++ c.in-Ok.event ∷ []) c.next.new.self))
-        over (told.tells c.args.limit at.taken at.answered at.reads) in
+    over (told.tells c.args.limit at.taken at.answered at.reads) in
     let b = the_book c.args.book.now in
     at-finished b g.O.Sink.agrees c.args.out.now c.args.limit (g.S.Source.left c.args.source.now)
-        c.lines.out (g.S.Source.left c.lines.source) c.lines.reader c.lines.replay c.lines.line at
-        c.finish.new.out (g.S.Source.left c.next.new.source) c.next.new.self told.more c.finish.result told.moved tells
-        (c.in-Ok.ensures.end at.unsettled over) (c.finish.ensures.ticks b at.answered at.stands) (c.finish.ensures.ok b at.answered at.stands) (c.finish.ensures.err b at.answered at.stands) c.finish.ensures.cause
+    c.lines.out (g.S.Source.left c.lines.source) c.lines.reader c.lines.replay c.lines.line at
+    c.finish.new.out (g.S.Source.left c.next.new.source) c.next.new.self told.more c.finish.result told.moved tells
+    (c.in-Ok.ensures.end at.unsettled over) (c.finish.ensures.ticks b at.answered at.stands) (c.finish.ensures.ok b at.answered at.stands) (c.finish.ensures.err b at.answered at.stands) c.finish.ensures.cause
 
 pub returns-in_err-feed-clause-runs : goal.returns-in_err-feed-clause-runs
 returns-in_err-feed-clause-runs g c =
@@ -80,12 +80,12 @@ returns-in_err-feed-clause-runs g c =
     let other : is_end_event c.in-Ok.event ≡ false = sym c.is_end.ensures ∙ c.if-is_end.false in
     let told = c.in-Ok.ensures.told in
     let tells = subst (λ b. MatchBool b (TellsEnd c.args.limit (at.taken ++ told.more) at.answered c.next.new.self) (TellsEvent c.args.limit (at.taken ++ told.more) (at.answered ++ c.in-Ok.event ∷ []) c.next.new.self))
-        other (told.tells c.args.limit at.taken at.answered at.reads) in
+    other (told.tells c.args.limit at.taken at.answered at.reads) in
     let failed = err_from_is_err_and c.from_residual.result c.from_residual.ensures.1 in
     let same : Err c.in_err-feed.field-0.0 ≡ c.from_residual.result = sym (failed.1 ∙ ap Err failed.2) in
     let few = at-few (the_book c.args.book.now) g.O.Sink.agrees c.args.out.now c.args.limit (g.S.Source.left c.args.source.now) c.lines.out (g.S.Source.left c.lines.source) c.lines.reader c.lines.replay c.lines.line at c.ranges.limit.fits in
     subst (Runs (the_book c.args.book.now) g.O.Sink.agrees c.args.out.now c.feed.new.out c.args.limit (g.S.Source.left c.args.source.now) (g.S.Source.left c.next.new.source)) same
-        (at-stopped (the_book c.args.book.now) g.O.Sink.agrees c.args.out.now c.args.limit (g.S.Source.left c.args.source.now)
-            c.lines.out (g.S.Source.left c.lines.source) c.lines.reader c.lines.replay c.lines.line at
-            c.feed.new.out (g.S.Source.left c.next.new.source) c.next.new.self c.feed.new.replay c.in-Ok.event told.more c.in_err-feed.field-0.0 told.moved tells
-            (c.in_err-feed.ensures.feeds at.answered at.titles few at.stands))
+    (at-stopped (the_book c.args.book.now) g.O.Sink.agrees c.args.out.now c.args.limit (g.S.Source.left c.args.source.now)
+    c.lines.out (g.S.Source.left c.lines.source) c.lines.reader c.lines.replay c.lines.line at
+    c.feed.new.out (g.S.Source.left c.next.new.source) c.next.new.self c.feed.new.replay c.in-Ok.event told.more c.in_err-feed.field-0.0 told.moved tells
+    (c.in_err-feed.ensures.feeds at.answered at.titles few at.stands))
