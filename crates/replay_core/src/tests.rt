@@ -2,6 +2,7 @@
 use super::*;
 use ecam_io::{MemoryFile, MemoryShelf, MemorySink};
 use std::alloc::{AllocError, Global};
+use std::process::Abort;
 use std::test::Fail;
 
 const BOOK: &str = "version = 1\nsystems = [\"HYD\"]\n\
@@ -48,7 +49,8 @@ fn words_of(alloc: Global, words: &[&str]) -> Result<Vec<String>, AllocError> {
 // What a command with these files ends with and writes, where the calls of these numbers fail and a write takes so
 // many bytes: the status, what is written, and what is told.
 fn does(
-    rt: HostRuntime,
+    rt: &impl Abort,
+    alloc: Global,
     words: &[&str],
     files: &[(&str, &str)],
     failing: &[u32],
@@ -58,7 +60,6 @@ fn does(
 ) -> Result<(), Fail>
     requires { 0 < piece }
 {
-    let alloc = rt.alloc();
     let mut held = Vec::new(alloc);
     for (name, bytes) in files {
         held.push(file(alloc, name, bytes)?)?;
@@ -75,13 +76,15 @@ fn does(
 }
 
 fn replays(
-    rt: HostRuntime,
+    rt: &impl Abort,
+    alloc: Global,
     book: &str,
     record_text: &str,
     want: (Status, &str, &str),
 ) -> Result<(), Fail> {
     does(
         rt,
+        alloc,
         &["replay", "book", "record"],
         &[("book", book), ("record", record_text)],
         &[],
@@ -119,7 +122,13 @@ fn a_record_without_a_fault(rt: HostRuntime) -> Result<(), Fail> {
             "@0\nL1 A HYD G RSVR LO LVL\nEND 1\n",
         ),
     ] {
-        replays(rt, book, record_text, (Status::Done, output, ""))?;
+        replays(
+            &rt,
+            rt.alloc(),
+            book,
+            record_text,
+            (Status::Done, output, ""),
+        )?;
     }
     Ok(())
 }
@@ -154,7 +163,13 @@ fn a_record_with_a_fault(rt: HostRuntime) -> Result<(), Fail> {
             "record: Form line 3\n",
         ),
     ] {
-        replays(rt, BOOK, record_text, (Status::RecordRefused, output, line))?;
+        replays(
+            &rt,
+            rt.alloc(),
+            BOOK,
+            record_text,
+            (Status::RecordRefused, output, line),
+        )?;
     }
     Ok(())
 }
@@ -177,7 +192,8 @@ fn a_limit_on_the_bytes_of_a_record(rt: HostRuntime) -> Result<(), Fail> {
         ),
     ] {
         does(
-            rt,
+            &rt,
+            rt.alloc(),
             &["replay", "book", "record", "--limit", limit],
             &files,
             &[],
@@ -193,7 +209,8 @@ fn a_limit_on_the_bytes_of_a_record(rt: HostRuntime) -> Result<(), Fail> {
 fn a_book_that_is_no_title_book(rt: HostRuntime) -> Result<(), Fail> {
     for book in ["", "version =", "version = 1\n", LEVEL_TWO] {
         replays(
-            rt,
+            &rt,
+            rt.alloc(),
             book,
             "E\n",
             (Status::BookRefused, "", "book: F00 top 0\n"),
@@ -208,7 +225,8 @@ fn what_fails_or_is_missing(rt: HostRuntime) -> Result<(), Fail> {
     let files = [("book", BOOK), ("record", "W 0 0000041d\nT\nE\n")];
     let unread = (Status::ReadFault, "", "read fault\n");
     does(
-        rt,
+        &rt,
+        rt.alloc(),
         &words,
         &files,
         &[],
@@ -216,9 +234,9 @@ fn what_fails_or_is_missing(rt: HostRuntime) -> Result<(), Fail> {
         1,
         (Status::WriteFault, "@0", "write fault\n"),
     )?;
-    does(rt, &words, &files, &[1], &[], 4096, unread)?;
-    does(rt, &words, &files[1..], &[], &[], 4096, unread)?;
-    does(rt, &words, &files[..1], &[], &[], 4096, unread)
+    does(&rt, rt.alloc(), &words, &files, &[1], &[], 4096, unread)?;
+    does(&rt, rt.alloc(), &words, &files[1..], &[], &[], 4096, unread)?;
+    does(&rt, rt.alloc(), &words, &files[..1], &[], &[], 4096, unread)
 }
 
 #[test]
@@ -238,7 +256,8 @@ fn words_without_a_form(rt: HostRuntime) -> Result<(), Fail> {
         ["replay", "book", "record", "--limit", "17", "more"].as_slice(),
     ] {
         does(
-            rt,
+            &rt,
+            rt.alloc(),
             words,
             &[("book", BOOK)],
             &[],
