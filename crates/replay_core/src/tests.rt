@@ -1,4 +1,6 @@
 // That the definitions of the command say what its guides say, on whole books and records.
+ghost use Rattle.std.specs.Prelude.{◌<◌};
+
 use super::*;
 use ecam_io::{MemoryFile, MemoryShelf, MemorySink};
 use std::alloc::{AllocError, Global};
@@ -38,12 +40,13 @@ fn file(alloc: Global, name: &str, bytes: &str) -> Result<MemoryFile, AllocError
     })
 }
 
-fn words_of(alloc: Global, words: &[&str]) -> Result<Vec<String>, AllocError> {
-    let mut list = Vec::new(alloc);
-    for word in words {
-        list.push(String::from_str(alloc, word)?)?;
+// Words, each behind a blank.
+fn words_of(alloc: Global, line: &str) -> Result<Vec<String>, AllocError> {
+    let mut words = Vec::new(alloc);
+    for word in line.split(' ').skip(1) {
+        words.push(String::from_str(alloc, word)?)?;
     }
-    Ok(list)
+    Ok(words)
 }
 
 // What a command with these files ends with and writes, where the calls of these numbers fail and a write takes so
@@ -51,7 +54,7 @@ fn words_of(alloc: Global, words: &[&str]) -> Result<Vec<String>, AllocError> {
 fn does(
     rt: &impl Abort,
     alloc: Global,
-    words: &[&str],
+    words: &str,
     files: &[(&str, &str)],
     failing: &[u32],
     sink_failing: &[u32],
@@ -85,7 +88,7 @@ fn replays(
     does(
         rt,
         alloc,
-        &["replay", "book", "record"],
+        " replay book record",
         &[("book", book), ("record", record_text)],
         &[],
         &[],
@@ -177,30 +180,19 @@ fn a_record_with_a_fault(rt: HostRuntime) -> Result<(), Fail> {
 #[test]
 fn a_limit_on_the_bytes_of_a_record(rt: HostRuntime) -> Result<(), Fail> {
     let files = [("book", BOOK), ("record", "W 0 0000041d\nT\nE\n")];
-    for (limit, want) in [
+    let whole = "@0\nL1 A HYD G RSVR LO LVL\nEND 1\n";
+    for (words, want) in [
+        (" replay book record --limit 17", (Status::Done, whole, "")),
         (
-            "17",
-            (Status::Done, "@0\nL1 A HYD G RSVR LO LVL\nEND 1\n", ""),
+            " replay book record --limit 4294967295",
+            (Status::Done, whole, ""),
         ),
         (
-            "4294967295",
-            (Status::Done, "@0\nL1 A HYD G RSVR LO LVL\nEND 1\n", ""),
-        ),
-        (
-            "16",
+            " replay book record --limit 16",
             (Status::RecordRefused, ONE_BLOCK, "record: Limit line 3\n"),
         ),
     ] {
-        does(
-            &rt,
-            rt.alloc(),
-            &["replay", "book", "record", "--limit", limit],
-            &files,
-            &[],
-            &[],
-            4096,
-            want,
-        )?;
+        does(&rt, rt.alloc(), words, &files, &[], &[], 4096, want)?;
     }
     Ok(())
 }
@@ -221,22 +213,22 @@ fn a_book_that_is_no_title_book(rt: HostRuntime) -> Result<(), Fail> {
 
 #[test]
 fn what_fails_or_is_missing(rt: HostRuntime) -> Result<(), Fail> {
-    let words = ["replay", "book", "record"];
+    let words = " replay book record";
     let files = [("book", BOOK), ("record", "W 0 0000041d\nT\nE\n")];
     let unread = (Status::ReadFault, "", "read fault\n");
     does(
         &rt,
         rt.alloc(),
-        &words,
+        words,
         &files,
         &[],
         &[3],
         1,
         (Status::WriteFault, "@0", "write fault\n"),
     )?;
-    does(&rt, rt.alloc(), &words, &files, &[1], &[], 4096, unread)?;
-    does(&rt, rt.alloc(), &words, &files[1..], &[], &[], 4096, unread)?;
-    does(&rt, rt.alloc(), &words, &files[..1], &[], &[], 4096, unread)
+    does(&rt, rt.alloc(), words, &files, &[1], &[], 4096, unread)?;
+    does(&rt, rt.alloc(), words, &files[1..], &[], &[], 4096, unread)?;
+    does(&rt, rt.alloc(), words, &files[..1], &[], &[], 4096, unread)
 }
 
 #[test]
@@ -244,16 +236,17 @@ fn words_without_a_form(rt: HostRuntime) -> Result<(), Fail> {
     let usage =
         "usage: check BOOK | replay BOOK RECORD [--limit N] | why BOOK RECORD | drill BOOK SEED MOMENTS\n";
     for words in [
-        [].as_slice(),
-        ["replay"].as_slice(),
-        ["replay", "book"].as_slice(),
-        ["play", "book", "record"].as_slice(),
-        ["replay", "book", "record", "--limit"].as_slice(),
-        ["replay", "book", "record", "--limit", ""].as_slice(),
-        ["replay", "book", "record", "--limit", "4294967296"].as_slice(),
-        ["replay", "book", "record", "--limit", "1x"].as_slice(),
-        ["replay", "book", "record", "--most", "17"].as_slice(),
-        ["replay", "book", "record", "--limit", "17", "more"].as_slice(),
+        "",
+        " replay",
+        " replay book",
+        " check book",
+        " play book record",
+        " replay book record --limit",
+        " replay book record --limit ",
+        " replay book record --limit 4294967296",
+        " replay book record --limit 1x",
+        " replay book record --most 17",
+        " replay book record --limit 17 more",
     ] {
         does(
             &rt,
