@@ -1,12 +1,9 @@
 -- The lines of a block, row by row.
-use Rattle.std.proofs.Common.{◌≡◌, ℕ, zero, suc, ◌+◌, ◌<◌, ◌≤◌, Bool, true, false, List, [], ◌∷◌, ◌++◌, map, length, get_or, drop, leb, refl, sym, ap, ◌∙◌, arith, add-one, drop-cons, append_assoc}
+use Rattle.std.proofs.Common.{◌≡◌, ℕ, ◌+◌, ◌<◌, ◌≤◌, Bool, true, false, List, [], ◌∷◌, ◌++◌, length, get_or, drop, leb, refl, ap, add-one, drop-cons, append_assoc}
 use Rattle.std.specs.Prelude.{decimal, if◌then◌else◌}
-use Rattle.std.specs.List.{list_all}
 use Rattle.std.proofs.lemmas.Bool.{leb-true}
 use Rattle.std.proofs.lemmas.List.Folds.{list_all_at}
 use Rattle.std.proofs.Math.ListN.{drop_of_length-le}
-use Rattle.ecam_spec.specs.declared.kinds.Colour.{Colour}
-use Rattle.ecam_spec.specs.declared.kinds.Colour.TheVariants.{Red, Amber, Green, White, Cyan, Magenta, Blank}
 use Rattle.ecam_spec.specs.Book.{Text}
 use Rattle.ecam_spec.specs.Picture.{Row, same_row, same_picture}
 use Rattle.ecam_spec.specs.Output.{row_names, row_line, changed_lines, block, line}

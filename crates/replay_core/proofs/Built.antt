@@ -1,6 +1,5 @@
 -- What of a record's events is read.
-use Rattle.std.proofs.Common.{◌≡◌, ℕ, ◌+◌, Bool, true, false, ◌&&◌, List, [], ◌∷◌, ◌++◌, length, Some, None, cond, refl, sym, ap, ◌∙◌, append-nil, append_assoc}
-use Rattle.std.specs.Prelude.{is_none}
+use Rattle.std.proofs.Common.{◌≡◌, ℕ, ◌+◌, Bool, true, false, ◌&&◌, List, [], ◌∷◌, ◌++◌, length, Some, cond, refl, sym, ap, ◌∙◌, append-nil, append_assoc}
 use Rattle.std.specs.List.{list_all}
 use Rattle.std.proofs.lemmas.List.Folds.{list_all-append}
 use Rattle.ecam_spec.specs.declared.kinds.Event.{Event}
@@ -8,12 +7,10 @@ use Rattle.ecam_spec.specs.declared.kinds.Event.TheVariants.{Word, Tick, Press, 
 use Rattle.ecam_spec.specs.declared.kinds.Key.{Key}
 use Rattle.ecam_spec.specs.declared.kinds.Key.TheVariants.{Clr, Rcl, Sts, All, Emer, ToCfg, Mw, Mc, Page}
 use Rattle.ecam_spec.specs.declared.kinds.FaultKind.TheVariants.{Form}
-use Rattle.ecam_spec.specs.Book.{Text, Book}
+use Rattle.ecam_spec.specs.Book.{Text}
 use Rattle.ecam_spec.specs.Record.{fault, events}
-use Rattle.ecam_spec.specs.Output.{end_line}
 use Rattle.ecam_spec.specs.Titles.{IsTitleEvent}
-use Rattle.ecam_spec.specs.Replay.{history_blocks, tick_count}
-use Rattle.ecam_spec.specs.Stage.{is_built, is_built_key, is_read, while_built, events_read, fault_read, reply_read}
+use Rattle.ecam_spec.specs.Stage.{is_built, is_built_key, while_built, events_read, fault_read}
 
 key-built : (k : Key) → is_built_key k ≡ true → k ≡ ToCfg
 key-built ToCfg e = refl

@@ -1,22 +1,18 @@
 -- How the commands end, from how their steps do.
-use Rattle.std.proofs.Common.{◌≡◌, ℕ, ◌+◌, ◌<◌, ◌≤◌, List, [], ◌++◌, Option, Some, None, Result, Ok, Err, IsSomeAnd, length, length-take, take, refl, sym, ap, ◌∙◌, subst, inl, inr, arith}
-use Rattle.std.specs.Prelude.{◌⊎◌}
-use Rattle.ecam_io.specs.Outside.{raised, Rose, FileHas, LacksFile, MayRefuse, Appended, AppendedPrefix, IsKept, file_named}
+use Rattle.std.proofs.Common.{◌≡◌, ℕ, ◌<◌, ◌≤◌, Option, Some, None, Err, IsSomeAnd, length, length-take, take, refl, sym, ap, ◌∙◌, subst, inl, inr, arith}
+use Rattle.ecam_io.specs.Outside.{raised, Rose, FileHas, AppendedPrefix, IsKept}
 use Rattle.std.proofs.lemmas.List.{take_all}
 use Rattle.std.proofs.lemmas.Bool.{lt-leb}
 use Rattle.std.proofs.lemmas.Bool.Decides.{leb_tells}
-use Rattle.ecam_io.proofs.Calls.{Rose-later, Rose-earlier, FileHas-weaker}
+use Rattle.ecam_io.proofs.Calls.{Rose-earlier, FileHas-weaker}
 use Rattle.ecam_spec.specs.Book.{Text, Book}
-use Rattle.ecam_spec.specs.Command.{command_of, replay}
-use Rattle.ecam_spec.specs.Stage.{fault_read, reply_read}
+use Rattle.ecam_spec.specs.Stage.{reply_read}
 use Rattle.book_spec.specs.TitleDocument.{title_book, table_from}
 use Rattle.book_model.specs.Sealed.{the_book}
-use Rattle.std.specs.Io.KnownBytes.{Consumes}
-use Rattle.replay_core.specs.Runs.{HasBroken, Runs}
+use Rattle.replay_core.specs.Runs.{Runs}
 use Rattle.replay_core.specs.declared.run.RunError.TheVariants as ends
 use Rattle.replay_core.proofs.Endings.{told}
-use Rattle.replay_core.specs.Answers.{Files, BookHas, IsReady, HasLoaded, Loads, RepliesWhole, RepliesTo, RepliesInPart, Plays, Replays, Ends, Decides, IsButForMemory}
-use Rattle.replay_core.specs.Outcomes.{status_of}
+use Rattle.replay_core.specs.Answers.{Files, BookHas, HasLoaded, Loads, RepliesInPart, Plays, Replays}
 use Rattle.replay_core.specs.declared.outcome.Outcome.{Outcome}
 use Rattle.replay_core.specs.declared.outcome.Outcome.TheVariants as outcomes
 use Rattle.replay_core.specs.declared.load.Loaded.{Loaded}
@@ -86,20 +82,7 @@ front-says files name v P says = FileHas-weaker files name (λ bytes. v ≡ take
 
 module _ (files : Files) (faults mid_faults faults' : ℕ) (left left' : Option Text) {S : Type 0} (agrees : S → Text → Type 0) (out_faults out_faults' : ℕ) (old new : S)
     (b : Book) (record' : Text) (limit : ℕ) (found : FileHas files record' (λ bytes. left ≡ Some bytes)) where
-  -- the record was opened, and its replay ended
-  pub ran-whole : (ticks : ℕ) → Runs b agrees old new limit left left' (Ok ticks) → Plays files faults faults' left' agrees out_faults out_faults' old new b record' limit outcomes.Done
-  ran-whole ticks runs =
-      FileHas-weaker files record' (λ bytes. left ≡ Some bytes) _
-      (λ text is. let run = runs text is in record { faultless = run.faultless; written = run.written; spent = run.spent }) found
-
-  pub ran-into : (f : _) → Runs b agrees old new limit left left' (Err (ends.Record f)) → Plays files faults faults' left' agrees out_faults out_faults' old new b record' limit (outcomes.RecordRefused f)
-  ran-into f runs =
-      FileHas-weaker files record' (λ bytes. left ≡ Some bytes) _
-      (λ text is. let run = runs text is in record { fault_is = run.fault_is; written = run.written }) found
-
-  pub ran-unwritten : Rose out_faults out_faults' → Runs b agrees old new limit left left' (Err ends.Write) → Plays files faults faults' left' agrees out_faults out_faults' old new b record' limit outcomes.WriteFault
-  ran-unwritten rose runs = (rose, FileHas-weaker files record' (λ bytes. left ≡ Some bytes) _ runs found)
-
+  -- the record was opened, and reading it failed
   pub ran-unread : faults ≤ mid_faults → Rose mid_faults faults' → Runs b agrees old new limit left left' (Err ends.Read)
       → Plays files faults faults' left' agrees out_faults out_faults' old new b record' limit outcomes.ReadFault
   ran-unread less rose runs = inr (Rose-earlier faults mid_faults faults' less rose, FileHas-weaker files record' (λ bytes. left ≡ Some bytes) _ part found) where

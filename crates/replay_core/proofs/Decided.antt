@@ -1,5 +1,5 @@
 -- Which ending must come, where a shelf tells its files and nothing failed.
-use Rattle.std.proofs.Common.{◌≡◌, ℕ, List, Option, Some, None, IsSomeAnd, refl, sym, ap, ◌∙◌, subst, inl, inr}
+use Rattle.std.proofs.Common.{◌≡◌, ℕ, List, Option, Some, None, IsSomeAnd, refl, ap, subst, inl, inr}
 use Rattle.ecam_io.specs.Outside.{Rose, FileHas, LacksFile, file_named}
 use Rattle.ecam_spec.specs.declared.kinds.RecordFault.{RecordFault}
 use Rattle.ecam_spec.specs.Book.{Text, Book}

@@ -1,11 +1,11 @@
 -- How a replay goes on from line to line, and how it ends.
-use Rattle.std.proofs.Common.{◌≡◌, ℕ, ◌+◌, ◌*◌, ◌^◌, ◌<◌, ◌≤◌, Result, Ok, Err, true, false, List, [], ◌∷◌, ◌++◌, length, Option, Some, None, refl, sym, ap, ◌∙◌, subst, arith, length-append, append_assoc, append-nil, cond}
-use Rattle.std.specs.Prelude.{All, is_none, OnOk, OnErr, IfOk, IfErr}
+use Rattle.std.proofs.Common.{◌≡◌, ℕ, ◌+◌, ◌^◌, ◌<◌, ◌≤◌, Result, Ok, Err, true, List, [], ◌∷◌, ◌++◌, Option, Some, None, refl, sym, ap, ◌∙◌, subst, arith, length-append, append_assoc, append-nil, cond}
+use Rattle.std.specs.Prelude.{is_none, OnOk, OnErr, IfOk, IfErr}
 use Rattle.std.proofs.lemmas.List.Sums.{count_by-le-length}
 use Rattle.std.specs.Io.KnownBytes.{Consumes, IsAtEnd}
 use Rattle.std.proofs.KnownBytes.{Consumes-nil, Consumes-trans}
 use Rattle.std.proofs.lemmas.List.Elements.{All-nil, All-push}
-use Rattle.ecam_io.specs.Outside.{Appended, AppendedPrefix, IsKept}
+use Rattle.ecam_io.specs.Outside.{Appended, AppendedPrefix}
 use Rattle.ecam_io.proofs.Calls.{Appended-none, Appended-append, Appended-kept, AppendedPrefix-after, AppendedPrefix-longer}
 use Rattle.ecam_spec.specs.declared.kinds.Event.{Event}
 use Rattle.ecam_spec.specs.declared.kinds.FaultKind.TheVariants.{Form}
@@ -15,10 +15,10 @@ use Rattle.ecam_spec.specs.Record.{fault, events}
 use Rattle.ecam_spec.specs.Output.{end_line, blocks}
 use Rattle.ecam_spec.specs.Titles.{IsTitleEvent}
 use Rattle.ecam_spec.specs.Replay.{history_blocks, is_tick, tick_count}
-use Rattle.ecam_spec.specs.Stage.{is_built, while_built, events_read, fault_read, reply_read}
+use Rattle.ecam_spec.specs.Stage.{while_built, events_read, fault_read, reply_read}
 use Rattle.ecam_spec.proofs.ReplaySteps.{history_blocks_begun}
 use Rattle.record_lines.specs.Reader.{ReaderState, room, settled}
-use Rattle.record_lines.specs.Reads.{Reads, TellsEvent, TellsEnd, TellsFault, TellsFailure, IsSpent, BeginEvents, is_shown_at_end}
+use Rattle.record_lines.specs.Reads.{Reads, TellsEvent, TellsEnd, TellsFault, TellsFailure, IsSpent, is_shown_at_end}
 use Rattle.replay_core.specs.declared.replay.Replay.{Replay}
 use Rattle.replay_core.specs.Standing.{Stands}
 use Rattle.replay_core.specs.Runs.{HasRun, HasMetFault, HasBroken, HasFed, HasBegun, HasRefused, Runs, Feeds, IsAt}

@@ -1,5 +1,5 @@
 -- What a step of a replay has done: each event that is read, by what it writes.
-use Rattle.std.proofs.Common.{◌≡◌, ℕ, Bool, true, false, Ok, Err, if◌then◌else◌, List, [], ◌∷◌, ◌++◌, refl, sym, ap, ◌∙◌, subst, append-nil, append_assoc}
+use Rattle.std.proofs.Common.{◌≡◌, ℕ, Bool, true, false, Ok, Err, if◌then◌else◌, List, [], ◌∷◌, ◌++◌, refl, sym, ap, ◌∙◌, append-nil}
 use Rattle.std.specs.Prelude.{decimal}
 use Rattle.ecam_io.specs.Outside.{Appended, AppendedPrefix}
 use Rattle.ecam_io.proofs.Calls.{Appended-none}

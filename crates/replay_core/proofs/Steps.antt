@@ -1,19 +1,19 @@
 -- The running state of a replay of titles, over one more event.
-use Rattle.std.proofs.Common.{◌≡◌, ℕ, zero, suc, ◌+◌, ◌<◌, ◌≤◌, Bool, true, false, List, [], ◌∷◌, ◌++◌, map, length, get_or, filter, cond, None, take, drop, length-take, length-append, length-drop, refl, sym, ap, ◌∙◌, subst, arith}
-use Rattle.std.specs.Prelude.{pos, All}
+use Rattle.std.proofs.Common.{◌≡◌, ℕ, zero, suc, ◌+◌, ◌<◌, ◌≤◌, Bool, false, List, [], ◌∷◌, ◌++◌, map, length, get_or, filter, cond, None, take, drop, length-take, length-append, length-drop, refl, sym, ap, ◌∙◌, subst, arith}
+use Rattle.std.specs.Prelude.{All}
 use Rattle.std.proofs.lemmas.List.Elements.{filter-append}
 use Rattle.ecam_spec.specs.declared.kinds.Event.{Event}
-use Rattle.ecam_spec.specs.declared.kinds.Event.TheVariants.{Word, Tick, Press, Release, Fail, Up, End}
+use Rattle.ecam_spec.specs.declared.kinds.Event.TheVariants.{Word, Tick}
 use Rattle.ecam_spec.specs.Places.{below}
-use Rattle.ecam_spec.specs.Book.{Text, Tree, Book}
+use Rattle.ecam_spec.specs.Book.{Text, Book}
 use Rattle.ecam_spec.specs.Value.{BusWord, value}
 use Rattle.ecam_spec.specs.Draft.{resolved, book_of}
 use Rattle.ecam_spec.specs.Situation.{alert_at, no_alert, no_parameter, words_in, value_in, parameter_at}
 use Rattle.ecam_spec.specs.Screen.{alert_numbers}
 use Rattle.ecam_spec.specs.History.{era, era_with, flags_after, changes_computers}
 use Rattle.ecam_spec.specs.Titles.{IsTitleBook, IsTitleEvent, titles_in, is_titled, title_picture}
-use Rattle.ecam_spec.specs.Replay.{moment_of, is_tick, tick_count, last_picture, picture_at}
-use Rattle.ecam_spec.proofs.HistoryLaws.{era_goes_on, flags_step}
+use Rattle.ecam_spec.specs.Replay.{moment_of, is_tick, picture_at}
+use Rattle.ecam_spec.proofs.HistoryLaws.{era_goes_on}
 use Rattle.ecam_spec.proofs.MomentSteps.{begins_none, moments_kept, length_tick}
 use Rattle.ecam_spec.proofs.SignalSteps.{words_word, words_before, words_tick, words_begun}
 use Rattle.ecam_spec.proofs.ReplaySteps.{tick_count_kept, tick_count_tick, last_picture_kept, last_picture_tick}
@@ -23,9 +23,8 @@ use Rattle.book_model.specs.declared.draft.Draft.{Draft}
 use Rattle.book_model.specs.View.{alert_of, parameter_of, draft_of, tree_in}
 use Rattle.book_model.specs.Sealed.{the_book}
 use Rattle.replay_core.specs.Standing.{AreShown, Fits, Stands, is_one, ones}
-use Rattle.param_table.specs.Standing.{ParamsFit, ParamsStand, WordComes}
+use Rattle.param_table.specs.Standing.{ParamsStand, WordComes}
 use Rattle.param_table.proofs.Agree.{ParamsStand-below}
-use Rattle.param_table.specs.declared.table.Params.{Params}
 use Rattle.replay_core.specs.declared.replay.Replay.{Replay}
 use Rattle.ecam_kinds.specs.Shown.{picture_of}
 use Rattle.std.proofs.lemmas.List.{get_or_past, length-map}

@@ -1,5 +1,5 @@
 -- What a command that ends so tells on standard error, and the number with which the program ends.
-use Rattle.std.specs.Prelude.{◌≡◌, ◌⊎◌, ℕ, List, [], ◌++◌, codes}
+use Rattle.std.specs.Prelude.{◌⊎◌, ℕ, List, [], codes}
 use Rattle.ecam_io.specs.Outside.{Rose, Appended, AppendedPrefix}
 use Rattle.ecam_spec.specs.Book.{Text}
 use Rattle.ecam_spec.specs.Command.{usage}

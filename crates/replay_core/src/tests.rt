@@ -153,6 +153,7 @@ fn a_record_with_a_fault(rt: HostRuntime) -> Result<(), Fail> {
             "",
             "record: Form line 1\n",
         ),
+        ("T\nP CLR\nT\nE\n", "", "record: Form line 2\n"),
         ("T\nW 16 0000041d\n", "", "record: Form line 2\n"),
         ("\n", "", "record: Form line 1\n"),
         (

@@ -1,4 +1,4 @@
-use Rattle.std.proofs.Common.{ℕ, List, [], Bor, get_or, length, sym, ap, ◌∙◌}
+use Rattle.std.proofs.Common.{[], Bor, get_or, sym, ap, ◌∙◌}
 use Rattle.std.proofs.Math.ListN.{get_or-map}
 use Rattle.ecam_spec.specs.Book.{Text}
 use Rattle.replay_core.proofs.block.name_in.Goals as goal

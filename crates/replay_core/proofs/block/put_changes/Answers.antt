@@ -1,5 +1,4 @@
-use Rattle.std.proofs.Common.{◌≡◌, ◌<◌, ◌≤◌, ◌++◌, length, sym, ap, ◌∙◌, arith, append-nil}
-use Rattle.ecam_spec.specs.Output as output
+use Rattle.std.proofs.Common.{◌++◌, sym, ap, ◌∙◌, arith, append-nil}
 use Rattle.replay_core.proofs.Blocks.{lines_step, lines_all, names_length}
 use Rattle.replay_core.proofs.block.put_changes.Goals as goal
 

@@ -1,4 +1,4 @@
-use Rattle.std.proofs.Common.{refl, append_assoc, ◌∙◌, ap}
+use Rattle.std.proofs.Common.{append_assoc}
 use Rattle.ecam_spec.specs.Output as output
 use Rattle.replay_core.proofs.block.put_row.Goals as goal
 

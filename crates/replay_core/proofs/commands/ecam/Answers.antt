@@ -1,4 +1,4 @@
-use Rattle.std.proofs.Common.{◌≡◌, map, string_bytes, sym, subst}
+use Rattle.std.proofs.Common.{map, string_bytes, sym, subst}
 use Rattle.std.specs.declared.alloc.Global.{Global}
 use Rattle.ecam_spec.specs.Command.{command_of}
 use Rattle.replay_core.specs.Answers.{Ends, Decides}

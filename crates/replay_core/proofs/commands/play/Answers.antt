@@ -1,4 +1,4 @@
-use Rattle.std.proofs.Common.{◌≡◌, Err, ap, ◌∙◌, subst}
+use Rattle.std.proofs.Common.{Err, ap, ◌∙◌, subst}
 use Rattle.replay_core.proofs.Causes.{ran-unread}
 use Rattle.replay_core.specs.Runs.{Runs}
 use Rattle.book_model.specs.Sealed.{the_book}

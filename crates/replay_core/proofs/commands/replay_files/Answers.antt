@@ -1,4 +1,4 @@
-use Rattle.std.proofs.Common.{◌≡◌, subst}
+use Rattle.std.proofs.Common.{subst}
 use Rattle.book_model.specs.Sealed.{the_book}
 use Rattle.replay_core.specs.Answers.{Plays}
 use Rattle.replay_core.proofs.Causes.{played, unloaded}

@@ -1,4 +1,4 @@
-use Rattle.std.proofs.Common.{arith, take, refl, ap}
+use Rattle.std.proofs.Common.{arith, take, ap}
 use Rattle.replay_core.proofs.Files.{taken-enough, taken-end}
 use Rattle.replay_core.proofs.file.read_up_to.Goals as goal
 

@@ -1,8 +1,7 @@
-use Rattle.std.proofs.Common.{◌≡◌, None, Some, Err, Ok, IsSomeAnd, refl, sym, ap, ◌∙◌, subst}
-use Rattle.ecam_io.specs.Outside.{FileHas}
+use Rattle.std.proofs.Common.{◌≡◌, None, Err, IsSomeAnd, refl, sym, ◌∙◌, subst}
 use Rattle.book_spec.specs.TitleDocument.{title_book}
 use Rattle.book_model.specs.Sealed.{the_book}
-use Rattle.title_reader.specs.Reading.{Reads, no_title_book}
+use Rattle.title_reader.specs.Reading.{Reads}
 use Rattle.replay_core.proofs.Causes.{front-says}
 use Rattle.replay_core.proofs.load.load.Goals as goal
 

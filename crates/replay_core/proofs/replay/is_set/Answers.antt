@@ -1,4 +1,4 @@
-use Rattle.std.proofs.Common.{sym, ap, arith, length, ◌∙◌}
+use Rattle.std.proofs.Common.{sym, ap, arith, length}
 use Rattle.std.specs.Prelude.{pos}
 use Rattle.std.specs.Ordering.{int_eq}
 use Rattle.ecam_spec.specs.Term.{is_so}

@@ -1,4 +1,4 @@
-use Rattle.std.proofs.Common.{◌≡◌, arith, length, ap, sym, ◌∙◌}
+use Rattle.std.proofs.Common.{arith, ap, ◌∙◌}
 use Rattle.ecam_spec.specs.Titles.{title_picture}
 use Rattle.book_model.specs.Sealed.{the_book}
 use Rattle.replay_core.proofs.Steps.{many_alerts, noted}

@@ -1,4 +1,4 @@
-use Rattle.std.proofs.Common.{◌≡◌, ◌∷◌, ◌++◌, [], refl, sym, ap, ◌∙◌, subst}
+use Rattle.std.proofs.Common.{refl, sym, ◌∙◌, subst}
 use Rattle.ecam_spec.specs.declared.kinds.Event.TheVariants.{Word, Press, Release}
 use Rattle.book_model.specs.Sealed.{the_book}
 use Rattle.replay_core.specs.Runs.{Feeds, HasFed, HasBegun}

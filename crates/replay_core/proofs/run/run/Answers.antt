@@ -1,8 +1,7 @@
 use Rattle.std.proofs.lemmas.Result.{err_from_is_err_and}
 use Rattle.std.proofs.Common.{◌≡◌, ◌+◌, ◌≤◌, ◌++◌, ◌∷◌, [], List, ℕ, true, false, Ok, Err, MatchBool, None, Some, cond, refl, sym, ap, ◌∙◌, subst, arith}
-use Rattle.ecam_io.proofs.Calls.{Rose-later, Rose-earlier}
 use Rattle.ecam_spec.specs.RecordLine.{is_end_event}
-use Rattle.record_lines.specs.Reader.{ReaderState, room, settled}
+use Rattle.record_lines.specs.Reader.{room}
 use Rattle.record_lines.specs.Reads.{TellsAfter, TellsEvent, TellsEnd, MeetsEnd}
 use Rattle.book_model.specs.Sealed.{the_book}
 use Rattle.replay_core.specs.Runs.{Runs, HasMetFault}

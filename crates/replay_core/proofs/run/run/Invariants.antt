@@ -1,4 +1,4 @@
-use Rattle.std.proofs.Common.{◌≡◌, ◌≤◌, [], ℕ}
+use Rattle.std.proofs.Common.{◌≡◌, ◌≤◌}
 use Rattle.record_lines.specs.Reader.{room}
 use Rattle.book_model.specs.Sealed.{the_book}
 use Rattle.replay_core.specs.Standing.{Fits}

@@ -1,5 +1,5 @@
-use Rattle.std.proofs.Common.{◌++◌, ◌-◌, sym, ap, ◌∙◌, arith}
-use Rattle.std.specs.Prelude.{codes, decimal}
+use Rattle.std.proofs.Common.{◌++◌, sym, ap, ◌∙◌}
+use Rattle.std.specs.Prelude.{codes}
 use Rattle.ecam_spec.specs.declared.kinds.Colour.TheVariants.{White}
 use Rattle.ecam_spec.specs.Picture.{row}
 use Rattle.replay_core.proofs.TitleRows.{flags-few, flags-many}

@@ -1,4 +1,4 @@
-use Rattle.std.proofs.Common.{◌≡◌, ◌<◌, ◌≤◌, ◌^◌, true, take, length}
+use Rattle.std.proofs.Common.{◌≡◌, ◌<◌, ◌^◌, true, take}
 use Rattle.std.specs.Char.{is_ascii_digit}
 use Rattle.std.specs.List.{list_all}
 use Rattle.ecam_spec.specs.Command.{spelled}

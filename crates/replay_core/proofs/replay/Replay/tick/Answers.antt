@@ -1,8 +1,8 @@
-use Rattle.std.proofs.Common.{arith, ap, sym, ◌∙◌, length}
+use Rattle.std.proofs.Common.{arith, ap, ◌∙◌, length}
 use Rattle.ecam_spec.specs.Output as output
 use Rattle.ecam_spec.specs.History.{era}
 use Rattle.ecam_spec.specs.Situation.{words_in}
-use Rattle.ecam_spec.specs.Replay.{moment_of, tick_count, last_picture, picture_at}
+use Rattle.ecam_spec.specs.Replay.{moment_of, tick_count, last_picture}
 use Rattle.ecam_kinds.specs.Shown.{picture_of}
 use Rattle.book_model.specs.Sealed.{the_book}
 use Rattle.replay_core.proofs.Steps.{tick-stands, shown-picture, refilled}
