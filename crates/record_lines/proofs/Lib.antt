@@ -13,3 +13,4 @@ pub mod Refusals
 pub mod Progress
 pub mod Calls
 pub mod Callers
+pub mod FirstByte

@@ -4,6 +4,7 @@ ghost use Rattle.ecam_spec.specs.RecordLine.{bits_of, event_of, key_of, word_eve
 ghost use Rattle.record_lines.specs.Line.{digit_value, named_key_of, number_of, number_within};
 
 use ecam_kinds::{Event, Key};
+use memchr::memchr;
 
 // The event that a line says, without its line feed.
 pub(crate) fn event_of(line: &[u8]) -> Option<Event>
@@ -55,7 +56,7 @@ fn word_event(words: &[u8]) -> Option<Event>
 pub(crate) fn place_of(byte: u8, bytes: &[u8]) -> Option<usize>
     ensures { result ≡ position (λ b. b == byte) bytes.now }
 {
-    bytes.iter().position(|b| *b == byte)
+    memchr(byte, bytes)
 }
 
 // The bits of eight hexadecimal digits, highest first.
