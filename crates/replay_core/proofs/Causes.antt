@@ -37,13 +37,13 @@ module _ (files : Files) (opens mid_opens opens' faults mid_faults faults' : ℕ
     cause = plays.0;
     replies = BookHas-weaker files book (λ b. b ≡ the_book l.book) _ (λ b is. subst (λ x. FileHas files record' (λ text. AppendedPrefix agrees old new (reply_read x text limit))) (sym is) plays.1) has.book;
   }
-  played book record' limit l outcomes.ReadFault has less (inl (inl rose, kept)) =
-      inl (record { cause = inl (Rose-earlier faults mid_faults faults' less rose); kept = kept })
-  played book record' limit l outcomes.ReadFault has less (inl (inr lacks, kept)) =
-      inl (record { cause = inr (inr (lacks, BookHas-weaker files book (λ b. b ≡ the_book l.book) (λ b. Unit {0}) (λ b is. tt) has.book)); kept = kept })
+  played book record' limit l outcomes.ReadFault has less (inl (inl rose, closed, kept)) =
+      inl (record { cause = inl (Rose-earlier faults mid_faults faults' less rose); unopened = inr closed; kept = kept })
+  played book record' limit l outcomes.ReadFault has less (inl (inr lacks, closed, kept)) =
+      inl (record { cause = inr (inr (lacks, BookHas-weaker files book (λ b. b ≡ the_book l.book) (λ b. Unit {0}) (λ b is. tt) has.book)); unopened = inr closed; kept = kept })
   played book record' limit l outcomes.ReadFault has less (inr (rose, replies)) = inr (record {
     cause = Rose-earlier faults mid_faults faults' less rose;
-    replies = BookHas-weaker files book (λ b. b ≡ the_book l.book) _ (λ b is. subst (λ x. FileHas files record' (RepliesInPart agrees old new limit x)) (sym is) replies) has.book;
+    replies = BookHas-weaker files book (λ b. b ≡ the_book l.book) _ (λ b is. subst (λ x. FileHas files record' (RepliesInPart agrees old new limit x left)) (sym is) replies) has.book;
   })
   played book record' limit l outcomes.Usage has less plays = absurd plays
   played book record' limit l (outcomes.BookRefused f) has less plays = absurd plays
@@ -53,8 +53,8 @@ module _ (files : Files) (opens mid_opens opens' faults mid_faults faults' : ℕ
   pub unloaded : (book record' : Text) (limit : ℕ) (outcome : Outcome) → Loads files book faults faults' (Err outcome) → opens' ≡ raised opens → IsKept agrees old new
       → Replays files opens opens' faults faults' left agrees out_faults out_faults' old new book record' limit outcome
   unloaded book record' limit (outcomes.BookRefused f) (is, none) once kept = (is, none, kept)
-  unloaded book record' limit outcomes.ReadFault (inl rose) once kept = inl (record { cause = inl rose; kept = kept })
-  unloaded book record' limit outcomes.ReadFault (inr lacks) once kept = inl (record { cause = inr (inl lacks); kept = kept })
+  unloaded book record' limit outcomes.ReadFault (inl rose) once kept = inl (record { cause = inl rose; unopened = inl (omega (arith, once)); kept = kept })
+  unloaded book record' limit outcomes.ReadFault (inr lacks) once kept = inl (record { cause = inr (inl lacks); unopened = inl (omega (arith, once)); kept = kept })
   unloaded book record' limit outcomes.NoMemory loads once kept = (omega (arith, once), kept)
   unloaded book record' limit outcomes.Done loads once kept = absurd loads
   unloaded book record' limit outcomes.Usage loads once kept = absurd loads
@@ -86,5 +86,5 @@ module _ (files : Files) (faults mid_faults faults' : ℕ) (left left' : Option 
   pub ran-unread : faults ≤ mid_faults → Rose mid_faults faults' → Runs b agrees old new limit left left' (Err ends.Read)
       → Plays files faults faults' left' agrees out_faults out_faults' old new b record' limit outcomes.ReadFault
   ran-unread less rose runs = inr (Rose-earlier faults mid_faults faults' less rose, FileHas-weaker files record' (λ bytes. left ≡ Some bytes) _ part found) where
-    part : (text : Text) → left ≡ Some text → RepliesInPart agrees old new limit b text
-    part text is = let split = told text left left' runs.taken is runs.moved in record { taken = runs.taken; behind = split.0; part = split.2; written = runs.written }
+    part : (text : Text) → left ≡ Some text → RepliesInPart agrees old new limit b left' text
+    part text is = let split = told text left left' runs.taken is runs.moved in record { taken = runs.taken; behind = split.0; part = split.2; rest = split.1; written = runs.written }

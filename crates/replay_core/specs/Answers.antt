@@ -1,6 +1,6 @@
 -- How the commands end: each ending with its cause, and what is written.
 use Rattle.std.specs.Prelude.{◌≡◌, ◌⊎◌, ℕ, ◌≤◌, ◌+◌, List, [], ◌++◌, Option, Some, None, Result, Ok, Err, IsSomeAnd}
-use Rattle.ecam_io.specs.Outside.{Rose, FileHas, LacksFile, MayRefuse, Appended, AppendedPrefix, IsKept, file_named}
+use Rattle.ecam_io.specs.Outside.{Rose, FileHas, LacksFile, MayRefuse, IsClosed, Appended, AppendedPrefix, IsKept, file_named}
 use Rattle.ecam_spec.specs.declared.kinds.RecordFault.{RecordFault}
 use Rattle.ecam_spec.specs.Book.{Text, Book}
 use Rattle.ecam_spec.specs.Titles.{IsTitleBook}
@@ -62,11 +62,12 @@ pub record RepliesTo {S : Type 0} (agrees : S → Text → Type 0) (old new : S)
   pub fault_is : fault_read text limit ≡ Some f
   pub written : Appended agrees old new (reply_read b text limit)
 
--- these first bytes of the record came, and their blocks are written
-pub record RepliesInPart {S : Type 0} (agrees : S → Text → Type 0) (old new : S) (limit : ℕ) (b : Book) (text : Text) : Type 0 where
+-- the bytes of the record that came, which are those before what is left, have their blocks written
+pub record RepliesInPart {S : Type 0} (agrees : S → Text → Type 0) (old new : S) (limit : ℕ) (b : Book) (left : Option Text) (text : Text) : Type 0 where
   pub taken : Text
   pub behind : Text
   pub part : text ≡ taken ++ behind
+  pub rest : left ≡ Some behind
   pub written : Appended agrees old new (history_blocks b (events_read taken limit))
 
 module _ (files : Files) (faults faults' : ℕ) (left : Option Text) {S : Type 0} (agrees : S → Text → Type 0) (out_faults out_faults' : ℕ) (old new : S) where
@@ -75,22 +76,23 @@ module _ (files : Files) (faults faults' : ℕ) (left : Option Text) {S : Type 0
   Plays b record' limit outcomes.Done = FileHas files record' (λ text. RepliesWhole agrees old new limit b text left)
   Plays b record' limit (outcomes.RecordRefused f) = FileHas files record' (λ text. RepliesTo agrees old new limit b text f)
   Plays b record' limit outcomes.ReadFault =
-      (MayRefuse files record' faults faults' × IsKept agrees old new) ⊎ (Rose faults faults' × FileHas files record' (RepliesInPart agrees old new limit b))
+      (MayRefuse files record' faults faults' × IsClosed files left × IsKept agrees old new) ⊎ (Rose faults faults' × FileHas files record' (RepliesInPart agrees old new limit b left))
   Plays b record' limit outcomes.WriteFault =
       Rose out_faults out_faults' × FileHas files record' (λ text. AppendedPrefix agrees old new (reply_read b text limit))
   Plays b record' limit outcomes.Usage = ⊥
   Plays b record' limit (outcomes.BookRefused f) = ⊥
   Plays b record' limit outcomes.NoMemory = ⊥
 
-  -- the record wasn't opened: the shelf counted a fault, or tells that it lacks the book's file, or the record's by a book that is there
-  pub record NotOpened (book record' : Text) : Type 0 where
+  -- no record was opened: the shelf counted a fault, or tells that it lacks the book's file, or the record's by a book that is there
+  pub record NotOpened (opens opens' : ℕ) (book record' : Text) : Type 0 where
     pub cause : Rose faults faults' ⊎ (LacksFile files book ⊎ (LacksFile files record' × BookHas files book (λ b. Unit {0})))
+    pub unopened : (opens' ≤ opens + 1) ⊎ IsClosed files left
     pub kept : IsKept agrees old new
 
   -- reading the record failed
   pub record NotRead (book record' : Text) (limit : ℕ) : Type 0 where
     pub cause : Rose faults faults'
-    pub replies : BookHas files book (λ b. FileHas files record' (RepliesInPart agrees old new limit b))
+    pub replies : BookHas files book (λ b. FileHas files record' (RepliesInPart agrees old new limit b left))
 
   -- writing failed, and a prefix of the reply is written
   pub record NotWritten (book record' : Text) (limit : ℕ) : Type 0 where
@@ -105,7 +107,7 @@ module _ (files : Files) (opens opens' faults faults' : ℕ) (left : Option Text
   Replays book record' limit (outcomes.BookRefused f) = (f ≡ no_title_book) × FileHas files book (λ bytes. title_book bytes ≡ None) × IsKept agrees old new
   Replays book record' limit (outcomes.RecordRefused f) = BookHas files book (λ b. FileHas files record' (λ text. RepliesTo agrees old new limit b text f))
   Replays book record' limit outcomes.ReadFault =
-      NotOpened files faults faults' left agrees out_faults out_faults' old new book record' ⊎ NotRead files faults faults' left agrees out_faults out_faults' old new book record' limit
+      NotOpened files faults faults' left agrees out_faults out_faults' old new opens opens' book record' ⊎ NotRead files faults faults' left agrees out_faults out_faults' old new book record' limit
   Replays book record' limit outcomes.WriteFault = NotWritten files faults faults' left agrees out_faults out_faults' old new book record' limit
   Replays book record' limit outcomes.NoMemory = (opens' ≤ opens + 1) × IsKept agrees old new
 
