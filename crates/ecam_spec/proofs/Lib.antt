@@ -34,5 +34,7 @@ pub mod ReplaySteps
 pub mod MomentSteps
 pub mod ValueAgree
 pub mod TitleReplay
+pub mod TitleTests
+pub mod StageLaws
 pub mod ValueSteps
 pub mod SignalSteps

@@ -5,8 +5,9 @@ use Rattle.std.specs.List.{list_all}
 use Rattle.ecam_spec.specs.Book.{Text}
 use Rattle.ecam_spec.specs.Picture.{same_text}
 
--- replay a record by a book, both by their names, under a limit on the record's bytes
+-- check a book, or replay a record by a book, both by their names, under a limit on the record's bytes
 pub data Command : Type 0 where
+  check : Text → Command
   replay : Text → Text → ℕ → Command
 
 -- without a limit of its own a record has this one
@@ -23,6 +24,9 @@ limit_of word =
     if nat_le 1 (length word) && nat_le (length word) 10 && list_all is_ascii_digit word && nat_le (spelled word) no_limit
     then Some (spelled word) else None
 
+abbrev pub check_form : Text → Text → Option Command
+check_form form book = if same_text form (codes "check") then Some (check book) else None
+
 abbrev pub replay_form : Text → Text → Text → Option ℕ → Option Command
 replay_form form book record' limit = if same_text form (codes "replay") then option_map (replay book record') limit else None
 
@@ -31,6 +35,7 @@ limit_form option limit = if same_text option (codes "--limit") then limit_of li
 
 -- what words ask for, if they have one of the forms
 unfoldable pub command_of : List Text → Option Command
+command_of (form ∷ book ∷ []) = check_form form book
 command_of (form ∷ book ∷ record' ∷ []) = replay_form form book record' (Some no_limit)
 command_of (form ∷ book ∷ record' ∷ option ∷ limit ∷ []) = replay_form form book record' (limit_form option limit)
 command_of _ = None

@@ -43,6 +43,7 @@ pub mod Opened
 pub mod BookText
 pub mod Draft
 pub mod BookTerms
+pub mod Summary
 pub mod Sound
 pub mod Faults
 pub mod DraftFaults

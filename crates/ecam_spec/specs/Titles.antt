@@ -1,12 +1,14 @@
 -- The books that use nothing but titles, and what they show: an amber title for each alert whose discrete is one.
 -- They are this project's own.
-use Rattle.std.specs.Prelude.{◌≡◌, ℕ, ◌-◌, true, false, nat_lt, pos, List, [], ◌∷◌, ◌++◌, map, length, filter, ⊤, All, replicate, Option, Some, None, option_and_then}
+use Rattle.std.specs.Prelude.{◌≡◌, ℕ, ◌-◌, Bool, true, false, not, ◌&&◌, ◌==◌, nat_lt, pos, List, [], ◌∷◌, ◌++◌, map, length, filter, ⊤, All, replicate, Option, Some, None, is_some, is_none, option_and_then, if◌then◌else◌}
+use Rattle.std.specs.List.{list_all}
 use Rattle.std.specs.Ordering.{int_eq}
 use Rattle.ecam_spec.specs.declared.kinds.Colour.TheVariants.{Amber}
 use Rattle.ecam_spec.specs.declared.kinds.Event.{Event}
 use Rattle.ecam_spec.specs.declared.kinds.Event.TheVariants.{Word, Tick, Press, Release}
 use Rattle.ecam_spec.specs.declared.kinds.Key.TheVariants.{ToCfg}
 use Rattle.ecam_spec.specs.declared.kinds.Level.TheVariants.{One}
+use Rattle.ecam_spec.specs.Levels.{is_one}
 use Rattle.ecam_spec.specs.Past.{Signal}
 use Rattle.ecam_spec.specs.Book.{Tree, constant, discrete, PhaseTerms, Alert, Book}
 use Rattle.ecam_spec.specs.Term.{is_so}
@@ -43,6 +45,31 @@ pub record IsTitleBook (b : Book) : Type 0 where
 abbrev pub discrete_of : Tree → Option ℕ
 discrete_of (discrete p) = Some p
 discrete_of _ = None
+
+-- ---- which books these are
+
+-- the condition is this truth in each moment, by its form
+abbrev pub is_constant : Bool → Tree → Bool
+is_constant truth (constant b) = if truth then b else not b
+is_constant truth _ = false
+
+-- the book names no condition for the phase
+abbrev pub is_parked : PhaseTerms → Bool
+is_parked p =
+    is_constant true p.gnd && is_constant false p.run && is_constant false p.tp
+    && is_constant false p.fast && is_constant false p.high && is_constant false p.low
+
+-- the alert is its title alone
+abbrev pub is_title : Alert → Bool
+is_title a =
+    is_one a.level && is_some (discrete_of a.when) && is_none a.page && a.confirm == 0 && a.inhibit == 0
+    && length a.secondary == 0 && length a.lines == 0 && length a.status == 0
+
+-- the book uses nothing but titles
+unfoldable pub is_title_book : Book → Bool
+is_title_book b = length b.pages == 0 && is_parked b.phase && list_all is_title b.alerts && length b.memos == 0
+
+-- ---- what they show
 
 module _ (b : Book) (moments : ℕ → Moment) where
   -- the discrete of the alert is one
