@@ -1,0 +1,10 @@
+pub mod Answer
+pub mod Known
+pub mod Words
+pub mod Pending
+pub mod Steps
+pub mod Numbers
+pub mod Flaws
+pub mod Written
+pub mod Readable
+pub mod Parts

@@ -1,0 +1,59 @@
+// The conditions that have no condition in them.
+ghost use Rattle.std.specs.Prelude.{◌<◌, ◌^◌, [], length};
+ghost use Rattle.ecam_spec.specs.Book.{Text};
+ghost use Rattle.ecam_spec.specs.Grammar.{name_of, valid_of, alert_of, fwc_of, phase_of};
+ghost use Rattle.ecam_spec.specs.TermText.{TermNames};
+ghost use Rattle.term_text.specs.Parts.{JudgesForm};
+
+use crate::names::Dictionary;
+use crate::part::Part;
+use crate::resolve::{alert_at, amount_at, param_at};
+use ecam_kinds::{Phase, PhaseSet};
+use ecam_spec::Span;
+use term_tree::Cond;
+
+/// That a discrete is 1.
+pub(crate) fn discrete<D: Dictionary>(text: &[u8], names: &D, name: Span) -> Part
+    requires { length (D.known names.now).parameters < 2 ^ 32 }
+    ensures { JudgesForm (D.known names.now) text.now result (name_of name) }
+{
+    let param = param_at(text, names, name);
+    Part::atom(param.flaw, Cond::Disc(param.value))
+}
+
+/// That a parameter has a value.
+pub(crate) fn valid<D: Dictionary>(text: &[u8], names: &D, name: Span) -> Part
+    requires { length (D.known names.now).parameters < 2 ^ 32 }
+    ensures { JudgesForm (D.known names.now) text.now result (valid_of name) }
+{
+    let param = param_at(text, names, name);
+    Part::atom(param.flaw, Cond::Valid(param.value))
+}
+
+/// That an alert is active.
+pub(crate) fn alerted<D: Dictionary>(text: &[u8], names: &D, name: Span) -> Part
+    requires { length (D.known names.now).alerts < 2 ^ 32 }
+    ensures { JudgesForm (D.known names.now) text.now result (alert_of name) }
+{
+    let alert = alert_at(text, names, name);
+    Part::atom(alert.flaw, Cond::Alert(alert.value))
+}
+
+/// That a computer is up.
+pub(crate) fn computer(text: &[u8], number: Span) -> Part
+    ensures { (names : TermNames) → JudgesForm names text.now result (fwc_of number) }
+{
+    let computer = amount_at(text, number, 1, 2);
+    Part::atom(computer.flaw, Cond::Fwc(computer.value as u8))
+}
+
+/// That the flight phase is this one.
+pub(crate) fn in_phase(text: &[u8], number: Span) -> Part
+    ensures { (names : TermNames) → JudgesForm names text.now result (phase_of number []) }
+{
+    let phase = amount_at(text, number, 1, 10);
+    let only = PhaseSet::only(Phase {
+        number: phase.value as u8,
+    });
+    Part::atom(phase.flaw, Cond::InPhase(only))
+}

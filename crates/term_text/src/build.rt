@@ -1,0 +1,89 @@
+// The tree of a condition, from the steps that its text makes.
+ghost use Rattle.std.specs.Prelude.{◌≡◌, ◌<◌, ◌^◌, [], ◌∷◌, List, Some, IfOk, OnOk, length};
+ghost use Rattle.ecam_spec.specs.Grammar.{Form};
+ghost use Rattle.ecam_spec.specs.TermText.{judged};
+ghost use Rattle.ecam_spec.specs.TermReading.{after_step, after_all};
+ghost use Rattle.term_text.specs.Answer.{Tells};
+ghost use Rattle.term_text.specs.Parts.{StandFor, parts};
+
+use crate::atoms::{alerted, computer, discrete, in_phase, valid};
+use crate::error::TermError;
+use crate::names::Dictionary;
+use crate::part::Part;
+use crate::parts::Parts;
+use ecam_spec::Step;
+use std::alloc::{AllocError, Global};
+use term_tree::Cond;
+
+/// The tree of the steps that a text makes, or why it is refused.
+pub(crate) fn condition_of<D: Dictionary>(
+    alloc: Global,
+    text: &[u8],
+    names: &D,
+    steps: &[Step],
+) -> Result<Cond, TermError>
+    requires few_parameters { length (D.known names.now).parameters < 2 ^ 32 }
+    requires few_alerts { length (D.known names.now).alerts < 2 ^ 32 }
+    ensures { (f : Form) → after_all steps.now [] ≡ Some (f ∷ []) → Tells (judged (D.known names.now) text.now f) result }
+{
+    let mut read = Parts::new(alloc);
+    for step in steps {
+        apply(alloc, text, names, *step, &mut read)?;
+    }
+    read.pop().judged()
+}
+
+// Makes one step.
+fn apply<D: Dictionary>(
+    alloc: Global,
+    text: &[u8],
+    names: &D,
+    step: Step,
+    read: &mut Parts,
+) -> Result<(), AllocError>
+    requires few_parameters { length (D.known names.now).parameters < 2 ^ 32 }
+    requires few_alerts { length (D.known names.now).alerts < 2 ^ 32 }
+    ensures { (forms after : List Form) → StandFor (D.known names.now) text.now (parts read.old) forms → after_step step forms ≡ Some after
+        → OnOk result (StandFor (D.known names.now) text.now (parts read.new) after) }
+{
+    let part = part_of(alloc, text, names, step, read)?;
+    read.push(part)
+}
+
+// The condition that a step makes, of those that were read.
+fn part_of<D: Dictionary>(
+    alloc: Global,
+    text: &[u8],
+    names: &D,
+    step: Step,
+    read: &mut Parts,
+) -> Result<Part, AllocError>
+    requires few_parameters { length (D.known names.now).parameters < 2 ^ 32 }
+    requires few_alerts { length (D.known names.now).alerts < 2 ^ 32 }
+    ensures { (forms after : List Form) → StandFor (D.known names.now) text.now (parts read.old) forms → after_step step forms ≡ Some after
+        → IfOk result (λ p. StandFor (D.known names.now) text.now (p ∷ parts read.new) after) }
+{
+    match step {
+        Step::Constant(value) => Ok(Part::atom(None, Cond::Const(value))),
+        Step::Named(name) => Ok(discrete(text, names, name)),
+        Step::Valid(name) => Ok(valid(text, names, name)),
+        Step::Alerted(name) => Ok(alerted(text, names, name)),
+        Step::Pressed(key) => Ok(Part::atom(None, Cond::Press(key))),
+        Step::Computer(number) => Ok(computer(text, number)),
+        Step::Phase(number) => Ok(in_phase(text, number)),
+        Step::Compared(op, number) => Ok(read.pop().compared(text, op, number)),
+        Step::AlsoPhase(number) => Ok(read.pop().also_in_phase(text, number)),
+        Step::Negation => read.pop().negated(alloc),
+        Step::Risen => read.pop().risen(alloc),
+        Step::Confirmed(number) => read.pop().confirmed(alloc, text, number),
+        Step::Held(number) => read.pop().held(alloc, text, number),
+        Step::Latched => {
+            let reset = read.pop();
+            read.pop().latched(alloc, reset)
+        }
+        Step::Over(list, count) => {
+            let members = read.take(alloc, count)?;
+            Ok(members.listed(text, list))
+        }
+    }
+}
