@@ -1,14 +1,13 @@
 -- What is known of a field that was read: it passes its test.
-use Rattle.std.proofs.Common.{◌≡◌, ℕ, ◌+◌, ◌<◌, ◌≤◌, ℤ, pos, negsuc, Bool, true, false, ◌&&◌, cond, leb, List, [], ◌∷◌, length, Option, Some, None, refl, sym, ap, subst, ◌∙◌, inl, inr, arith}
-use Rattle.std.specs.List.{position_from, All}
+use Rattle.std.proofs.Common.{◌≡◌, ℕ, ◌+◌, ◌<◌, ◌≤◌, ℤ, pos, negsuc, Bool, true, false, ◌&&◌, cond, leb, List, [], ◌∷◌, length, Option, Some, None, refl, sym, ap, ◌∙◌, inl, inr, arith}
+use Rattle.std.specs.List.{position_from}
 use Rattle.std.proofs.lemmas.Bool.{cases_Bool, leb-true, and_parts}
 use Rattle.std.proofs.lemmas.Option.{option_and_then_some}
-use Rattle.std.proofs.lemmas.List.Elements.{All-cons, All-nil}
-use Rattle.toml.specs.Data.{Data, Items, no_items, item, Members, get_member, as_str, as_integer, as_array}
+use Rattle.toml.specs.Data.{Data, Members, get_member, as_str, as_integer}
 use Rattle.ecam_spec.specs.Book.{Text}
 use Rattle.ecam_spec.specs.BookText.{is_between, is_name, is_text, same_text}
 use Rattle.ecam_spec.specs.Draft.{place_of}
-use Rattle.book_spec.specs.Fields.{◌>>=◌, passing, string_at, name_at, text_in, text_at, number_from, number_at, count, list_at, each, label_from, label_at, is_octal}
+use Rattle.book_spec.specs.Fields.{◌>>=◌, passing, string_at, name_at, text_in, text_at, number_from, number_at, label_from, label_at, is_octal}
 
 pub passed : {A : Type 0} (test : A → Bool) (x y : A) → passing test x ≡ Some y → test y ≡ true
 passed test x y h =
@@ -19,14 +18,6 @@ passed test x y h =
 
 pub kept : {A : Type 0} (test : A → Bool) (o : Option A) (y : A) → (o >>= passing test) ≡ Some y → test y ≡ true
 kept test o y h = option_and_then_some (passing test) o y h (λ x e k. passed test x y k)
-
--- what passes is what was there
-pub same_passed : {A : Type 0} (test : A → Bool) (x y : A) → passing test x ≡ Some y → x ≡ y
-same_passed test x y h =
-    elim (cases_Bool (test x)) [
-      | inl pass ↦ let e : Some x ≡ Some y = sym (rw pass refl) ∙ h in cc
-      | inr fail ↦ let e : None ≡ Some y = sym (rw fail refl) ∙ h in absurd (cc)
-    ]
 
 pub between : (low high n : ℕ) → is_between low high n ≡ true → (low ≤ n) × (n ≤ high)
 between low high n h =
@@ -45,7 +36,7 @@ pub text_at_read : (most : ℕ) (key : Text) (table : Members) (t : Text) → te
 unfolding text_at
 text_at_read most key table t h = option_and_then_some (text_in most) (get_member key table) t h (λ v e k. text_read most v t k)
 
-number_within : (low high : ℕ) (z : ℤ) (n : ℕ) → number_from low high z ≡ Some n → (low ≤ n) × (n ≤ high)
+pub number_within : (low high : ℕ) (z : ℤ) (n : ℕ) → number_from low high z ≡ Some n → (low ≤ n) × (n ≤ high)
 number_within low high (pos m) n h = between low high n (passed (is_between low high) m n h)
 number_within low high (negsuc m) n h = absurd (cc)
 
@@ -81,32 +72,3 @@ place_within test i (n ∷ names) p h =
 pub place_read : (names : List Text) (o : Option Text) (p : ℕ) → (o >>= place_of names) ≡ Some p → p < length names
 place_read names o p h =
     option_and_then_some (place_of names) o p h (λ t e k. omega (arith, place_within (same_text t) 0 names p k))
-
-pub items_read : (most : ℕ) (key : Text) (table : Members) (items : Items) → list_at most key table ≡ Some items → (1 ≤ count items) × (count items ≤ most)
-unfolding list_at
-items_read most key table items h =
-    between 1 most (count items) (kept (λ ds. is_between 1 most (count ds)) (get_member key table >>= as_array) items h)
-
--- what is so of each item that can be read is so of all that were
-pub each_all : {X : Type 0} (read : Data → Option X) (P : X → Type 0) → ((d : Data) (x : X) → read d ≡ Some x → P x) → (items : Items) (xs : List X) → each read items ≡ Some xs → All P xs
-unfolding each
-each_all read P one no_items xs h =
-    let none : [] ≡ xs = cc in
-    subst (All P) none (All-nil P)
-each_all read P one (item d ds) xs h =
-    option_and_then_some _ (read d) xs h
-    (λ x is more. option_and_then_some _ (each read ds) xs more
-    (λ rest are last.
-    let whole : x ∷ rest ≡ xs = cc in
-    subst (All P) whole (All-cons P x rest (one d x is) (each_all read P one ds rest are))))
-
-pub each_count : {X : Type 0} (read : Data → Option X) (items : Items) (xs : List X) → each read items ≡ Some xs → length xs ≡ count items
-unfolding each
-each_count read no_items xs h = let none : [] ≡ xs = cc in ap length (sym none)
-each_count read (item d ds) xs h =
-    option_and_then_some _ (read d) xs h
-    (λ x is more. option_and_then_some _ (each read ds) xs more
-    (λ rest are last.
-    let whole : x ∷ rest ≡ xs = cc in
-    let e : length xs ≡ length (x ∷ rest) = ap length (sym whole) in
-    omega (arith, e, each_count read ds rest are)))

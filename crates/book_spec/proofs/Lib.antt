@@ -1,5 +1,13 @@
 pub mod FieldFacts
-pub mod Once
-pub mod TitleSound
-pub mod TitleFacts
-pub mod TitleDraft
+pub mod TermKeys
+pub mod TermRanges
+pub mod TermPlaces
+pub mod TermSound
+pub mod ValueBounds
+pub mod KeyFacts
+pub mod LeafFacts
+pub mod PartSound
+pub mod ItemSound
+pub mod FaultFree
+pub mod DocumentSound
+pub mod BytesSound

@@ -1,8 +1,8 @@
 -- What stands in a table of a document: a value of a type at a key, in a range or form, or nothing.
-use Rattle.std.specs.Prelude.{ℕ, ◌+◌, ◌-◌, ◌*◌, ℤ, pos, negsuc, Bool, true, not, ◌&&◌, nat_le, List, [], ◌∷◌, Option, Some, None, if◌then◌else◌}
+use Rattle.std.specs.Prelude.{ℕ, ◌+◌, ◌-◌, ◌*◌, ℤ, pos, negsuc, Bool, ◌&&◌, nat_le, List, [], ◌∷◌, Option, Some, None, if◌then◌else◌}
 use Rattle.std.specs.Option.{option_and_then}
 use Rattle.std.specs.List.{list_any, list_all}
-use Rattle.toml.specs.Data.{Data, Items, no_items, item, Members, no_members, member, get_member, as_str, as_integer, as_array, as_table}
+use Rattle.toml.specs.Data.{Data, Members, no_members, member, get_member, as_str, as_integer}
 use Rattle.ecam_spec.specs.Book.{Text}
 use Rattle.ecam_spec.specs.BookText.{same_text, is_between, is_name, is_text}
 
@@ -24,10 +24,6 @@ keys (member key value rest) = key ∷ keys rest
 abbrev pub has_only : List Text → Members → Bool
 has_only known table = list_all (λ key. list_any (same_text key) known) (keys table)
 
--- a table that has no key but these
-unfoldable pub table_of : List Text → Data → Option Members
-table_of known value = as_table value >>= passing (has_only known)
-
 -- a string at a key
 unfoldable pub string_at : Text → Members → Option Text
 string_at key table = get_member key table >>= as_str
@@ -44,10 +40,6 @@ text_in most value = as_str value >>= passing (is_text most)
 unfoldable pub text_at : ℕ → Text → Members → Option Text
 text_at most key table = get_member key table >>= text_in most
 
--- the word at a key is this one
-unfoldable pub word_at : Text → Text → Members → Option Text
-word_at word key table = string_at key table >>= passing (same_text word)
-
 -- a whole number as one from low to high
 abbrev pub number_from : ℕ → ℕ → ℤ → Option ℕ
 number_from low high (pos n) = passing (is_between low high) n
@@ -56,34 +48,6 @@ number_from low high (negsuc n) = None
 -- a whole number from low to high at a key
 unfoldable pub number_at : ℕ → ℕ → Text → Members → Option ℕ
 number_at low high key table = get_member key table >>= as_integer >>= number_from low high
-
--- how many items a list has
-abbrev pub count : Items → ℕ
-count no_items = 0
-count (item first rest) = 1 + count rest
-
--- a list of 1 to so many items at a key
-unfoldable pub list_at : ℕ → Text → Members → Option Items
-list_at most key table = get_member key table >>= as_array >>= passing (λ items. is_between 1 most (count items))
-
--- the item of a list that has one
-abbrev pub only_item : Items → Option Data
-only_item no_items = None
-only_item (item first no_items) = Some first
-only_item (item first (item second rest)) = None
-
--- what each item of a list is read as, where each can be read
-unfoldable pub each : {X : Type 0} → (Data → Option X) → Items → Option (List X)
-each read no_items = Some []
-each read (item first rest) = do
-  x ← read first
-  xs ← each read rest
-  Some (x ∷ xs)
-
--- no text stands twice
-unfoldable pub are_distinct : List Text → Bool
-are_distinct [] = true
-are_distinct (text ∷ rest) = not (list_any (same_text text) rest) && are_distinct rest
 
 abbrev pub is_octal : ℕ → Bool
 is_octal = is_between 48 55

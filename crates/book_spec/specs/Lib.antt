@@ -1,3 +1,8 @@
 -- From the values of a table up to a whole document.
 pub mod Fields
-pub mod TitleDocument
+pub mod Schema
+pub mod Rules
+pub mod TableRules
+pub mod Document
+pub mod DraftOf
+pub mod BookBytes

@@ -1,9 +1,18 @@
 -- Words by how many they are.
 use Rattle.std.proofs.Common.{◌≡◌, ◌≢◌, List, [], ◌∷◌, map, length, get_or, Some, None, refl, sym, ap, ◌∙◌, arith}
 use Rattle.ecam_spec.specs.Book.{Text}
-use Rattle.ecam_spec.specs.Command.{command_of, replay_form, limit_form, no_limit}
+use Rattle.ecam_spec.specs.Command.{command_of, check_form, replay_form, limit_form, no_limit}
 
 module _ {W : Type 0} (bytes : W → Text) where
+  pub two_words : (ws : List W) (a b : W) → length ws ≡ 2 → a ≡ get_or ws 0 a → b ≡ get_or ws 1 b
+      → command_of (map bytes ws) ≡ check_form (bytes a) (bytes b)
+  unfolding command_of
+  two_words (x ∷ y ∷ []) a b long is_a is_b =
+      ap (λ a. check_form (bytes a) (bytes y)) (sym is_a) ∙ ap (λ b. check_form (bytes a) (bytes b)) (sym is_b)
+  two_words [] a b long is_a is_b = absurd (let w : ⊥ = omega arith in w)
+  two_words (x ∷ []) a b long is_a is_b = absurd (let w : ⊥ = omega arith in w)
+  two_words (x ∷ y ∷ z ∷ ws) a b long is_a is_b = absurd (let w : ⊥ = omega arith in w)
+
   pub three_words : (ws : List W) (a b c : W) → length ws ≡ 3 → a ≡ get_or ws 0 a → b ≡ get_or ws 1 b → c ≡ get_or ws 2 c
       → command_of (map bytes ws) ≡ replay_form (bytes a) (bytes b) (bytes c) (Some no_limit)
   unfolding command_of
@@ -33,12 +42,12 @@ module _ {W : Type 0} (bytes : W → Text) where
   five_words (_ ∷ _ ∷ _ ∷ _ ∷ _ ∷ _ ∷ _) a b c d e long is_a is_b is_c is_d is_e = absurd (let w : ⊥ = omega arith in w)
 
   -- any other number of words has no form
-  pub other_words : (ws : List W) → length ws ≢ 3 → length ws ≢ 5 → command_of (map bytes ws) ≡ None
+  pub other_words : (ws : List W) → length ws ≢ 2 → length ws ≢ 3 → length ws ≢ 5 → command_of (map bytes ws) ≡ None
   unfolding command_of
-  other_words [] three five = refl
-  other_words (_ ∷ []) three five = refl
-  other_words (_ ∷ _ ∷ []) three five = refl
-  other_words (_ ∷ _ ∷ _ ∷ []) three five = absurd (three refl)
-  other_words (_ ∷ _ ∷ _ ∷ _ ∷ []) three five = refl
-  other_words (_ ∷ _ ∷ _ ∷ _ ∷ _ ∷ []) three five = absurd (five refl)
-  other_words (_ ∷ _ ∷ _ ∷ _ ∷ _ ∷ _ ∷ _) three five = refl
+  other_words [] two three five = refl
+  other_words (_ ∷ []) two three five = refl
+  other_words (_ ∷ _ ∷ []) two three five = absurd (two refl)
+  other_words (_ ∷ _ ∷ _ ∷ []) two three five = absurd (three refl)
+  other_words (_ ∷ _ ∷ _ ∷ _ ∷ []) two three five = refl
+  other_words (_ ∷ _ ∷ _ ∷ _ ∷ _ ∷ []) two three five = absurd (five refl)
+  other_words (_ ∷ _ ∷ _ ∷ _ ∷ _ ∷ _ ∷ _) two three five = refl

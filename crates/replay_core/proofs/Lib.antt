@@ -4,8 +4,12 @@ mod Forms
 mod TitleRows
 mod Files
 mod Steps
+mod Counts
+mod Alone
 mod Built
 mod Endings
 pub mod Feeding
+pub mod BookFacts
+pub mod Loads
 pub mod Causes
 pub mod Decided

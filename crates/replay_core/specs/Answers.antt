@@ -1,53 +1,33 @@
 -- How the commands end: each ending with its cause, and what is written.
-use Rattle.std.specs.Prelude.{◌≡◌, ◌⊎◌, ℕ, ◌≤◌, ◌+◌, List, [], ◌++◌, Option, Some, None, Result, Ok, Err, IsSomeAnd}
-use Rattle.ecam_io.specs.Outside.{Rose, FileHas, LacksFile, MayRefuse, IsClosed, Appended, AppendedPrefix, IsKept, file_named}
+use Rattle.std.specs.Prelude.{◌≡◌, ◌⊎◌, ℕ, ◌≤◌, ◌+◌, List, [], ◌++◌, Option, Some, None}
+use Rattle.ecam_io.specs.Outside.{raised, Rose, FileHas, LacksFile, MayRefuse, IsClosed, Appended, AppendedPrefix, IsKept, file_named}
+use Rattle.ecam_spec.specs.declared.kinds.BookFault.{BookFault}
 use Rattle.ecam_spec.specs.declared.kinds.RecordFault.{RecordFault}
 use Rattle.ecam_spec.specs.Book.{Text, Book}
-use Rattle.ecam_spec.specs.Titles.{IsTitleBook}
 use Rattle.ecam_spec.specs.Replay.{history_blocks}
-use Rattle.ecam_spec.specs.Command.{Command, command_of, replay}
+use Rattle.ecam_spec.specs.Summary.{summary}
+use Rattle.ecam_spec.specs.Command.{Command, command_of, check, replay}
 use Rattle.ecam_spec.specs.Stage.{events_read, fault_read, reply_read}
-use Rattle.book_spec.specs.TitleDocument.{title_book}
-use Rattle.book_model.specs.Sealed.{the_book}
-use Rattle.title_reader.specs.Reading.{no_title_book}
-use Rattle.replay_core.specs.Standing.{Fits, Stands}
+use Rattle.book_spec.specs.BookBytes.{book_fault}
+use Rattle.replay_core.specs.Replayed.{replay_fault}
+use Rattle.replay_core.specs.Loading.{Files, BookHas, ReplayedHas}
 use Rattle.replay_core.specs.declared.outcome.Status.{Status}
 use Rattle.replay_core.specs.declared.outcome.Status.TheVariants as statuses
 use Rattle.replay_core.specs.declared.outcome.Outcome.{Outcome}
 use Rattle.replay_core.specs.declared.outcome.Outcome.TheVariants as outcomes
-use Rattle.replay_core.specs.declared.load.Loaded.{Loaded}
 
--- the files of a shelf that tells them
-abbrev pub Files : Type 0
-Files = Option (List (Text × Text))
+-- ---- a check
 
--- where a shelf tells its files, one has that name and is a title book of which P holds
-abbrev pub BookHas : Files → Text → (Book → Type 0) → Type 0
-BookHas files name P = FileHas files name (λ bytes. IsSomeAnd (title_book bytes) P)
-
--- ---- loading a book
-
--- a replay by the book stands ready, and nothing came yet
-pub record IsReady (l : Loaded) : Type 0 where
-  pub titles : IsTitleBook (the_book l.book)
-  pub fits : Fits (the_book l.book) l.replay
-  pub stands : Stands (the_book l.book) [] l.replay
-
--- the book of the file stands ready
-pub record HasLoaded (files : Files) (name : Text) (l : Loaded) : Type 0 where
-  pub book : BookHas files name (λ b. b ≡ the_book l.book)
-  pub ready : IsReady l
-
--- how loading ends, where the shelf's count of faults was `before` and is `now`
-abbrev pub Loads : Files → Text → ℕ → ℕ → Result Loaded Outcome → Type 0
-Loads files name before now (Ok l) = HasLoaded files name l
-Loads files name before now (Err (outcomes.BookRefused f)) = (f ≡ no_title_book) × FileHas files name (λ bytes. title_book bytes ≡ None)
-Loads files name before now (Err outcomes.ReadFault) = MayRefuse files name before now
-Loads files name before now (Err outcomes.NoMemory) = Unit {0}
-Loads files name before now (Err outcomes.Done) = ⊥
-Loads files name before now (Err outcomes.Usage) = ⊥
-Loads files name before now (Err (outcomes.RecordRefused f)) = ⊥
-Loads files name before now (Err outcomes.WriteFault) = ⊥
+module _ (files : Files) (opens opens' faults faults' : ℕ) {S : Type 0} (agrees : S → Text → Type 0) (out_faults out_faults' : ℕ) (old new : S) where
+  -- how the check of a book's file ends
+  abbrev pub Checks : Text → Outcome → Type 0
+  Checks book outcomes.Done = BookHas files book (λ b. Appended agrees old new (summary b))
+  Checks book outcomes.Usage = ⊥
+  Checks book (outcomes.BookRefused f) = FileHas files book (λ bytes. book_fault bytes ≡ Some f) × IsKept agrees old new
+  Checks book (outcomes.RecordRefused f) = ⊥
+  Checks book outcomes.ReadFault = MayRefuse files book faults faults' × IsKept agrees old new
+  Checks book outcomes.WriteFault = Rose out_faults out_faults' × BookHas files book (λ b. AppendedPrefix agrees old new (summary b))
+  Checks book outcomes.NoMemory = (opens' ≤ opens + 1) × IsKept agrees old new
 
 -- ---- a replay
 
@@ -85,27 +65,27 @@ module _ (files : Files) (faults faults' : ℕ) (left : Option Text) {S : Type 0
 
   -- no record was opened: the shelf counted a fault, or tells that it lacks the book's file, or the record's by a book that is there
   pub record NotOpened (opens opens' : ℕ) (book record' : Text) : Type 0 where
-    pub cause : Rose faults faults' ⊎ (LacksFile files book ⊎ (LacksFile files record' × BookHas files book (λ b. Unit {0})))
+    pub cause : Rose faults faults' ⊎ (LacksFile files book ⊎ (LacksFile files record' × ReplayedHas files book (λ b. Unit {0})))
     pub unopened : (opens' ≤ opens + 1) ⊎ IsClosed files left
     pub kept : IsKept agrees old new
 
   -- reading the record failed
   pub record NotRead (book record' : Text) (limit : ℕ) : Type 0 where
     pub cause : Rose faults faults'
-    pub replies : BookHas files book (λ b. FileHas files record' (RepliesInPart agrees old new limit b left))
+    pub replies : ReplayedHas files book (λ b. FileHas files record' (RepliesInPart agrees old new limit b left))
 
   -- writing failed, and a prefix of the reply is written
   pub record NotWritten (book record' : Text) (limit : ℕ) : Type 0 where
     pub cause : Rose out_faults out_faults'
-    pub replies : BookHas files book (λ b. FileHas files record' (λ text. AppendedPrefix agrees old new (reply_read b text limit)))
+    pub replies : ReplayedHas files book (λ b. FileHas files record' (λ text. AppendedPrefix agrees old new (reply_read b text limit)))
 
 module _ (files : Files) (opens opens' faults faults' : ℕ) (left : Option Text) {S : Type 0} (agrees : S → Text → Type 0) (out_faults out_faults' : ℕ) (old new : S) where
   -- how a replay of these two files under this limit ends
   abbrev pub Replays : Text → Text → ℕ → Outcome → Type 0
-  Replays book record' limit outcomes.Done = BookHas files book (λ b. FileHas files record' (λ text. RepliesWhole agrees old new limit b text left))
+  Replays book record' limit outcomes.Done = ReplayedHas files book (λ b. FileHas files record' (λ text. RepliesWhole agrees old new limit b text left))
   Replays book record' limit outcomes.Usage = ⊥
-  Replays book record' limit (outcomes.BookRefused f) = (f ≡ no_title_book) × FileHas files book (λ bytes. title_book bytes ≡ None) × IsKept agrees old new
-  Replays book record' limit (outcomes.RecordRefused f) = BookHas files book (λ b. FileHas files record' (λ text. RepliesTo agrees old new limit b text f))
+  Replays book record' limit (outcomes.BookRefused f) = FileHas files book (λ bytes. replay_fault bytes ≡ Some f) × IsKept agrees old new
+  Replays book record' limit (outcomes.RecordRefused f) = ReplayedHas files book (λ b. FileHas files record' (λ text. RepliesTo agrees old new limit b text f))
   Replays book record' limit outcomes.ReadFault =
       NotOpened files faults faults' left agrees out_faults out_faults' old new opens opens' book record' ⊎ NotRead files faults faults' left agrees out_faults out_faults' old new book record' limit
   Replays book record' limit outcomes.WriteFault = NotWritten files faults faults' left agrees out_faults out_faults' old new book record' limit
@@ -114,6 +94,7 @@ module _ (files : Files) (opens opens' faults faults' : ℕ) (left : Option Text
   -- how the program ends that has these words
   abbrev pub Ends : Option Command → Outcome → Type 0
   Ends None outcome = (outcome ≡ outcomes.Usage) × (opens' ≡ opens) × (faults' ≡ faults) × (old ≡ new)
+  Ends (Some (check book)) outcome = Checks files opens opens' faults faults' agrees out_faults out_faults' old new book outcome × (opens' ≡ raised opens)
   Ends (Some (replay book record' limit)) outcome = Replays book record' limit outcome
 
 -- ---- which ending must come
@@ -126,11 +107,15 @@ IsButForMemory status result = (result ≡ status) ⊎ (result ≡ statuses.NoMe
 pub record Decides (words : List Text) (files : List (Text × Text)) (result : Status) : Type 0 where
   pub usage : command_of words ≡ None → result ≡ statuses.Usage
   pub form : result ≡ statuses.Usage → command_of words ≡ None
-  pub book : (book record' : Text) (limit : ℕ) → command_of words ≡ Some (replay book record' limit)
-      → (bytes : Text) → file_named files book ≡ Some bytes → title_book bytes ≡ None → IsButForMemory statuses.BookRefused result
-  pub fault : (book record' : Text) (limit : ℕ) → command_of words ≡ Some (replay book record' limit)
-      → (bytes : Text) → file_named files book ≡ Some bytes → (b : Book) → title_book bytes ≡ Some b
+  pub check_refused : (book : Text) → command_of words ≡ Some (check book)
+      → (bytes : Text) → file_named files book ≡ Some bytes → (f : BookFault) → book_fault bytes ≡ Some f → IsButForMemory statuses.BookRefused result
+  pub checked : (book : Text) → command_of words ≡ Some (check book)
+      → (bytes : Text) → file_named files book ≡ Some bytes → book_fault bytes ≡ None → IsButForMemory statuses.Done result
+  pub replay_refused : (book record' : Text) (limit : ℕ) → command_of words ≡ Some (replay book record' limit)
+      → (bytes : Text) → file_named files book ≡ Some bytes → (f : BookFault) → replay_fault bytes ≡ Some f → IsButForMemory statuses.BookRefused result
+  pub record_refused : (book record' : Text) (limit : ℕ) → command_of words ≡ Some (replay book record' limit)
+      → (bytes : Text) → file_named files book ≡ Some bytes → replay_fault bytes ≡ None
       → (text : Text) → file_named files record' ≡ Some text → (f : RecordFault) → fault_read text limit ≡ Some f → IsButForMemory statuses.RecordRefused result
-  pub done : (book record' : Text) (limit : ℕ) → command_of words ≡ Some (replay book record' limit)
-      → (bytes : Text) → file_named files book ≡ Some bytes → (b : Book) → title_book bytes ≡ Some b
+  pub replayed : (book record' : Text) (limit : ℕ) → command_of words ≡ Some (replay book record' limit)
+      → (bytes : Text) → file_named files book ≡ Some bytes → replay_fault bytes ≡ None
       → (text : Text) → file_named files record' ≡ Some text → fault_read text limit ≡ None → IsButForMemory statuses.Done result

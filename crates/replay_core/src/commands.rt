@@ -4,20 +4,27 @@ ghost use Rattle.ecam_io.specs.Outside.{Rose};
 ghost use Rattle.ecam_spec.specs.Command.{command_of};
 ghost use Rattle.replay_core.specs.Outcomes.{status_of, Complains};
 ghost use Rattle.book_model.specs.Sealed.{the_book};
-ghost use Rattle.replay_core.specs.Answers.{IsReady, Plays, Replays, Ends, Decides};
+ghost use Rattle.std.specs.Prelude.{OnOk, OnErr};
+ghost use Rattle.ecam_io.specs.Outside.{raised, Appended, AppendedPrefix};
+ghost use Rattle.ecam_spec.specs.Summary as spec;
+ghost use Rattle.replay_core.specs.Loading.{IsReady};
+ghost use Rattle.replay_core.specs.Answers.{Checks, Plays, Replays, Ends, Decides};
 ghost use Rattle.replay_core.specs.declared.outcome.Outcome.{Outcome as Ending};
 
-use crate::load::{Loaded, load};
+use crate::load::{Loaded, load, load_book};
 use crate::outcome::{Outcome, Status};
 use crate::run::{RunError, run};
+use crate::summary::summary;
 use crate::words::{Command, parse};
-use ecam_io::{Failed, Shelf, Sink};
+use book_model::Book;
+use ecam_io::{Failed, Shelf, Sink, put_all};
 use std::alloc::Global;
 
 /// Runs the command that the words ask for, and answers how the program ends. `words` are the command line's,
-/// without the program's name. `replay BOOK RECORD [--limit N]` replays the record of the one file by the title book
-/// of the other, and writes the blocks of changes to `out`. Why the program ends otherwise than `Done` stands as one
-/// line on `err`. All memory is taken before the record is opened.
+/// without the program's name. `check BOOK` writes to `out` how much the file's book has. `replay BOOK RECORD
+/// [--limit N]` replays the record of the one file by the book of the other, which today must be one of titles, and
+/// writes the blocks of changes. Why the program ends otherwise than `Done` stands as one line on `err`. All memory
+/// is taken before the record is opened.
 pub fn ecam<F: Shelf, O: Sink, E: Sink>(
     alloc: Global,
     words: &[String],
@@ -49,6 +56,7 @@ fn answer<F: Shelf, O: Sink>(alloc: Global, words: &[String], files: &mut F, out
     ensures out_faults { O.faults out.old ≤ O.faults out.new }
 {
     match parse(words) {
+        Some(Command::Check { book }) => check_file(alloc, book, files, out),
         Some(
             Command::Replay {
                 book,
@@ -58,6 +66,34 @@ fn answer<F: Shelf, O: Sink>(alloc: Global, words: &[String], files: &mut F, out
         ) => replay_files(alloc, book, record, limit, files, out),
         None => Outcome::Usage,
     }
+}
+
+// Checks the book of a file, and writes how much it has.
+fn check_file<F: Shelf, O: Sink>(alloc: Global, name: &str, files: &mut F, out: &mut O) -> Outcome
+    ensures checks { Checks (F.files files.old) (F.opens files.old) (F.opens files.new) (F.faults files.old) (F.faults files.new) O.agrees (O.faults out.old) (O.faults out.new) out.old out.new
+        name.now result }
+    ensures opens { F.opens files.new ≡ raised (F.opens files.old) }
+    ensures files { F.files files.new ≡ F.files files.old }
+    ensures faults { F.faults files.old ≤ F.faults files.new }
+    ensures out_faults { O.faults out.old ≤ O.faults out.new }
+{
+    match load_book(alloc, files, name) {
+        Ok(book) => match put_summary(&book, out) {
+            Ok(()) => Outcome::Done,
+            Err(Failed) => Outcome::WriteFault,
+        },
+        Err(outcome) => outcome,
+    }
+}
+
+// Writes how much a book has.
+fn put_summary<O: Sink>(book: &Book, out: &mut O) -> Result<(), Failed>
+    ensures all { OnOk result (Appended O.agrees out.old out.new (spec.summary (the_book book.now))) }
+    ensures prefix { OnErr result (AppendedPrefix O.agrees out.old out.new (spec.summary (the_book book.now))) }
+    ensures faults { O.faults out.old ≤ O.faults out.new }
+    ensures cause { OnErr result (Rose (O.faults out.old) (O.faults out.new)) }
+{
+    put_all(out, summary(book).as_slice())
 }
 
 // Replays one file by the book of another.

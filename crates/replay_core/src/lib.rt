@@ -1,4 +1,4 @@
-//! The replay of a record by a book, and the program's commands.
+//! The program's commands: the check of a book, and the replay of a record by it.
 #![tactic(auto)]
 
 mod block;
@@ -8,6 +8,8 @@ mod load;
 mod outcome;
 mod replay;
 mod run;
+mod stage;
+mod summary;
 #[cfg(test)]
 mod tests;
 mod titles;

@@ -1,10 +1,13 @@
 // The words of the command line, read by hand.
 ghost use Rattle.std.specs.Prelude.{◌≡◌, map, string_bytes, option_map};
-ghost use Rattle.ecam_spec.specs.Command.{command_of, replay_form, limit_form, limit_of};
+ghost use Rattle.ecam_spec.specs.Command.{command_of, check_form, replay_form, limit_form, limit_of};
 ghost use Rattle.replay_core.specs.Words.{asked};
 
 // What the words ask for, with the names of files and the limit on a record's bytes.
 pub(crate) enum Command<'a> {
+    Check {
+        book: &'a str,
+    },
     Replay {
         book: &'a str,
         record: &'a str,
@@ -17,6 +20,9 @@ pub(crate) fn parse(words: &[String]) -> Option<Command<'_>>
     ensures { option_map asked result ≡ command_of (map string_bytes words.now) }
 {
     let count = words.len();
+    if count == 2 {
+        return parse_check(words[0].as_str(), words[1].as_str());
+    }
     if count == 3 {
         return parse_replay(
             words[0].as_str(),
@@ -35,6 +41,16 @@ pub(crate) fn parse(words: &[String]) -> Option<Command<'_>>
         );
     }
     None
+}
+
+fn parse_check<'a>(form: &str, book: &'a str) -> Option<Command<'a>>
+    ensures { option_map asked result ≡ check_form form.now book.now }
+{
+    if form == "check" {
+        Some(Command::Check { book })
+    } else {
+        None
+    }
 }
 
 fn parse_replay<'a>(

@@ -1,22 +1,18 @@
-use Rattle.std.proofs.Common.{◌≡◌, None, Err, IsSomeAnd, refl, sym, ◌∙◌, subst}
-use Rattle.book_spec.specs.TitleDocument.{title_book}
+use Rattle.ecam_spec.proofs.TitleTests.{title_book_true}
 use Rattle.book_model.specs.Sealed.{the_book}
-use Rattle.title_reader.specs.Reading.{Reads}
-use Rattle.replay_core.proofs.Causes.{front-says}
+use Rattle.replay_core.proofs.Loads.{ready, unprepared}
 use Rattle.replay_core.proofs.load.load.Goals as goal
 
-pub returns-in-Err-Fault-clause-loads : goal.returns-in-Err-Fault-clause-loads
-returns-in-Err-Fault-clause-loads g c =
-    let reads = subst (λ e. Reads the_book (title_book c.deref.result.now) (Err e)) c.in-Err-Fault.field-0-is c.in-Err-Fault.ensures.book in (
-      c.in-Err-Fault.fault-is ∙ reads.0,
-      front-says (g.F.Source.files c.args.files.now) c.args.name.now c.in-Ok.bytes.items (λ o. o ≡ None)
-          (subst (λ t. title_book t ≡ None) c.deref.ensures.value reads.1) c.in-Ok.ensures.bytes,
-    )
+pub returns-in-Ok-prepare-clause-readies : goal.returns-in-Ok-prepare-clause-readies
+returns-in-Ok-prepare-clause-readies g c =
+    let b = the_book c.in-Ok.book in
+    let made = c.in-Ok-prepare.ensures in
+    record {
+      book = ready (g.F.Source.files c.args.files.now) c.args.name.now b c.in-Ok.ensures.loads made.0;
+      ready = record { titles = title_book_true b made.0; fits = made.1; stands = made.2 };
+    }
 
-pub returns-in-Ok-new-clause-loads : goal.returns-in-Ok-new-clause-loads
-returns-in-Ok-new-clause-loads g c = record {
-  book = front-says (g.F.Source.files c.args.files.now) c.args.name.now c.in-Ok.bytes.items (λ o. IsSomeAnd o (λ b. b ≡ the_book c.in-Ok-read_titles.book))
-      (subst (λ t. IsSomeAnd (title_book t) (λ b. b ≡ the_book c.in-Ok-read_titles.book)) c.deref.ensures.value
-      (subst (λ o. IsSomeAnd o (λ b. b ≡ the_book c.in-Ok-read_titles.book)) (sym c.in-Ok-read_titles.ensures.book) refl)) c.in-Ok.ensures.bytes;
-  ready = record { titles = c.in-Ok-read_titles.ensures.titles; fits = c.in-Ok-new.ensures.fits; stands = c.in-Ok-new.ensures.stands };
-}
+pub returns-in-Err-prepare-clause-readies : goal.returns-in-Err-prepare-clause-readies
+returns-in-Err-prepare-clause-readies g c =
+    unprepared (g.F.Source.files c.args.files.now) c.args.name.now (the_book c.in-Ok.book) c.in-Ok.ensures.loads
+    (g.F.Source.faults c.args.files.now) (g.F.Source.faults c.load_book.new.files) c.in-Err-prepare.outcome c.in-Err-prepare.ensures

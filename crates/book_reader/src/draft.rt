@@ -1,0 +1,119 @@
+// The draft that a document without a fault is.
+ghost use Rattle.std.specs.Prelude.{◌≡◌, map, codes, IfOk};
+ghost use Rattle.toml.specs.Data.{no_members};
+ghost use Rattle.toml.specs.View.{view, table_view};
+ghost use Rattle.book_model.specs.View.{bytes_of, phase_of, memo_of, draft_of};
+ghost use Rattle.book_spec.specs.Document.{names_of};
+ghost use Rattle.book_spec.specs.DraftOf as spec;
+ghost use Rattle.book_reader.specs.Reading.{views};
+ghost use Rattle.book_reader.specs.Catalogue.{names_in};
+ghost use Rattle.book_reader.specs.Drafting.{phase_table};
+
+use crate::draft_alerts::alerts_in;
+use crate::draft_keys::{colour_or, is_left, name_or_none, table_or, text_or_none};
+use crate::draft_pages::pages_in;
+use crate::draft_params::parameters_in;
+use crate::draft_terms::term_or;
+use crate::fields::{find, list_in, text_in};
+use crate::names::Catalogue;
+use book_model::{Draft, Memo, PhaseTerms, Text};
+use ecam_kinds::Colour;
+use std::alloc::{AllocError, Global};
+use toml::{Table, Value};
+
+/// The most bytes of a system's text, and of a memo's.
+const SYSTEM_TEXT: usize = 16;
+
+const MEMO_TEXT: usize = 36;
+
+fn system_in(value: &Value) -> Text
+    ensures { result.bytes ≡ spec.system_in (view value.now) }
+{
+    match text_in(value, SYSTEM_TEXT) {
+        Some(text) => text,
+        None => Text::new(),
+    }
+}
+
+fn systems_in(alloc: Global, items: &[Value]) -> Result<Vec<Text>, AllocError>
+    ensures { IfOk result (λ v. map bytes_of v.items ≡ map spec.system_in (views items.now)) }
+{
+    let mut systems = Vec::new(alloc);
+    for item in items {
+        systems.push(system_in(item))?;
+    }
+    Ok(systems)
+}
+
+// The table of the flight phase, or an empty one.
+fn phase_table_or<'a>(top: &'a Table, empty: &'a Table) -> &'a Table
+    requires { table_view empty.now ≡ no_members }
+    ensures { table_view result.now ≡ phase_table (table_view top.now) }
+{
+    match find(top, "phase") {
+        Some(value) => table_or(value, empty),
+        None => empty,
+    }
+}
+
+#[tactic(auto, unfolding(book_spec::specs::DraftOf::phase_in))]
+fn phase_in(alloc: Global, names: &Catalogue<'_>, table: &Table) -> Result<PhaseTerms, AllocError>
+    ensures { IfOk result (λ p. phase_of p ≡ spec.phase_in (names_in names.now) (table_view table.now)) }
+{
+    Ok(PhaseTerms {
+        gnd: term_or(alloc, names, table, "gnd", true)?,
+        run: term_or(alloc, names, table, "run", false)?,
+        tp: term_or(alloc, names, table, "tp", false)?,
+        fast: term_or(alloc, names, table, "fast", false)?,
+        high: term_or(alloc, names, table, "high", false)?,
+        low: term_or(alloc, names, table, "low", false)?,
+    })
+}
+
+#[tactic(auto, unfolding(book_spec::specs::DraftOf::memo_in))]
+fn memo_in(alloc: Global, names: &Catalogue<'_>, value: &Value) -> Result<Memo, AllocError>
+    ensures { IfOk result (λ m. memo_of m ≡ spec.memo_in (names_in names.now) (view value.now)) }
+{
+    let empty = Table::new(alloc);
+    let table = table_or(value, &empty);
+    Ok(Memo {
+        name: name_or_none(table),
+        text: text_or_none(table, MEMO_TEXT, "text"),
+        left: is_left(table),
+        when: term_or(alloc, names, table, "when", false)?,
+        colour: colour_or(table, Colour::Green),
+    })
+}
+
+fn memos_in(alloc: Global, names: &Catalogue<'_>, items: &[Value]) -> Result<Vec<Memo>, AllocError>
+    ensures { IfOk result (λ v. map memo_of v.items ≡ map (spec.memo_in (names_in names.now)) (views items.now)) }
+{
+    let mut memos = Vec::new(alloc);
+    for item in items {
+        memos.push(memo_in(alloc, names, item)?)?;
+    }
+    Ok(memos)
+}
+
+/// The draft that a document is, in one pass, with a look-up by name for each name in it. What is missing, or is
+/// no value that may stand there, is the empty text, the least number, the usual word or a constant condition; a
+/// document that has no fault lacks nothing that isn't optional.
+#[tactic(auto, unfolding(book_spec::specs::DraftOf::draft_of, book_model::specs::View::draft_of))]
+pub(crate) fn draft_of(
+    alloc: Global,
+    top: &Table,
+    names: &Catalogue<'_>,
+) -> Result<Draft, AllocError>
+    requires { names_in names.now ≡ names_of (table_view top.now) }
+    ensures { IfOk result (λ d. draft_of d ≡ spec.draft_of (table_view top.now)) }
+{
+    let empty = Table::new(alloc);
+    Ok(Draft {
+        systems: systems_in(alloc, list_in(top, "systems"))?,
+        pages: pages_in(alloc, names, list_in(top, "page"))?,
+        params: parameters_in(alloc, list_in(top, "param"))?,
+        phase: phase_in(alloc, names, phase_table_or(top, &empty))?,
+        alerts: alerts_in(alloc, names, list_in(top, "alert"))?,
+        memos: memos_in(alloc, names, list_in(top, "memo"))?,
+    })
+}

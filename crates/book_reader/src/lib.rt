@@ -1,0 +1,28 @@
+//! Reads a book's document: the first of its faults that the table shows, or the draft that it is.
+#![tactic(auto)]
+
+mod draft;
+mod draft_alerts;
+mod draft_keys;
+mod draft_pages;
+mod draft_params;
+mod draft_terms;
+mod faults;
+mod fields;
+mod keys;
+mod names;
+mod places;
+mod reader;
+mod rules;
+mod searches;
+mod sections;
+mod tables;
+mod texts;
+mod words;
+
+pub use reader::{LONGEST, read_book};
+
+#[cfg(test)]
+mod test_books;
+#[cfg(test)]
+mod tests;

@@ -1,0 +1,71 @@
+use super::*;
+use crate::test_books::{FAULTS, ITEMS, TOP};
+use book_model::{BookFault, Draft, LoadError, Section};
+use std::test::*;
+
+fn told(read: Result<Draft, LoadError>) -> Option<BookFault> {
+    match read {
+        Err(LoadError::Fault(fault)) => Some(fault),
+        _ => None,
+    }
+}
+
+#[test]
+fn books_with_a_fault(rt: HostRuntime) -> Result<(), Fail> {
+    for (i, (top, tail, code, section, item)) in FAULTS.iter().enumerate() {
+        let text = format!(in rt.alloc(); "{top}{ITEMS}{tail}")?;
+        let fault = BookFault {
+            code: *code,
+            section: *section,
+            item: *item,
+        };
+        assert_eq!(rt;
+            told(read_book(rt.alloc(), text.as_bytes())),
+            Some(fault),
+            "book {i}"
+        );
+    }
+    Ok(())
+}
+
+fn loaded(read: Result<Draft, LoadError>) -> Option<Draft> {
+    match read {
+        Ok(draft) => Some(draft),
+        Err(_) => None,
+    }
+}
+
+#[test]
+fn books_without_a_fault(rt: HostRuntime) -> Result<(), Fail> {
+    let text = format!(in rt.alloc(); "{TOP}{ITEMS}")?;
+    let draft = loaded(read_book(rt.alloc(), text.as_bytes())).ok_or("no draft")?;
+    assert_eq!(rt; draft.systems.len(), 2);
+    assert_eq!(rt; draft.pages.len(), 1);
+    assert_eq!(rt; draft.params.len(), 2);
+    assert_eq!(rt; draft.alerts.len(), 1);
+    assert_eq!(rt; draft.memos.len(), 1);
+    assert!(rt; loaded(read_book(rt.alloc(), b"version = 1")).is_some());
+    Ok(())
+}
+
+#[test]
+fn bytes_that_are_no_document(rt: HostRuntime) -> Result<(), Fail> {
+    let none = BookFault {
+        code: 3,
+        section: Section::Top,
+        item: 0,
+    };
+    assert_eq!(rt; told(read_book(rt.alloc(), b"")), Some(none));
+    let no_text = BookFault { code: 2, ..none };
+    assert_eq!(rt;
+        told(read_book(rt.alloc(), b"version = 1 # \xff")),
+        Some(no_text)
+    );
+    let long = vec![in rt.alloc(); b'#'; LONGEST + 1]?;
+    let too_long = BookFault { code: 1, ..none };
+    assert_eq!(rt;
+        told(read_book(rt.alloc(), long.as_slice())),
+        Some(too_long)
+    );
+    Ok(())
+}

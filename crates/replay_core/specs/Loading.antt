@@ -1,0 +1,70 @@
+-- How loading a book ends, each ending with its cause.
+use Rattle.std.specs.Prelude.{◌≡◌, ℕ, true, false, List, [], Option, Some, Result, Ok, Err, IsSomeAnd}
+use Rattle.ecam_io.specs.Outside.{FileHas, MayRefuse}
+use Rattle.ecam_spec.specs.Book.{Text, Book}
+use Rattle.ecam_spec.specs.Titles.{is_title_book, IsTitleBook}
+use Rattle.book_spec.specs.BookBytes.{book_fault, book}
+use Rattle.book_model.specs.Sealed.{the_book}
+use Rattle.book_model.specs.declared.draft.Draft.{Draft}
+use Rattle.replay_core.specs.Standing.{Fits, Stands}
+use Rattle.replay_core.specs.Replayed.{unbuilt, replayed, replay_fault}
+use Rattle.replay_core.specs.declared.outcome.Outcome.{Outcome}
+use Rattle.replay_core.specs.declared.outcome.Outcome.TheVariants as outcomes
+use Rattle.replay_core.specs.declared.replay.Replay.{Replay}
+use Rattle.replay_core.specs.declared.load.Loaded.{Loaded}
+
+-- the files of a shelf that tells them
+abbrev pub Files : Type 0
+Files = Option (List (Text × Text))
+
+-- where a shelf tells its files, one has that name, and its bytes are a book of which P holds
+abbrev pub BookHas : Files → Text → (Book → Type 0) → Type 0
+BookHas files name P = FileHas files name (λ bytes. IsSomeAnd (book bytes) P)
+
+-- such a book, which a replay takes
+abbrev pub ReplayedHas : Files → Text → (Book → Type 0) → Type 0
+ReplayedHas files name P = FileHas files name (λ bytes. IsSomeAnd (replayed bytes) P)
+
+-- how loading a book ends, where the shelf's count of faults was `before` and is `now`
+abbrev pub Loads : Files → Text → ℕ → ℕ → Result Draft Outcome → Type 0
+Loads files name before now (Ok d) = BookHas files name (λ b. b ≡ the_book d)
+Loads files name before now (Err (outcomes.BookRefused f)) = FileHas files name (λ bytes. book_fault bytes ≡ Some f)
+Loads files name before now (Err outcomes.ReadFault) = MayRefuse files name before now
+Loads files name before now (Err outcomes.NoMemory) = Unit {0}
+Loads files name before now (Err outcomes.Done) = ⊥
+Loads files name before now (Err outcomes.Usage) = ⊥
+Loads files name before now (Err (outcomes.RecordRefused f)) = ⊥
+Loads files name before now (Err outcomes.WriteFault) = ⊥
+
+-- how making a replay by a book ends
+abbrev pub Prepares : Book → Result Replay Outcome → Type 0
+Prepares b (Ok r) = (is_title_book b ≡ true) × Fits b r × Stands b [] r
+Prepares b (Err (outcomes.BookRefused f)) = (f ≡ unbuilt) × (is_title_book b ≡ false)
+Prepares b (Err outcomes.NoMemory) = Unit {0}
+Prepares b (Err outcomes.Done) = ⊥
+Prepares b (Err outcomes.Usage) = ⊥
+Prepares b (Err (outcomes.RecordRefused f)) = ⊥
+Prepares b (Err outcomes.ReadFault) = ⊥
+Prepares b (Err outcomes.WriteFault) = ⊥
+
+-- a replay by the book stands ready, and nothing came yet
+pub record IsReady (l : Loaded) : Type 0 where
+  pub titles : IsTitleBook (the_book l.book)
+  pub fits : Fits (the_book l.book) l.replay
+  pub stands : Stands (the_book l.book) [] l.replay
+
+-- the book of the file stands ready
+pub record HasLoaded (files : Files) (name : Text) (l : Loaded) : Type 0 where
+  pub book : ReplayedHas files name (λ b. b ≡ the_book l.book)
+  pub ready : IsReady l
+
+-- how loading a book to replay by it ends
+abbrev pub Readies : Files → Text → ℕ → ℕ → Result Loaded Outcome → Type 0
+Readies files name before now (Ok l) = HasLoaded files name l
+Readies files name before now (Err (outcomes.BookRefused f)) = FileHas files name (λ bytes. replay_fault bytes ≡ Some f)
+Readies files name before now (Err outcomes.ReadFault) = MayRefuse files name before now
+Readies files name before now (Err outcomes.NoMemory) = Unit {0}
+Readies files name before now (Err outcomes.Done) = ⊥
+Readies files name before now (Err outcomes.Usage) = ⊥
+Readies files name before now (Err (outcomes.RecordRefused f)) = ⊥
+Readies files name before now (Err outcomes.WriteFault) = ⊥
