@@ -3,6 +3,7 @@ ghost use Rattle.std.specs.Prelude.{◌<◌};
 
 mod checks;
 mod failures;
+mod faults;
 mod replays;
 
 use super::*;

@@ -44,7 +44,7 @@ const OTHER_LETTER: &str = "version = 1\nsystems = [\"HYD\"]\n\
 [[param]]\nname = \"g_lo\"\nkind = \"disc\"\nstale = 600\nsource = [{ bus = 0, label = \"270\", bit = 11 }]\n\
 [[alert]]\nname = \"g_rsvr\"\ntitle = \"HYD G RSVR LO LVL\u{e9}\"\nsystem = \"HYD\"\nlevel = 1\nwhen = \"g_lo\"\n";
 
-fn checks(
+pub(crate) fn checks(
     rt: &impl Abort,
     alloc: Global,
     book: &[u8],
