@@ -252,6 +252,33 @@ fn texts_and_their_verdicts(rt: HostRuntime) -> Result<(), Fail> {
     Ok(())
 }
 
+// Whether a letter behind a name is told as what fits nowhere.
+fn fits_nowhere(alloc: Global, code: u32) -> Result<bool, Fail> {
+    let mut text = String::from_str(alloc, "g_lo")?;
+    match char::from_u32(code) {
+        Some(letter) => text.push(letter)?,
+        None => return Err(Fail::from("no letter")),
+    }
+    Ok(verdict_on(alloc, text.as_str())? == Told::Syntax(4))
+}
+
+// In these letters stands each byte above 126 that a text may have.
+#[test]
+fn bytes_above_126_fit_nowhere(rt: HostRuntime) -> Result<(), Fail> {
+    let alloc = rt.alloc();
+    for code in 0x7f..0x800 {
+        assert!(rt; fits_nowhere(alloc, code)?, "{code}");
+    }
+    let longer = [
+        0x800, 0x1000, 0x2000, 0x3000, 0x4000, 0x5000, 0x6000, 0x7000, 0x8000, 0x9000, 0xa000,
+        0xb000, 0xc000, 0xd000, 0xe000, 0xf000, 0x10000, 0x40000, 0x80000, 0xc0000, 0x100000,
+    ];
+    for code in &longer {
+        assert!(rt; fits_nowhere(alloc, *code)?, "{code}");
+    }
+    Ok(())
+}
+
 #[test]
 fn deep_and_large_conditions(rt: HostRuntime) -> Result<(), Fail> {
     let alloc = rt.alloc();
