@@ -6,3 +6,4 @@ pub mod FirstItems
 pub mod FewItems
 pub mod FaultOrder
 pub mod BookText
+pub mod UnplacedParts

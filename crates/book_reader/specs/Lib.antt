@@ -6,3 +6,4 @@ pub mod Catalogue
 pub mod Keys
 pub mod Refused
 pub mod FaultParts
+pub mod Unplaced

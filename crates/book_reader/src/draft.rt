@@ -1,5 +1,5 @@
 // The draft that a document without a fault is.
-ghost use Rattle.std.specs.Prelude.{◌≡◌, map, codes, IfOk};
+ghost use Rattle.std.specs.Prelude.{◌≡◌, map, codes, IfOk, All};
 ghost use Rattle.toml.specs.Data.{no_members};
 ghost use Rattle.toml.specs.View.{view, table_view};
 ghost use Rattle.book_model.specs.View.{bytes_of, phase_of, memo_of, draft_of};
@@ -8,6 +8,7 @@ ghost use Rattle.book_spec.specs.DraftOf as spec;
 ghost use Rattle.book_reader.specs.Reading.{views};
 ghost use Rattle.book_reader.specs.Catalogue.{names_in};
 ghost use Rattle.book_reader.specs.Drafting.{phase_table};
+ghost use Rattle.book_reader.specs.Unplaced.{AreUnplacedPhases, IsUnplacedMemo, IsUnplaced};
 
 use crate::draft_alerts::alerts_in;
 use crate::draft_keys::{colour_or, is_left, name_or_none, table_or, text_or_none};
@@ -58,7 +59,8 @@ fn phase_table_or<'a>(top: &'a Table, empty: &'a Table) -> &'a Table
 
 #[tactic(auto, unfolding(book_spec::specs::DraftOf::phase_in))]
 fn phase_in(alloc: Global, names: &Catalogue<'_>, table: &Table) -> Result<PhaseTerms, AllocError>
-    ensures { IfOk result (λ p. phase_of p ≡ spec.phase_in (names_in names.now) (table_view table.now)) }
+    ensures value { IfOk result (λ p. phase_of p ≡ spec.phase_in (names_in names.now) (table_view table.now)) }
+    ensures unplaced { IfOk result AreUnplacedPhases }
 {
     Ok(PhaseTerms {
         gnd: term_or(alloc, names, table, "gnd", true)?,
@@ -72,7 +74,8 @@ fn phase_in(alloc: Global, names: &Catalogue<'_>, table: &Table) -> Result<Phase
 
 #[tactic(auto, unfolding(book_spec::specs::DraftOf::memo_in))]
 fn memo_in(alloc: Global, names: &Catalogue<'_>, value: &Value) -> Result<Memo, AllocError>
-    ensures { IfOk result (λ m. memo_of m ≡ spec.memo_in (names_in names.now) (view value.now)) }
+    ensures value { IfOk result (λ m. memo_of m ≡ spec.memo_in (names_in names.now) (view value.now)) }
+    ensures unplaced { IfOk result IsUnplacedMemo }
 {
     let empty = Table::new(alloc);
     let table = table_or(value, &empty);
@@ -86,7 +89,8 @@ fn memo_in(alloc: Global, names: &Catalogue<'_>, value: &Value) -> Result<Memo, 
 }
 
 fn memos_in(alloc: Global, names: &Catalogue<'_>, items: &[Value]) -> Result<Vec<Memo>, AllocError>
-    ensures { IfOk result (λ v. map memo_of v.items ≡ map (spec.memo_in (names_in names.now)) (views items.now)) }
+    ensures value { IfOk result (λ v. map memo_of v.items ≡ map (spec.memo_in (names_in names.now)) (views items.now)) }
+    ensures unplaced { IfOk result (λ v. All IsUnplacedMemo v.items) }
 {
     let mut memos = Vec::new(alloc);
     for item in items {
@@ -105,7 +109,8 @@ pub(crate) fn draft_of(
     names: &Catalogue<'_>,
 ) -> Result<Draft, AllocError>
     requires { names_in names.now ≡ names_of (table_view top.now) }
-    ensures { IfOk result (λ d. draft_of d ≡ spec.draft_of (table_view top.now)) }
+    ensures value { IfOk result (λ d. draft_of d ≡ spec.draft_of (table_view top.now)) }
+    ensures unplaced { IfOk result IsUnplaced }
 {
     let empty = Table::new(alloc);
     Ok(Draft {

@@ -1,11 +1,12 @@
 // The alerts of a book, with the lines of their procedures and of the status page.
-ghost use Rattle.std.specs.Prelude.{◌≡◌, map, codes, unwrap_or, IfOk};
+ghost use Rattle.std.specs.Prelude.{◌≡◌, map, codes, unwrap_or, IfOk, All};
 ghost use Rattle.toml.specs.View.{view, table_view};
 ghost use Rattle.book_model.specs.View.{bytes_of, line_of, status_of, alert_of};
 ghost use Rattle.book_spec.specs.DraftOf as spec;
 ghost use Rattle.book_reader.specs.Reading.{views};
 ghost use Rattle.book_reader.specs.Catalogue.{names_in};
 ghost use Rattle.book_reader.specs.Drafting.{page_at, system_at};
+ghost use Rattle.book_reader.specs.Unplaced.{IsUnplacedLine, IsUnplacedAlert};
 
 use crate::draft_keys::{
     colour_or, name_or_none, number_or_least, phases_at, section_or_first, sound_or, table_or,
@@ -26,7 +27,8 @@ const TITLE: usize = 36;
 
 #[tactic(auto, unfolding(book_spec::specs::DraftOf::line_in))]
 fn line_in(alloc: Global, names: &Catalogue<'_>, value: &Value) -> Result<Line, AllocError>
-    ensures { IfOk result (λ l. line_of l ≡ spec.line_in (names_in names.now) (view value.now)) }
+    ensures value { IfOk result (λ l. line_of l ≡ spec.line_in (names_in names.now) (view value.now)) }
+    ensures unplaced { IfOk result IsUnplacedLine }
 {
     let empty = Table::new(alloc);
     let table = table_or(value, &empty);
@@ -39,7 +41,8 @@ fn line_in(alloc: Global, names: &Catalogue<'_>, value: &Value) -> Result<Line, 
 }
 
 fn lines_in(alloc: Global, names: &Catalogue<'_>, items: &[Value]) -> Result<Vec<Line>, AllocError>
-    ensures { IfOk result (λ v. map line_of v.items ≡ map (spec.line_in (names_in names.now)) (views items.now)) }
+    ensures value { IfOk result (λ v. map line_of v.items ≡ map (spec.line_in (names_in names.now)) (views items.now)) }
+    ensures unplaced { IfOk result (λ v. All IsUnplacedLine v.items) }
 {
     let mut lines = Vec::new(alloc);
     for item in items {
@@ -134,7 +137,8 @@ fn known_page(names: &Catalogue<'_>, table: &Table) -> Option<u32>
 
 #[tactic(auto, unfolding(book_spec::specs::DraftOf::alert_in))]
 fn alert_in(alloc: Global, names: &Catalogue<'_>, value: &Value) -> Result<Alert, AllocError>
-    ensures { IfOk result (λ a. alert_of a ≡ spec.alert_in (names_in names.now) (view value.now)) }
+    ensures value { IfOk result (λ a. alert_of a ≡ spec.alert_in (names_in names.now) (view value.now)) }
+    ensures unplaced { IfOk result IsUnplacedAlert }
 {
     let empty = Table::new(alloc);
     let table = table_or(value, &empty);
@@ -161,7 +165,8 @@ pub(crate) fn alerts_in(
     names: &Catalogue<'_>,
     items: &[Value],
 ) -> Result<Vec<Alert>, AllocError>
-    ensures { IfOk result (λ v. map alert_of v.items ≡ map (spec.alert_in (names_in names.now)) (views items.now)) }
+    ensures value { IfOk result (λ v. map alert_of v.items ≡ map (spec.alert_in (names_in names.now)) (views items.now)) }
+    ensures unplaced { IfOk result (λ v. All IsUnplacedAlert v.items) }
 {
     let mut alerts = Vec::new(alloc);
     for item in items {

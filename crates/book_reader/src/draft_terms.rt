@@ -8,6 +8,7 @@ ghost use Rattle.book_model.specs.View.{tree_in};
 ghost use Rattle.book_spec.specs.DraftOf as spec;
 ghost use Rattle.book_reader.specs.Catalogue.{names_in, term_names_in};
 ghost use Rattle.book_reader.specs.Drafting.{condition_text, condition_text_at};
+ghost use Rattle.book_reader.specs.Unplaced.{IsUnplacedTerm};
 
 use crate::fields::find;
 use crate::names::Catalogue;
@@ -19,7 +20,8 @@ use term_tree::Cond;
 use toml::{Table, Value};
 
 fn constant(holds: bool) -> Term
-    ensures { tree_in result ≡ constant holds }
+    ensures value { tree_in result ≡ constant holds }
+    ensures unplaced { IsUnplacedTerm result }
 {
     Term {
         cond: Cond::Const(holds),
@@ -51,7 +53,8 @@ fn meaning_or(
     default: bool,
 ) -> Result<Term, AllocError>
     requires { length text.now ≤ 2048 }
-    ensures { IfOk result (λ t. tree_in t ≡ spec.tree_or (constant default) (Some (verdict (term_names_in names.now) text.now))) }
+    ensures value { IfOk result (λ t. tree_in t ≡ spec.tree_or (constant default) (Some (verdict (term_names_in names.now) text.now))) }
+    ensures unplaced { IfOk result IsUnplacedTerm }
 {
     match read_term_by(alloc, text, names) {
         Ok(cond) => Ok(Term { cond, at: 0 }),
@@ -69,7 +72,8 @@ pub(crate) fn term_or(
     key: &str,
     default: bool,
 ) -> Result<Term, AllocError>
-    ensures { IfOk result (λ t. tree_in t ≡ spec.term_or default (names_in names.now) key.now (table_view table.now)) }
+    ensures value { IfOk result (λ t. tree_in t ≡ spec.term_or default (names_in names.now) key.now (table_view table.now)) }
+    ensures unplaced { IfOk result IsUnplacedTerm }
 {
     match condition_text_at(table, key) {
         Some(text) => meaning_or(alloc, names, text, default),

@@ -9,6 +9,7 @@ ghost use Rattle.book_spec.specs.BookBytes as spec;
 ghost use Rattle.book_spec.specs.DraftOf as plain;
 ghost use Rattle.book_spec.specs.Document.{list_in, table_fault};
 ghost use Rattle.book_reader.specs.Places.{HasFewItems};
+ghost use Rattle.book_reader.specs.Unplaced.{IsUnplaced};
 
 use crate::draft::draft_of;
 use crate::faults::table_fault;
@@ -65,6 +66,7 @@ fn has_few_items(top: &Table) -> bool
 
 fn draft_in(alloc: Global, top: &Table) -> Result<Draft, LoadError>
     ensures draft { IfOk result (λ d. draft_of d ≡ plain.draft_of (table_view top.now)) }
+    ensures unplaced { IfOk result IsUnplaced }
     ensures faultless { IfOk result (λ d. table_fault (table_view top.now) ≡ None) }
     ensures fault { (f : BookFault) → result ≡ Err (Fault f) → table_fault (table_view top.now) ≡ Some f }
 {
@@ -85,6 +87,7 @@ fn draft_in(alloc: Global, top: &Table) -> Result<Draft, LoadError>
 pub fn read_book(alloc: Global, bytes: &[u8]) -> Result<Draft, LoadError>
     ensures draft { IfOk result (λ d. spec.draft_of_bytes bytes.now ≡ Some (draft_of d)) }
     ensures sound { IfOk result (λ d. IsSound (draft_of d)) }
+    ensures unplaced { IfOk result IsUnplaced }
     ensures fault { (f : BookFault) → result ≡ Err (Fault f) → spec.text_fault bytes.now ≡ Some f }
 {
     if bytes.len() > LONGEST {

@@ -1,9 +1,13 @@
-use Rattle.std.proofs.Common.{◌≡◌, map, take}
+use Rattle.std.proofs.Common.{◌≡◌, map, take, All}
 use Rattle.book_model.specs.View.{memo_of}
 use Rattle.book_spec.specs.DraftOf.{memo_in}
 use Rattle.book_reader.specs.Reading.{views}
 use Rattle.book_reader.specs.Catalogue.{names_in}
+use Rattle.book_reader.specs.Unplaced.{IsUnplacedMemo}
 use Rattle.book_reader.proofs.draft.memos_in.Given as goal
 
 abbrev pub invariant-loop-item : goal.invariant-loop-item
-invariant-loop-item l = map memo_of l.memos.items ≡ map (memo_in (names_in l.names)) (views (take l.item-index l.items))
+invariant-loop-item l = record {
+  value : map memo_of l.memos.items ≡ map (memo_in (names_in l.names)) (views (take l.item-index l.items));
+  unplaced : All IsUnplacedMemo l.memos.items;
+}

@@ -1,9 +1,13 @@
-use Rattle.std.proofs.Common.{◌≡◌, map, take}
+use Rattle.std.proofs.Common.{◌≡◌, map, take, All}
 use Rattle.book_model.specs.View.{alert_of}
 use Rattle.book_spec.specs.DraftOf.{alert_in}
 use Rattle.book_reader.specs.Reading.{views}
 use Rattle.book_reader.specs.Catalogue.{names_in}
+use Rattle.book_reader.specs.Unplaced.{IsUnplacedAlert}
 use Rattle.book_reader.proofs.draft_alerts.alerts_in.Given as goal
 
 abbrev pub invariant-loop-item : goal.invariant-loop-item
-invariant-loop-item l = map alert_of l.alerts.items ≡ map (alert_in (names_in l.names)) (views (take l.item-index l.items))
+invariant-loop-item l = record {
+  value : map alert_of l.alerts.items ≡ map (alert_in (names_in l.names)) (views (take l.item-index l.items));
+  unplaced : All IsUnplacedAlert l.alerts.items;
+}

@@ -1,0 +1,12 @@
+use Rattle.std.proofs.Common.{arith}
+use Rattle.std.proofs.lemmas.Grind.{common_steps}
+use Rattle.std.proofs.lemmas.List.Elements.{All-push, All-same}
+use Rattle.book_reader.specs.Unplaced.{IsUnplacedLine}
+use Rattle.book_reader.proofs.draft_alerts.lines_in.Goals as goal
+
+pub loop-item-preserved : goal.loop-item-preserved
+loop-item-preserved c = record {
+  value = grind (arith, common_steps);
+  unplaced = All-same IsUnplacedLine c.push.new.self.items _ c.in_ok-push.ensures.items
+      (All-push IsUnplacedLine c.loop-item.lines.items c.in_ok-line_in.field-0 c.loop-item.invariant.unplaced c.in_ok-line_in.ensures.unplaced);
+}
