@@ -1,7 +1,5 @@
-use Rattle.std.proofs.Common.{◌≡◌, false, is_some, Ok, Err, Option, Result, refl, sym, ◌∙◌, ap}
+use Rattle.std.proofs.Common.{◌≡◌, false, is_some, Ok, Err, Result, sym, ◌∙◌, ap}
 use Rattle.std.specs.Result.{IfOk}
-use Rattle.std.specs.declared.alloc.AllocError.{AllocError}
-use Rattle.ecam_spec.specs.declared.kinds.BookFault.{BookFault}
 use Rattle.book_spec.specs.Document.{repeated_fault, table_fault}
 use Rattle.book_reader.specs.Catalogue.{table_in}
 use Rattle.book_reader.specs.FaultParts.{top_fault, rule_faults, before_names, after_names}

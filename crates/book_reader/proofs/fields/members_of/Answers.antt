@@ -1,4 +1,4 @@
-use Rattle.std.proofs.Common.{◌≡◌, ◌∙◌, sym, ap, rules}
+use Rattle.std.proofs.Common.{rules}
 use Rattle.book_reader.proofs.Items.{views_items}
 use Rattle.book_reader.proofs.fields.members_of.Goals as goal
 

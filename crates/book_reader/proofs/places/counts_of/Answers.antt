@@ -1,5 +1,5 @@
-use Rattle.std.proofs.Common.{◌≡◌, ◌<◌, length, ◌∙◌, sym, arith}
-use Rattle.book_reader.proofs.NamePlaces.{count_of-more, count_fits}
+use Rattle.std.proofs.Common.{◌<◌, length, ◌∙◌, sym, arith}
+use Rattle.book_reader.proofs.NamePlaces.{count_of-more}
 use Rattle.book_reader.proofs.places.counts_of.Goals as goal
 
 pub loop-name-preserved : goal.loop-name-preserved

@@ -1,4 +1,4 @@
-use Rattle.std.proofs.Common.{◌≡◌, ◌<◌, length, ◌∙◌, sym, arith}
+use Rattle.std.proofs.Common.{◌<◌, length, ◌∙◌, sym, arith}
 use Rattle.book_reader.proofs.NamePlaces.{place_of-more}
 use Rattle.book_reader.proofs.places.places_of.Goals as goal
 

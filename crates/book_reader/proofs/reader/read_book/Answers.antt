@@ -1,10 +1,8 @@
-use Rattle.std.proofs.Common.{◌≡◌, Some, None, Ok, Err, IfOk, Result, List, ℕ, ◌≤◌, length, ◌∙◌, sym, ap, subst, arith}
+use Rattle.std.proofs.Common.{◌≡◌, Some, None, Ok, Err, IfOk, Result, List, ℕ, ◌≤◌, length, ◌∙◌, sym, ap, arith}
 use Rattle.std.proofs.lemmas.Result.{err_from_is_err_and}
 use Rattle.toml.specs.View.{table_view}
 use Rattle.toml.specs.Data.{Members}
-use Rattle.ecam_spec.specs.Draft as plain
 use Rattle.ecam_spec.specs.Sound.{IsSound}
-use Rattle.ecam_spec.specs.declared.kinds.BookFault.{BookFault}
 use Rattle.book_model.specs.View.{draft_of}
 use Rattle.book_model.specs.declared.draft.Draft.{Draft}
 use Rattle.book_model.specs.declared.error.LoadError.{LoadError}

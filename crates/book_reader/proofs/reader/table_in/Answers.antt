@@ -1,7 +1,6 @@
-use Rattle.std.proofs.Common.{◌≡◌, true, Ok, Err, ◌∙◌, sym}
+use Rattle.std.proofs.Common.{◌≡◌, true, ◌∙◌}
 use Rattle.toml.specs.Errors.{IsMemory}
 use Rattle.book_model.specs.declared.error.LoadError.TheVariants.{Fault}
-use Rattle.book_spec.specs.BookBytes.{top_fault}
 use Rattle.book_reader.proofs.BookText.{parsed, unparsed}
 use Rattle.book_reader.proofs.reader.table_in.Goals as goal
 
