@@ -43,6 +43,14 @@ draft-front bytes =
           long-draft (take 4194305 bytes) (omega (arith, long, length-take 4194305 bytes)) ∙ sym (long-draft bytes (omega (arith, long)))
     ]
 
+-- a draft is as short as a book may be
+pub draft-short : (bytes : Text) (d : Draft) → draft_of_bytes bytes ≡ Some d → length bytes ≤ 4194304
+draft-short bytes d is =
+    elim (leb_tells (length bytes) 4194304) [
+      | inl (_, short) ↦ short
+      | inr (_, long) ↦ let none = long-draft bytes (omega (arith, long)) in absurd (let w : ⊥ = cc in w)
+    ]
+
 -- so are its fault, and the book that it is
 pub book-front : (bytes : Text) → book (take 4194305 bytes) ≡ book bytes
 unfolding book

@@ -1,5 +1,5 @@
 -- How the commands end, from how their steps do.
-use Rattle.std.proofs.Common.{◌≡◌, ℕ, ◌≤◌, Option, Some, None, Err, IsSomeAnd, sym, subst, inl, inr, arith}
+use Rattle.std.proofs.Common.{◌≡◌, ℕ, ◌≤◌, [], Option, Some, None, Err, IsSomeAnd, sym, subst, inl, inr, arith}
 use Rattle.ecam_io.specs.Outside.{raised, Rose, FileHas, AppendedPrefix, IsKept}
 use Rattle.ecam_io.proofs.Calls.{Rose-earlier, FileHas-weaker}
 use Rattle.ecam_spec.specs.Book.{Text, Book}
@@ -25,10 +25,10 @@ Has-weaker of files name P Q then = FileHas-weaker files name (λ bytes. IsSomeA
   each None h = h
   each (Some b) h = then b h
 
-module _ (files : Files) (opens opens' faults faults' : ℕ) {S : Type 0} (agrees : S → Text → Type 0) (out_faults out_faults' : ℕ) (old new : S) where
+module _ (files : Files) (opens opens' faults faults' : ℕ) (left : Option Text) {S : Type 0} (agrees : S → Text → Type 0) (out_faults out_faults' : ℕ) (old new : S) where
   -- no book was loaded to be checked
-  pub unchecked : (book : Text) (outcome : Outcome) → Loads files book faults faults' (Err outcome) → opens' ≡ raised opens → IsKept agrees old new
-      → Checks files opens opens' faults faults' agrees out_faults out_faults' old new book outcome
+  pub unchecked : (book : Text) (outcome : Outcome) → Loads files book faults faults' left (Err outcome) → opens' ≡ raised opens → IsKept agrees old new
+      → Checks files opens opens' faults faults' left agrees out_faults out_faults' old new book outcome
   unchecked book (outcomes.BookRefused f) is once kept = (is, kept)
   unchecked book outcomes.ReadFault refused once kept = (refused, kept)
   unchecked book outcomes.NoMemory loads once kept = (omega (arith, once), kept)
@@ -38,8 +38,9 @@ module _ (files : Files) (opens opens' faults faults' : ℕ) {S : Type 0} (agree
   unchecked book outcomes.WriteFault loads once kept = absurd loads
 
 -- what is known of a loaded book holds of the book that its file is
-pub of-file : (files : Files) (name : Text) (x : Book) (P : Book → Type 0) → P x → BookHas files name (λ b. b ≡ x) → BookHas files name P
-of-file files name x P so = Has-weaker book files name (λ b. b ≡ x) P (λ b is. subst P (sym is) so)
+pub of-file : (files : Files) (name : Text) (left : Option Text) (x : Book) (P : Book → Type 0) → P x
+    → BookHas files name (λ b. (b ≡ x) × (left ≡ Some [])) → BookHas files name (λ b. P b × (left ≡ Some []))
+of-file files name left x P so = Has-weaker book files name (λ b. (b ≡ x) × (left ≡ Some [])) (λ b. P b × (left ≡ Some [])) (λ b is. (subst P (sym is.0) so, is.1))
 
 module _ (files : Files) (opens mid_opens opens' faults mid_faults faults' : ℕ) (left : Option Text) {S : Type 0} (agrees : S → Text → Type 0) (out_faults out_faults' : ℕ) (old new : S) where
   -- a book was loaded, and a replay by it ended

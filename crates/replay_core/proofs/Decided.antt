@@ -107,7 +107,7 @@ module _ (told : List (Text × Text)) where
         does faultless outcomes.NoMemory has = inr refl
 
     abbrev Checking : Text → Outcome → Type 0
-    Checking = Checks (Some told) opens opens' faults faults' agrees out_faults out_faults' old new
+    Checking = Checks (Some told) opens opens' faults faults' left agrees out_faults out_faults' old new
 
     module _ (name bytes : Text) (there : file_named told name ≡ Some bytes) where
       -- the book has a fault
@@ -126,7 +126,7 @@ module _ (told : List (Text × Text)) where
       checks faultless outcomes.Done has = inl refl
       checks faultless outcomes.Usage never = absurd never
       checks faultless (outcomes.BookRefused g) has =
-          let some = file-is name bytes (λ bytes. book_fault bytes ≡ Some g) there has.0 in
+          let some = (file-is name bytes _ there has.0).fault_is in
           let never : ⊥ = cc in absurd never
       checks faultless (outcomes.RecordRefused g) never = absurd never
       checks faultless outcomes.ReadFault (inl rose, _) = absurd (quiet rose)

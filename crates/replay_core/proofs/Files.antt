@@ -1,24 +1,49 @@
 -- The first bytes of a file.
-use Rattle.std.proofs.Common.{◌≡◌, ℕ, ◌≤◌, List, [], ◌++◌, Option, Some, None, length, take, sym, ap, ◌∙◌, subst, arith, append-nil}
-use Rattle.std.specs.Prelude.{IfSome}
+use Rattle.std.proofs.Common.{◌≡◌, ◌≤◌, ◌<◌, [], ◌++◌, Option, Some, Result, Ok, Err, length, take, sym, ap, ◌∙◌, subst, inl, inr, arith, append-nil}
+use Rattle.std.specs.Prelude.{IfOk}
 use Rattle.std.specs.Io.KnownBytes.{Consumes, IsAtEnd}
 use Rattle.std.proofs.KnownBytes.{Consumes-trans}
 use Rattle.std.proofs.lemmas.List.{take_all, take-append-le}
+use Rattle.std.proofs.lemmas.Bool.Decides.{leb_tells}
+use Rattle.ecam_io.specs.Outside.{FileHas}
+use Rattle.ecam_io.proofs.Calls.{FileHas-weaker}
+use Rattle.ecam_spec.specs.Book.{Text}
+use Rattle.replay_core.specs.Loading.{Files, IsFront, TookAtMost}
+use Rattle.replay_core.proofs.Endings.{told}
 
 -- enough bytes came
-pub taken-enough : (left now : Option (List ℕ)) (v : List ℕ) (n : ℕ) → Consumes left now v → length v ≡ n → IfSome left (λ l. v ≡ take n l)
-taken-enough None now v n came many = tt
-taken-enough (Some l) None v n came many = absurd came
-taken-enough (Some l) (Some rest) v n came many =
-    sym (ap (take n) came ∙ take-append-le n v rest (omega arith) ∙ take_all n v (omega arith))
+pub front-enough : (left now : Option Text) (v : Text) → Consumes left now v → length v ≡ 4194305 → (bytes : Text) → left ≡ Some bytes → IsFront bytes v now
+front-enough left now v came many bytes is =
+    let split = told bytes left now v is came in
+    record { behind = split.0; parts = split.2; rest = split.1; few = omega (arith, many); whole = λ short. absurd (let w : ⊥ = omega (arith, many, short) in w) }
 
 -- all bytes came, and no more
-pub taken-end : (left mid now : Option (List ℕ)) (v none : List ℕ) (n : ℕ) → Consumes left mid v → Consumes mid now none → none ≡ [] → IsAtEnd now → length v ≤ n
-    → IfSome left (λ l. v ≡ take n l)
-taken-end left mid now v none n came last nothing end few =
-    all left now (subst (λ bytes. Consumes left now bytes) (ap (λ bytes. v ++ bytes) nothing ∙ append-nil v) (Consumes-trans left mid now v none came last)) end where
-      all : (left now : Option (List ℕ)) → Consumes left now v → IsAtEnd now → IfSome left (λ l. v ≡ take n l)
-      all None now came end = tt
-      all (Some l) None came end = absurd came
-      all (Some l) (Some rest) came end =
-          sym (ap (take n) (came ∙ ap (λ bytes. v ++ bytes) end ∙ append-nil v) ∙ take_all n v few)
+pub front-whole : (left mid now : Option Text) (v none : Text) → Consumes left mid v → Consumes mid now none → none ≡ [] → IsAtEnd now → length v ≤ 4194305
+    → (bytes : Text) → left ≡ Some bytes → IsFront bytes v now
+front-whole left mid now v none came last nothing end few bytes is =
+    let all = subst (λ more. Consumes left now more) (ap (λ more. v ++ more) nothing ∙ append-nil v) (Consumes-trans left mid now v none came last) in
+    let split = told bytes left now v is all in
+    record { behind = split.0; parts = split.2; rest = split.1; few = few; whole = λ short. subst IsAtEnd split.1 end }
+
+-- the front of an opened file
+pub file-front : {V E : Type 0} (files : Files) (name : Text) (left : Option Text) (P : Text → V → Type 0) (r : Result V E) → FileHas files name (λ bytes. left ≡ Some bytes)
+    → IfOk r (λ v. (bytes : Text) → left ≡ Some bytes → P bytes v) → IfOk r (λ v. FileHas files name (λ bytes. P bytes v))
+file-front files name left P (Ok v) found front = FileHas-weaker files name (λ bytes. left ≡ Some bytes) (λ bytes. P bytes v) front found
+file-front files name left P (Err e) found front = tt
+
+module _ (bytes v : Text) (left : Option Text) (front : IsFront bytes v left) where
+  -- it is as long as a book may be and one byte more, where the file is so long
+  pub front-is : v ≡ take 4194305 bytes
+  front-is =
+      sym (ap (take 4194305) front.parts
+      ∙ (elim (leb_tells 4194305 (length v)) [
+        | inl (_, enough) ↦ take-append-le 4194305 v front.behind enough ∙ take_all 4194305 v front.few
+        | inr (_, short) ↦ ap (λ more. take 4194305 (v ++ more)) (front.whole short) ∙ ap (take 4194305) (append-nil v) ∙ take_all 4194305 v front.few
+      ]))
+
+  pub front-took : TookAtMost 4194305 bytes left
+  front-took = record { taken = v; behind = front.behind; parts = front.parts; rest = front.rest; few = front.few }
+
+  -- a shorter one is the whole file
+  pub front-spent : length v < 4194305 → left ≡ Some []
+  front-spent short = front.rest ∙ ap Some (front.whole short)

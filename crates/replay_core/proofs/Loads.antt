@@ -1,5 +1,5 @@
 -- How loading a book ends, from how its steps do.
-use Rattle.std.proofs.Common.{◌≡◌, ℕ, true, false, take, Option, Some, None, Err, IsSomeAnd, refl, sym, ap, ◌∙◌, subst}
+use Rattle.std.proofs.Common.{◌≡◌, ℕ, true, false, [], Option, Some, None, Err, IsSomeAnd, refl, sym, ap, ◌∙◌, subst, arith}
 use Rattle.ecam_io.specs.Outside.{FileHas}
 use Rattle.ecam_io.proofs.Calls.{FileHas-weaker}
 use Rattle.ecam_spec.specs.declared.kinds.BookFault.{BookFault}
@@ -9,21 +9,23 @@ use Rattle.ecam_spec.specs.DraftFaults.{draft_fault}
 use Rattle.ecam_spec.specs.Titles.{is_title_book}
 use Rattle.book_spec.specs.BookBytes.{draft_of_bytes, book_fault, book}
 use Rattle.replay_core.specs.Replayed.{unbuilt, replayed, replay_fault, taken}
-use Rattle.replay_core.specs.Loading.{Files, BookHas, ReplayedHas, Loads, Prepares, Readies}
+use Rattle.replay_core.specs.Loading.{Files, BookHas, ReplayedHas, IsFront, HasFault, Loads, Prepares, Readies}
 use Rattle.replay_core.specs.declared.outcome.Outcome.{Outcome}
 use Rattle.replay_core.specs.declared.outcome.Outcome.TheVariants as outcomes
-use Rattle.replay_core.proofs.BookFacts.{book-front, book_fault-front, seals, replayed-titles, unbuilt-told, fault-told}
+use Rattle.replay_core.proofs.BookFacts.{draft-short, book-front, book_fault-front, seals, replayed-titles, unbuilt-told, fault-told}
+use Rattle.replay_core.proofs.Files.{front-is, front-took, front-spent}
 
 -- ---- a book's file is read as far as a book may go, and that tells what the whole file is
 
-module _ (files : Files) (name v : Text) (read : FileHas files name (λ bytes. v ≡ take 4194305 bytes)) where
-  pub file-refused : (f : BookFault) → book_fault v ≡ Some f → FileHas files name (λ bytes. book_fault bytes ≡ Some f)
-  file-refused f is = FileHas-weaker files name (λ bytes. v ≡ take 4194305 bytes) (λ bytes. book_fault bytes ≡ Some f)
-      (λ bytes part. sym (ap book_fault part ∙ book_fault-front bytes) ∙ is) read
+module _ (files : Files) (name v : Text) (left : Option Text) (read : FileHas files name (λ bytes. IsFront bytes v left)) where
+  pub file-refused : (f : BookFault) → book_fault v ≡ Some f → FileHas files name (λ bytes. HasFault bytes f left)
+  file-refused f is = FileHas-weaker files name (λ bytes. IsFront bytes v left) (λ bytes. HasFault bytes f left)
+      (λ bytes front. record { fault_is = sym (ap book_fault (front-is bytes v left front) ∙ book_fault-front bytes) ∙ is; took = front-took bytes v left front }) read
 
-  pub file-sealed : (d : Draft) (b : Book) → draft_of_bytes v ≡ Some d → draft_fault d ≡ None → b ≡ book_of d → BookHas files name (λ x. x ≡ b)
-  file-sealed d b drafted faultless is = FileHas-weaker files name (λ bytes. v ≡ take 4194305 bytes) (λ bytes. IsSomeAnd (book bytes) (λ x. x ≡ b))
-      (λ bytes part. subst (λ o. IsSomeAnd o (λ x. x ≡ b)) (sym (seals v d drafted faultless) ∙ ap book part ∙ book-front bytes) (sym is)) read
+  pub file-sealed : (d : Draft) (b : Book) → draft_of_bytes v ≡ Some d → draft_fault d ≡ None → b ≡ book_of d → BookHas files name (λ x. (x ≡ b) × (left ≡ Some []))
+  file-sealed d b drafted faultless is = FileHas-weaker files name (λ bytes. IsFront bytes v left) (λ bytes. IsSomeAnd (book bytes) (λ x. (x ≡ b) × (left ≡ Some [])))
+      (λ bytes front. subst (λ o. IsSomeAnd o (λ x. (x ≡ b) × (left ≡ Some []))) (sym (seals v d drafted faultless) ∙ ap book (front-is bytes v left front) ∙ book-front bytes)
+      (sym is, front-spent bytes v left front (omega (arith, draft-short v d drafted)))) read
 
 -- ---- what a replay takes
 
@@ -31,7 +33,13 @@ some-is : (o : Option Book) (b : Book) → IsSomeAnd o (λ x. x ≡ b) → o ≡
 some-is None b has = absurd has
 some-is (Some x) b has = ap Some has
 
-module _ (files : Files) (name : Text) (b : Book) (has : BookHas files name (λ x. x ≡ b)) where
+module _ (files : Files) (name : Text) (b : Book) (left : Option Text) (loads : BookHas files name (λ x. (x ≡ b) × (left ≡ Some []))) where
+  has : BookHas files name (λ x. x ≡ b)
+  has = FileHas-weaker files name (λ bytes. IsSomeAnd (book bytes) (λ x. (x ≡ b) × (left ≡ Some []))) (λ bytes. IsSomeAnd (book bytes) (λ x. x ≡ b)) (λ bytes. each (book bytes)) loads where
+    each : (o : Option Book) → IsSomeAnd o (λ x. (x ≡ b) × (left ≡ Some [])) → IsSomeAnd o (λ x. x ≡ b)
+    each None h = h
+    each (Some x) h = h.0
+
   pub ready : is_title_book b ≡ true → ReplayedHas files name (λ x. x ≡ b)
   ready titles = FileHas-weaker files name (λ bytes. IsSomeAnd (book bytes) (λ x. x ≡ b)) (λ bytes. IsSomeAnd (replayed bytes) (λ x. x ≡ b))
       (λ bytes is. subst (λ o. IsSomeAnd o (λ x. x ≡ b)) (sym (replayed-titles (book bytes) b (some-is (book bytes) b is) titles)) refl) has
@@ -51,12 +59,12 @@ module _ (files : Files) (name : Text) (b : Book) (has : BookHas files name (λ 
   unprepared before now outcomes.WriteFault never = absurd never
 
 -- without a book no replay is ready
-pub unready : (files : Files) (name : Text) (before now : ℕ) (outcome : Outcome) → Loads files name before now (Err outcome) → Readies files name before now (Err outcome)
-unready files name before now (outcomes.BookRefused f) is = FileHas-weaker files name (λ bytes. book_fault bytes ≡ Some f) (λ bytes. replay_fault bytes ≡ Some f)
-    (λ bytes faulty. fault-told bytes f faulty) is
-unready files name before now outcomes.ReadFault refused = refused
-unready files name before now outcomes.NoMemory loads = tt
-unready files name before now outcomes.Done loads = absurd loads
-unready files name before now outcomes.Usage loads = absurd loads
-unready files name before now (outcomes.RecordRefused f) loads = absurd loads
-unready files name before now outcomes.WriteFault loads = absurd loads
+pub unready : (files : Files) (name : Text) (before now : ℕ) (left : Option Text) (outcome : Outcome) → Loads files name before now left (Err outcome) → Readies files name before now (Err outcome)
+unready files name before now left (outcomes.BookRefused f) is = FileHas-weaker files name (λ bytes. HasFault bytes f left) (λ bytes. replay_fault bytes ≡ Some f)
+    (λ bytes faulty. fault-told bytes f faulty.fault_is) is
+unready files name before now left outcomes.ReadFault refused = refused
+unready files name before now left outcomes.NoMemory loads = tt
+unready files name before now left outcomes.Done loads = absurd loads
+unready files name before now left outcomes.Usage loads = absurd loads
+unready files name before now left (outcomes.RecordRefused f) loads = absurd loads
+unready files name before now left outcomes.WriteFault loads = absurd loads

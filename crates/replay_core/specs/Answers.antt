@@ -10,7 +10,7 @@ use Rattle.ecam_spec.specs.Command.{Command, command_of, check, replay}
 use Rattle.ecam_spec.specs.Stage.{events_read, fault_read, reply_read}
 use Rattle.book_spec.specs.BookBytes.{book_fault}
 use Rattle.replay_core.specs.Replayed.{replay_fault}
-use Rattle.replay_core.specs.Loading.{Files, BookHas, ReplayedHas}
+use Rattle.replay_core.specs.Loading.{Files, BookHas, ReplayedHas, HasFault}
 use Rattle.replay_core.specs.declared.outcome.Status.{Status}
 use Rattle.replay_core.specs.declared.outcome.Status.TheVariants as statuses
 use Rattle.replay_core.specs.declared.outcome.Outcome.{Outcome}
@@ -18,15 +18,15 @@ use Rattle.replay_core.specs.declared.outcome.Outcome.TheVariants as outcomes
 
 -- ---- a check
 
-module _ (files : Files) (opens opens' faults faults' : ℕ) {S : Type 0} (agrees : S → Text → Type 0) (out_faults out_faults' : ℕ) (old new : S) where
-  -- how the check of a book's file ends
+module _ (files : Files) (opens opens' faults faults' : ℕ) (left : Option Text) {S : Type 0} (agrees : S → Text → Type 0) (out_faults out_faults' : ℕ) (old new : S) where
+  -- how the check of a book's file ends; `left` is what the file has left
   abbrev pub Checks : Text → Outcome → Type 0
-  Checks book outcomes.Done = BookHas files book (λ b. Appended agrees old new (summary b))
+  Checks book outcomes.Done = BookHas files book (λ b. Appended agrees old new (summary b) × (left ≡ Some []))
   Checks book outcomes.Usage = ⊥
-  Checks book (outcomes.BookRefused f) = FileHas files book (λ bytes. book_fault bytes ≡ Some f) × IsKept agrees old new
+  Checks book (outcomes.BookRefused f) = FileHas files book (λ bytes. HasFault bytes f left) × IsKept agrees old new
   Checks book (outcomes.RecordRefused f) = ⊥
   Checks book outcomes.ReadFault = MayRefuse files book faults faults' × IsKept agrees old new
-  Checks book outcomes.WriteFault = Rose out_faults out_faults' × BookHas files book (λ b. AppendedPrefix agrees old new (summary b))
+  Checks book outcomes.WriteFault = Rose out_faults out_faults' × BookHas files book (λ b. AppendedPrefix agrees old new (summary b) × (left ≡ Some []))
   Checks book outcomes.NoMemory = (opens' ≤ opens + 1) × IsKept agrees old new
 
 -- ---- a replay
@@ -94,7 +94,7 @@ module _ (files : Files) (opens opens' faults faults' : ℕ) (left : Option Text
   -- how the program ends that has these words
   abbrev pub Ends : Option Command → Outcome → Type 0
   Ends None outcome = (outcome ≡ outcomes.Usage) × (opens' ≡ opens) × (faults' ≡ faults) × (old ≡ new)
-  Ends (Some (check book)) outcome = Checks files opens opens' faults faults' agrees out_faults out_faults' old new book outcome × (opens' ≡ raised opens)
+  Ends (Some (check book)) outcome = Checks files opens opens' faults faults' left agrees out_faults out_faults' old new book outcome × (opens' ≡ raised opens)
   Ends (Some (replay book record' limit)) outcome = Replays book record' limit outcome
 
 -- ---- which ending must come

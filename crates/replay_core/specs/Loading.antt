@@ -1,6 +1,7 @@
 -- How loading a book ends, each ending with its cause.
-use Rattle.std.specs.Prelude.{◌≡◌, ℕ, true, false, List, [], Option, Some, Result, Ok, Err, IsSomeAnd}
+use Rattle.std.specs.Prelude.{◌≡◌, ℕ, ◌≤◌, ◌<◌, ◌++◌, length, true, false, List, [], Option, Some, Result, Ok, Err, IsSomeAnd}
 use Rattle.ecam_io.specs.Outside.{FileHas, MayRefuse}
+use Rattle.ecam_spec.specs.declared.kinds.BookFault.{BookFault}
 use Rattle.ecam_spec.specs.Book.{Text, Book}
 use Rattle.ecam_spec.specs.Titles.{is_title_book, IsTitleBook}
 use Rattle.book_spec.specs.BookBytes.{book_fault, book}
@@ -25,16 +26,37 @@ BookHas files name P = FileHas files name (λ bytes. IsSomeAnd (book bytes) P)
 abbrev pub ReplayedHas : Files → Text → (Book → Type 0) → Type 0
 ReplayedHas files name P = FileHas files name (λ bytes. IsSomeAnd (replayed bytes) P)
 
--- how loading a book ends, where the shelf's count of faults was `before` and is `now`
-abbrev pub Loads : Files → Text → ℕ → ℕ → Result Draft Outcome → Type 0
-Loads files name before now (Ok d) = BookHas files name (λ b. b ≡ the_book d)
-Loads files name before now (Err (outcomes.BookRefused f)) = FileHas files name (λ bytes. book_fault bytes ≡ Some f)
-Loads files name before now (Err outcomes.ReadFault) = MayRefuse files name before now
-Loads files name before now (Err outcomes.NoMemory) = Unit {0}
-Loads files name before now (Err outcomes.Done) = ⊥
-Loads files name before now (Err outcomes.Usage) = ⊥
-Loads files name before now (Err (outcomes.RecordRefused f)) = ⊥
-Loads files name before now (Err outcomes.WriteFault) = ⊥
+-- the first bytes of a file, up to one more than a book may have, and what is left behind them; fewer come only where nothing is
+pub record IsFront (bytes front : Text) (left : Option Text) : Type 0 where
+  pub behind : Text
+  pub parts : bytes ≡ front ++ behind
+  pub rest : left ≡ Some behind
+  pub few : length front ≤ 4194305
+  pub whole : length front < 4194305 → behind ≡ []
+
+-- of a file with these bytes at most so many were taken, those before what is left
+pub record TookAtMost (most : ℕ) (bytes : Text) (left : Option Text) : Type 0 where
+  pub taken : Text
+  pub behind : Text
+  pub parts : bytes ≡ taken ++ behind
+  pub rest : left ≡ Some behind
+  pub few : length taken ≤ most
+
+-- the bytes of a book's file have this fault, and it was read no further than one byte more than a book may have
+pub record HasFault (bytes : Text) (f : BookFault) (left : Option Text) : Type 0 where
+  pub fault_is : book_fault bytes ≡ Some f
+  pub took : TookAtMost 4194305 bytes left
+
+-- how loading a book ends, where the shelf's count of faults was `before` and is `now`, and `left` is what the file has left
+abbrev pub Loads : Files → Text → ℕ → ℕ → Option Text → Result Draft Outcome → Type 0
+Loads files name before now left (Ok d) = BookHas files name (λ b. (b ≡ the_book d) × (left ≡ Some []))
+Loads files name before now left (Err (outcomes.BookRefused f)) = FileHas files name (λ bytes. HasFault bytes f left)
+Loads files name before now left (Err outcomes.ReadFault) = MayRefuse files name before now
+Loads files name before now left (Err outcomes.NoMemory) = Unit {0}
+Loads files name before now left (Err outcomes.Done) = ⊥
+Loads files name before now left (Err outcomes.Usage) = ⊥
+Loads files name before now left (Err (outcomes.RecordRefused f)) = ⊥
+Loads files name before now left (Err outcomes.WriteFault) = ⊥
 
 -- how making a replay by a book ends
 abbrev pub Prepares : Book → Result Replay Outcome → Type 0

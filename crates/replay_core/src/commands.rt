@@ -70,7 +70,7 @@ fn answer<F: Shelf, O: Sink>(alloc: Global, words: &[String], files: &mut F, out
 
 // Checks the book of a file, and writes how much it has.
 fn check_file<F: Shelf, O: Sink>(alloc: Global, name: &str, files: &mut F, out: &mut O) -> Outcome
-    ensures checks { Checks (F.files files.old) (F.opens files.old) (F.opens files.new) (F.faults files.old) (F.faults files.new) O.agrees (O.faults out.old) (O.faults out.new) out.old out.new
+    ensures checks { Checks (F.files files.old) (F.opens files.old) (F.opens files.new) (F.faults files.old) (F.faults files.new) (F.left files.new) O.agrees (O.faults out.old) (O.faults out.new) out.old out.new
         name.now result }
     ensures opens { F.opens files.new ≡ raised (F.opens files.old) }
     ensures files { F.files files.new ≡ F.files files.old }

@@ -1,6 +1,8 @@
 // Reads a file whole, as far as a book may go.
-ghost use Rattle.std.specs.Prelude.{◌≡◌, ◌≤◌, ◌<◌, ◌+◌, length, take, IfOk, IfSome, Err};
+ghost use Rattle.std.specs.Prelude.{◌≡◌, ◌≤◌, ◌<◌, ◌+◌, length, IfOk, Some, Err};
 ghost use Rattle.ecam_io.specs.Outside.{raised, Rose, FileHas, MayRefuse};
+ghost use Rattle.ecam_spec.specs.Book.{Text};
+ghost use Rattle.replay_core.specs.Loading.{IsFront};
 ghost use Rattle.replay_core.specs.declared.file.FileError.{FileError};
 ghost use Rattle.replay_core.specs.declared.file.FileError.TheVariants.{Failed as Unreadable, Memory};
 
@@ -41,7 +43,7 @@ pub(crate) fn read_book_file<F: Shelf>(
     files: &mut F,
     name: &str,
 ) -> Result<Vec<u8>, FileError>
-    ensures bytes { IfOk result (λ v. FileHas (F.files files.old) name.now (λ bytes. v.items ≡ take ENOUGH bytes)) }
+    ensures front { IfOk result (λ v. FileHas (F.files files.old) name.now (λ bytes. IsFront bytes v.items (F.left files.new))) }
     ensures failed { result ≡ Err Unreadable → MayRefuse (F.files files.old) name.now (F.faults files.old) (F.faults files.new) }
     ensures files { F.files files.new ≡ F.files files.old }
     ensures opens { F.opens files.new ≡ raised (F.opens files.old) }
@@ -53,7 +55,7 @@ pub(crate) fn read_book_file<F: Shelf>(
 
 // The first bytes that a source has left.
 fn read_up_to<S: Source>(alloc: Global, source: &mut S) -> Result<Vec<u8>, FileError>
-    ensures bytes { IfOk result (λ v. IfSome (S.left source.old) (λ left. v.items ≡ take ENOUGH left)) }
+    ensures front { IfOk result (λ v. (bytes : Text) → S.left source.old ≡ Some bytes → IsFront bytes v.items (S.left source.new)) }
     ensures failed { result ≡ Err Unreadable → Rose (S.faults source.old) (S.faults source.new) }
     ensures files { S.files source.new ≡ S.files source.old }
     ensures opens { S.opens source.new ≡ S.opens source.old }
