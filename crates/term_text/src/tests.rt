@@ -20,7 +20,7 @@ enum Told {
     Memory,
 }
 
-const TEXTS: [(&str, Told); 141] = [
+const TEXTS: [(&str, Told); 147] = [
     // words
     ("true", Told::Read),
     (" false ", Told::Read),
@@ -30,6 +30,7 @@ const TEXTS: [(&str, Told); 141] = [
     ("", Told::Syntax(0)),
     ("   ", Told::Syntax(3)),
     ("true false", Told::Syntax(5)),
+    ("g_lo any", Told::Syntax(5)),
     ("g_lo pump_off", Told::Syntax(5)),
     ("true(1)", Told::Syntax(4)),
     ("TRUE", Told::Syntax(0)),
@@ -51,6 +52,7 @@ const TEXTS: [(&str, Told); 141] = [
     ("g_lo<-0", Told::Read),
     ("g_lo < ", Told::Syntax(7)),
     ("g_lo < g_lo", Told::Syntax(7)),
+    ("g_lo < latch", Told::Syntax(7)),
     ("g_lo < -", Told::Syntax(7)),
     ("g_lo < - 1", Told::Syntax(7)),
     ("g_lo ! 1", Told::Syntax(5)),
@@ -83,6 +85,7 @@ const TEXTS: [(&str, Told); 141] = [
     ("phase(1,11)", Told::Number(8)),
     ("phase(-1)", Told::Number(6)),
     ("phase()", Told::Syntax(6)),
+    ("phase(atleast)", Told::Syntax(6)),
     ("phase(1,)", Told::Syntax(8)),
     ("phase(1 2)", Told::Syntax(8)),
     ("phase", Told::Syntax(5)),
@@ -92,6 +95,7 @@ const TEXTS: [(&str, Told); 141] = [
     ("alert hyd", Told::Syntax(6)),
     ("alert(7)", Told::Syntax(6)),
     ("alert(alert)", Told::Syntax(6)),
+    ("alert(false)", Told::Syntax(6)),
     // press
     ("press(CLR)", Told::Read),
     ("press(ALL)", Told::Read),
@@ -101,6 +105,7 @@ const TEXTS: [(&str, Told); 141] = [
     ("press(PG01)", Told::Syntax(6)),
     ("press(clr)", Told::Syntax(6)),
     ("press(all)", Told::Syntax(6)),
+    ("press(press)", Told::Syntax(6)),
     // fwc
     ("fwc(1)", Told::Read),
     ("fwc(02)", Told::Read),
@@ -108,6 +113,7 @@ const TEXTS: [(&str, Told); 141] = [
     ("fwc(3)", Told::Number(4)),
     ("fwc(-1)", Told::Number(4)),
     ("fwc(g_lo)", Told::Syntax(4)),
+    ("fwc(hold)", Told::Syntax(4)),
     ("fwc < 1", Told::Syntax(4)),
     // not, rise
     ("not(g_lo)", Told::Read),
