@@ -157,8 +157,8 @@ pub enum Section {
     Memo,
 }
 
-/// What is wrong with a book: the fault's code, 1 to 26, the section in which it stands, and the item of the
-/// section, counted from 1, or 0 for the section as a whole.
+/// What is wrong with a book: the fault's code, 1 to 26, or 0 for a book without a fault that isn't replayed; the
+/// section in which it stands; and the item of the section, counted from 1, or 0 for the section as a whole.
 #[derive(Clone, Copy, Debug, PartialEq, Eq)]
 pub struct BookFault {
     pub code: u8,
