@@ -5,8 +5,8 @@ ghost use Rattle.toml.specs.View.{view, table_view};
 ghost use Rattle.book_model.specs.View.{bytes_of, phase_of, memo_of, draft_of};
 ghost use Rattle.book_spec.specs.Document.{names_of};
 ghost use Rattle.book_spec.specs.DraftOf as spec;
-ghost use Rattle.book_reader.specs.Reading.{views};
-ghost use Rattle.book_reader.specs.Catalogue.{names_in};
+ghost use Rattle.book_tables.specs.Reading.{views};
+ghost use Rattle.book_tables.specs.Catalogue.{names_in};
 ghost use Rattle.book_reader.specs.Drafting.{phase_table};
 ghost use Rattle.book_reader.specs.Unplaced.{AreUnplacedPhases, IsUnplacedMemo, IsUnplaced};
 
@@ -15,9 +15,9 @@ use crate::draft_keys::{colour_or, is_left, name_or_none, table_or, text_or_none
 use crate::draft_pages::pages_in;
 use crate::draft_params::parameters_in;
 use crate::draft_terms::term_or;
-use crate::fields::{find, list_in, text_in};
-use crate::names::Catalogue;
 use book_model::{Draft, Memo, PhaseTerms, Text};
+use book_tables::Catalogue;
+use book_tables::fields::{find, list_in, text_in};
 use ecam_kinds::Colour;
 use std::alloc::{AllocError, Global};
 use toml::{Table, Value};

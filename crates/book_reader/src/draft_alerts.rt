@@ -3,8 +3,8 @@ ghost use Rattle.std.specs.Prelude.{◌≡◌, map, codes, unwrap_or, IfOk, All}
 ghost use Rattle.toml.specs.View.{view, table_view};
 ghost use Rattle.book_model.specs.View.{bytes_of, line_of, status_of, alert_of};
 ghost use Rattle.book_spec.specs.DraftOf as spec;
-ghost use Rattle.book_reader.specs.Reading.{views};
-ghost use Rattle.book_reader.specs.Catalogue.{names_in};
+ghost use Rattle.book_tables.specs.Reading.{views};
+ghost use Rattle.book_tables.specs.Catalogue.{names_in};
 ghost use Rattle.book_reader.specs.Drafting.{page_at, system_at};
 ghost use Rattle.book_reader.specs.Unplaced.{IsUnplacedLine, IsUnplacedAlert};
 
@@ -13,9 +13,9 @@ use crate::draft_keys::{
     text_or_none,
 };
 use crate::draft_terms::term_or;
-use crate::fields::{list_in, string_at};
-use crate::names::Catalogue;
 use book_model::{Alert, Line, Name, StatusLine};
+use book_tables::Catalogue;
+use book_tables::fields::{list_in, string_at};
 use ecam_kinds::{Colour, Level, Sound};
 use std::alloc::{AllocError, Global};
 use toml::{Table, Value};

@@ -7,13 +7,13 @@ ghost use Rattle.book_spec.specs.Fields.{label_at};
 ghost use Rattle.book_spec.specs.Schema.{colour_words, sound_words, section_words, zone_words, kind_at};
 ghost use Rattle.ecam_spec.specs.declared.kinds.Kind.TheVariants.{Disc};
 ghost use Rattle.book_spec.specs.DraftOf as spec;
-ghost use Rattle.book_reader.specs.Reading.{views};
+ghost use Rattle.book_tables.specs.Reading.{views};
 ghost use Rattle.book_reader.specs.Drafting.{set_of};
 
-use crate::fields::{label_at, list_in, name_at, number_at, number_from, string_at, text_at};
-use crate::words::{colour_of, kind_of, section_of, sound_of, zone_of};
 use bitflags::Flags;
 use book_model::{Name, Text};
+use book_tables::fields::{label_at, list_in, name_at, number_at, number_from, string_at, text_at};
+use book_tables::words::{colour_of, kind_of, section_of, sound_of, zone_of};
 use ecam_kinds::{Colour, Phase, PhaseSet, Sound};
 use ecam_spec::Kind;
 use toml::{Table, Value};

@@ -5,14 +5,14 @@ ghost use Rattle.ecam_spec.specs.Sound.{row_text_limit};
 ghost use Rattle.book_model.specs.View.{bytes_of, row_of, page_of};
 ghost use Rattle.book_spec.specs.Fields.{text_at};
 ghost use Rattle.book_spec.specs.DraftOf as spec;
-ghost use Rattle.book_reader.specs.Reading.{views};
-ghost use Rattle.book_reader.specs.Catalogue.{names_in};
+ghost use Rattle.book_tables.specs.Reading.{views};
+ghost use Rattle.book_tables.specs.Catalogue.{names_in};
 ghost use Rattle.book_reader.specs.Drafting.{parameter_at};
 
 use crate::draft_keys::{colour_or, name_or_none, phases_at, table_or, text_or_none};
-use crate::fields::{list_in, string_at, text_at};
-use crate::names::Catalogue;
 use book_model::{Page, PageRow};
+use book_tables::Catalogue;
+use book_tables::fields::{list_in, string_at, text_at};
 use ecam_kinds::Colour;
 use std::alloc::{AllocError, Global};
 use toml::{Table, Value};

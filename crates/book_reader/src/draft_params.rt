@@ -4,11 +4,11 @@ ghost use Rattle.toml.specs.View.{view, table_view};
 ghost use Rattle.book_model.specs.View.{source_of, parameter_of};
 ghost use Rattle.book_spec.specs.Fields.{number_at};
 ghost use Rattle.book_spec.specs.DraftOf as spec;
-ghost use Rattle.book_reader.specs.Reading.{views};
+ghost use Rattle.book_tables.specs.Reading.{views};
 
 use crate::draft_keys::{kind_or_discrete, label_or_none, name_or_none, number_or_least, table_or};
-use crate::fields::{list_in, number_at};
 use book_model::{From as Source, Param};
+use book_tables::fields::{list_in, number_at};
 use std::alloc::{AllocError, Global};
 use toml::{Table, Value};
 

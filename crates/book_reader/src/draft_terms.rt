@@ -6,14 +6,14 @@ ghost use Rattle.ecam_spec.specs.TermReading.{verdict};
 ghost use Rattle.term_tree.specs.View.{tree_of};
 ghost use Rattle.book_model.specs.View.{tree_in};
 ghost use Rattle.book_spec.specs.DraftOf as spec;
-ghost use Rattle.book_reader.specs.Catalogue.{names_in, term_names_in};
+ghost use Rattle.book_tables.specs.Catalogue.{names_in, term_names_in};
 ghost use Rattle.book_reader.specs.Drafting.{condition_text, condition_text_at};
 ghost use Rattle.book_reader.specs.Unplaced.{IsUnplacedTerm};
 
-use crate::fields::find;
-use crate::names::Catalogue;
-use crate::texts::is_term_text;
 use book_model::Term;
+use book_tables::Catalogue;
+use book_tables::fields::find;
+use book_tables::texts::is_term_text;
 use std::alloc::{AllocError, Global};
 use term_text::{TermError, read_term_by};
 use term_tree::Cond;

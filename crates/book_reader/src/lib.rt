@@ -7,18 +7,7 @@ mod draft_keys;
 mod draft_pages;
 mod draft_params;
 mod draft_terms;
-mod faults;
-mod fields;
-mod keys;
-mod names;
-mod places;
 mod reader;
-mod rules;
-mod searches;
-mod sections;
-mod tables;
-mod texts;
-mod words;
 
 pub use reader::{LONGEST, read_book};
 

@@ -8,14 +8,14 @@ ghost use Rattle.book_model.specs.declared.error.LoadError.TheVariants.{Fault};
 ghost use Rattle.book_spec.specs.BookBytes as spec;
 ghost use Rattle.book_spec.specs.DraftOf as plain;
 ghost use Rattle.book_spec.specs.Document.{list_in, table_fault};
-ghost use Rattle.book_reader.specs.Places.{HasFewItems};
+ghost use Rattle.book_tables.specs.Places.{HasFewItems};
 ghost use Rattle.book_reader.specs.Unplaced.{IsUnplaced};
 
 use crate::draft::draft_of;
-use crate::faults::table_fault;
-use crate::fields::list_in;
-use crate::names::Catalogue;
+use book_faults::table_fault;
 use book_model::{BookFault, Draft, LoadError, Section};
+use book_tables::Catalogue;
+use book_tables::fields::list_in;
 use std::alloc::Global;
 use toml::Table;
 

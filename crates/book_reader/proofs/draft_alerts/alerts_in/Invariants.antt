@@ -1,8 +1,8 @@
 use Rattle.std.proofs.Common.{◌≡◌, map, take, All}
 use Rattle.book_model.specs.View.{alert_of}
 use Rattle.book_spec.specs.DraftOf.{alert_in}
-use Rattle.book_reader.specs.Reading.{views}
-use Rattle.book_reader.specs.Catalogue.{names_in}
+use Rattle.book_tables.specs.Reading.{views}
+use Rattle.book_tables.specs.Catalogue.{names_in}
 use Rattle.book_reader.specs.Unplaced.{IsUnplacedAlert}
 use Rattle.book_reader.proofs.draft_alerts.alerts_in.Given as goal
 

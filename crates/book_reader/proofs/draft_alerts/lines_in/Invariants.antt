@@ -1,8 +1,8 @@
 use Rattle.std.proofs.Common.{◌≡◌, map, take, All}
 use Rattle.book_model.specs.View.{line_of}
 use Rattle.book_spec.specs.DraftOf.{line_in}
-use Rattle.book_reader.specs.Reading.{views}
-use Rattle.book_reader.specs.Catalogue.{names_in}
+use Rattle.book_tables.specs.Reading.{views}
+use Rattle.book_tables.specs.Catalogue.{names_in}
 use Rattle.book_reader.specs.Unplaced.{IsUnplacedLine}
 use Rattle.book_reader.proofs.draft_alerts.lines_in.Given as goal
 

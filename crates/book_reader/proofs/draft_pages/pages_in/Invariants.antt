@@ -1,8 +1,8 @@
 use Rattle.std.proofs.Common.{◌≡◌, map, take}
 use Rattle.book_model.specs.View.{page_of}
 use Rattle.book_spec.specs.DraftOf.{page_in}
-use Rattle.book_reader.specs.Reading.{views}
-use Rattle.book_reader.specs.Catalogue.{names_in}
+use Rattle.book_tables.specs.Reading.{views}
+use Rattle.book_tables.specs.Catalogue.{names_in}
 use Rattle.book_reader.proofs.draft_pages.pages_in.Given as goal
 
 abbrev pub invariant-loop-item : goal.invariant-loop-item

@@ -1,0 +1,270 @@
+// The first fault of a document's table.
+ghost use Rattle.std.specs.Prelude.{◌≡◌, ◌<◌, ◌^◌, length, codes, IfOk};
+ghost use Rattle.toml.specs.Data.{get_member};
+ghost use Rattle.toml.specs.View.{table_view};
+ghost use Rattle.ecam_spec.specs.Faults.{fault_at, whole};
+ghost use Rattle.book_spec.specs.Fields.{has_only};
+ghost use Rattle.book_spec.specs.Schema.{top_keys};
+ghost use Rattle.book_spec.specs.Document.{list_in};
+ghost use Rattle.book_spec.specs.Document as spec;
+ghost use Rattle.book_tables.specs.Catalogue.{table_in};
+ghost use Rattle.book_faults.specs.FaultParts.{system_fault, listed_fault, phase_fault, rule_faults, top_fault};
+
+use crate::searches::{first_repeated, place_among_items, place_among_leaves};
+use crate::sections::{ALERTS, Listed, MEMOS, PAGES, PARAMS};
+use crate::tables::item_breaks;
+use book_model::{BookFault, Section};
+use book_spec::{Item, Leaf, Rule};
+use book_tables::Catalogue;
+use book_tables::fields::{find, has_only, list_in, names_in, texts_in};
+use std::alloc::{AllocError, Global};
+use toml::Table;
+
+/// The most systems of a book, and the most bytes of each.
+const MOST_SYSTEMS: usize = 64;
+
+const SYSTEM_BYTES: usize = 16;
+
+/// The rules that are searched before names that stand twice, with their codes, and those after.
+const BEFORE_NAMES: [(u8, Rule); 7] = [
+    (4, Rule::Known),
+    (5, Rule::Needed),
+    (6, Rule::Typed),
+    (7, Rule::Named),
+    (8, Rule::Written),
+    (9, Rule::Ranged),
+    (10, Rule::Counted),
+];
+
+const AFTER_NAMES: [(u8, Rule); 8] = [
+    (12, Rule::Worded),
+    (13, Rule::Labelled),
+    (14, Rule::Paged),
+    (15, Rule::Grouped),
+    (16, Rule::Spelled),
+    (17, Rule::Found),
+    (18, Rule::Small),
+    (19, Rule::Measured),
+];
+
+fn fault_at(code: u8, section: Section, item: Option<u32>) -> Option<BookFault>
+    ensures { result ≡ fault_at code section item }
+{
+    match item {
+        Some(item) => Some(BookFault {
+            code,
+            section,
+            item,
+        }),
+        None => None,
+    }
+}
+
+fn whole(holds: bool) -> Option<u32>
+    ensures { result ≡ whole holds }
+{
+    if holds { Some(0) } else { None }
+}
+
+#[tactic(auto, using(book_tables::proofs::FewItems::few_members))]
+fn system_fault(
+    alloc: Global,
+    names: &Catalogue<'_>,
+    code: u8,
+    rule: Rule,
+) -> Result<Option<BookFault>, AllocError>
+    requires { length (list_in (codes "systems") (table_in names.now)) < 2 ^ 32 }
+    ensures { IfOk result (λ r. r ≡ system_fault (table_in names.now) code rule) }
+{
+    let Some(value) = find(names.top, "systems") else {
+        return Ok(None);
+    };
+    let text = Leaf::Text(SYSTEM_BYTES);
+    let item = place_among_leaves(alloc, rule, names, text, MOST_SYSTEMS, value)?;
+    Ok(fault_at(code, Section::System, item))
+}
+
+#[tactic(auto, using(book_tables::proofs::FewItems::few_members))]
+fn listed_fault(
+    alloc: Global,
+    names: &Catalogue<'_>,
+    code: u8,
+    rule: Rule,
+    listed: &Listed,
+) -> Result<Option<BookFault>, AllocError>
+    requires { length (list_in listed.now.key.now (table_in names.now)) < 2 ^ 32 }
+    ensures { IfOk result (λ r. r ≡ listed_fault (table_in names.now) code rule listed.now) }
+{
+    let Some(value) = find(names.top, listed.key) else {
+        return Ok(None);
+    };
+    let item = place_among_items(alloc, rule, names, listed.item, listed.most, value)?;
+    Ok(fault_at(code, listed.section, item))
+}
+
+fn phase_fault(
+    alloc: Global,
+    names: &Catalogue<'_>,
+    code: u8,
+    rule: Rule,
+) -> Result<Option<BookFault>, AllocError>
+    ensures { IfOk result (λ r. r ≡ phase_fault (table_in names.now) code rule) }
+{
+    let Some(value) = find(names.top, "phase") else {
+        return Ok(None);
+    };
+    let breaks = item_breaks(alloc, rule, names, Item::Phase, value)?;
+    Ok(fault_at(code, Section::Phase, whole(breaks)))
+}
+
+/// The first section that breaks a rule, and its first item.
+#[tactic(auto, using(book_tables::proofs::FewItems::system_items, book_tables::proofs::FewItems::page_items, book_tables::proofs::FewItems::parameter_items, book_tables::proofs::FewItems::alert_items), unfolding(book_spec::specs::Document::rule_fault))]
+fn rule_fault(
+    alloc: Global,
+    names: &Catalogue<'_>,
+    code: u8,
+    rule: Rule,
+) -> Result<Option<BookFault>, AllocError>
+    ensures { IfOk result (λ r. r ≡ spec.rule_fault (table_in names.now) code rule) }
+{
+    let fault = system_fault(alloc, names, code, rule)?;
+    if fault.is_some() {
+        return Ok(fault);
+    }
+    let fault = listed_fault(alloc, names, code, rule, &PAGES)?;
+    if fault.is_some() {
+        return Ok(fault);
+    }
+    let fault = listed_fault(alloc, names, code, rule, &PARAMS)?;
+    if fault.is_some() {
+        return Ok(fault);
+    }
+    let fault = phase_fault(alloc, names, code, rule)?;
+    if fault.is_some() {
+        return Ok(fault);
+    }
+    let fault = listed_fault(alloc, names, code, rule, &ALERTS)?;
+    if fault.is_some() {
+        return Ok(fault);
+    }
+    listed_fault(alloc, names, code, rule, &MEMOS)
+}
+
+fn first_rule_fault(
+    alloc: Global,
+    names: &Catalogue<'_>,
+    rules: &[(u8, Rule)],
+) -> Result<Option<BookFault>, AllocError>
+    ensures { IfOk result (λ r. r ≡ rule_faults (table_in names.now) rules.now) }
+{
+    for (code, rule) in rules {
+        let fault = rule_fault(alloc, names, *code, *rule)?;
+        if fault.is_some() {
+            return Ok(fault);
+        }
+    }
+    Ok(None)
+}
+
+#[tactic(auto, using(book_tables::proofs::FewItems::system_count))]
+fn repeated_systems(alloc: Global, names: &Catalogue<'_>) -> Result<Option<BookFault>, AllocError>
+    requires { length (list_in (codes "systems") (table_in names.now)) < 2 ^ 32 }
+    ensures { IfOk result (λ r. r ≡ spec.repeated_in (table_in names.now) Section.System (spec.system_texts (table_in names.now))) }
+{
+    let texts = texts_in(alloc, list_in(names.top, "systems"))?;
+    let item = first_repeated(alloc, texts.as_slice())?;
+    Ok(fault_at(11, Section::System, item))
+}
+
+#[tactic(auto, using(book_tables::proofs::FewItems::name_count))]
+fn repeated_names(
+    alloc: Global,
+    names: &Catalogue<'_>,
+    section: Section,
+    key: &str,
+) -> Result<Option<BookFault>, AllocError>
+    requires { length (list_in key.now (table_in names.now)) < 2 ^ 32 }
+    ensures { IfOk result (λ r. r ≡ spec.repeated_in (table_in names.now) section (spec.names_in key.now (table_in names.now))) }
+{
+    let texts = names_in(alloc, list_in(names.top, key))?;
+    let item = first_repeated(alloc, texts.as_slice())?;
+    Ok(fault_at(11, section, item))
+}
+
+/// The first item whose name stands at another one of its section too.
+#[tactic(auto, using(book_tables::proofs::FewItems::system_items, book_tables::proofs::FewItems::page_items, book_tables::proofs::FewItems::parameter_items, book_tables::proofs::FewItems::alert_items), unfolding(book_spec::specs::Document::repeated_fault))]
+fn repeated_fault(alloc: Global, names: &Catalogue<'_>) -> Result<Option<BookFault>, AllocError>
+    ensures { IfOk result (λ r. r ≡ spec.repeated_fault (table_in names.now)) }
+{
+    let fault = repeated_systems(alloc, names)?;
+    if fault.is_some() {
+        return Ok(fault);
+    }
+    let fault = repeated_names(alloc, names, Section::Page, "page")?;
+    if fault.is_some() {
+        return Ok(fault);
+    }
+    let fault = repeated_names(alloc, names, Section::Param, "param")?;
+    if fault.is_some() {
+        return Ok(fault);
+    }
+    let fault = repeated_names(alloc, names, Section::Alert, "alert")?;
+    if fault.is_some() {
+        return Ok(fault);
+    }
+    repeated_names(alloc, names, Section::Memo, "memo")
+}
+
+fn is_version(top: &Table) -> bool
+    ensures { result ≡ spec.is_version (get_member (codes "version") (table_view top.now)) }
+{
+    match find(top, "version") {
+        Some(value) => value.as_integer() == Some(1),
+        None => false,
+    }
+}
+
+#[tactic(auto, unfolding(book_spec::specs::Schema::top_keys))]
+fn has_top_keys(top: &Table) -> bool
+    ensures { result ≡ has_only top_keys (table_view top.now) }
+{
+    has_only(
+        top,
+        &[
+            "version", "systems", "page", "param", "phase", "alert", "memo",
+        ],
+    )
+}
+
+/// The fault of the top alone.
+fn top_fault(top: &Table) -> Option<BookFault>
+    ensures { result ≡ top_fault (table_view top.now) }
+{
+    if !is_version(top) {
+        return fault_at(3, Section::Top, Some(0));
+    }
+    if !has_top_keys(top) {
+        return fault_at(4, Section::Top, Some(0));
+    }
+    None
+}
+
+/// The first fault that a document's table shows: the one with the least code, among these the one in the first
+/// section, and among these the one of the least item. Each code is one search through the document.
+pub fn table_fault(alloc: Global, names: &Catalogue<'_>) -> Result<Option<BookFault>, AllocError>
+    ensures { IfOk result (λ r. r ≡ spec.table_fault (table_in names.now)) }
+{
+    let fault = top_fault(names.top);
+    if fault.is_some() {
+        return Ok(fault);
+    }
+    let fault = first_rule_fault(alloc, names, &BEFORE_NAMES)?;
+    if fault.is_some() {
+        return Ok(fault);
+    }
+    let fault = repeated_fault(alloc, names)?;
+    if fault.is_some() {
+        return Ok(fault);
+    }
+    first_rule_fault(alloc, names, &AFTER_NAMES)
+}

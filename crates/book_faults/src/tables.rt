@@ -1,0 +1,319 @@
+// The rules that the tables of a document keep, and what their keys hold.
+ghost use Rattle.std.specs.Prelude.{◌≡◌, ◌&&◌, map, is_none, IfOk};
+ghost use Rattle.std.specs.List.{list_any};
+ghost use Rattle.toml.specs.Data.{get_member};
+ghost use Rattle.toml.specs.View.{view, table_view};
+ghost use Rattle.ecam_spec.specs.BookText.{same_text};
+ghost use Rattle.book_spec.specs.Fields.{has_only};
+ghost use Rattle.book_spec.specs.Schema as schema;
+ghost use Rattle.book_spec.specs.Rules.{leaf_breaks};
+ghost use Rattle.book_spec.specs.TableRules as spec;
+ghost use Rattle.book_tables.specs.Catalogue.{names_in};
+ghost use Rattle.book_faults.specs.Keys.{keys_of, key_of, key_names};
+ghost use Rattle.book_tables.specs.Reading.{views};
+
+use crate::keys::{
+    Key, alert_keys, any_source_keys, bcd_keys, bnr_keys, disc_keys, kind_at, line_keys, memo_keys,
+    page_keys, param_keys, phase_keys, status_keys, text_row_keys, value_row_keys,
+};
+use crate::rules::{has_wrong_count, leaf_breaks};
+use book_spec::{Inner, Item, Leaf, Rule, Shape};
+use book_tables::Catalogue;
+use book_tables::fields::{find, members_of};
+use ecam_spec::Kind;
+use std::alloc::{AllocError, Global};
+use toml::{Table, Value};
+
+fn has_key<S>(keys: &[Key<S>], name: &str) -> bool
+    ensures { result ≡ list_any (same_text name.now) (key_names keys.now) }
+{
+    for key in keys {
+        if name == key.name {
+            return true;
+        }
+    }
+    false
+}
+
+fn has_only<S>(keys: &[Key<S>], table: &Table) -> bool
+    ensures { result ≡ has_only (key_names keys.now) (table_view table.now) }
+{
+    table.keys().all(|key| has_key(keys, key.as_str()))
+}
+
+fn is_missing<S>(key: &Key<S>, table: &Table) -> bool
+    ensures { result ≡ (key.now.needed && is_none (get_member key.now.name.now (table_view table.now))) }
+{
+    key.needed && find(table, key.name).is_none()
+}
+
+fn lacks_key<S>(keys: &[Key<S>], table: &Table) -> bool
+    ensures { result ≡ list_any (λ k. k.needed && is_none (get_member k.name (table_view table.now))) (keys_of keys.now) }
+{
+    for key in keys {
+        if is_missing(key, table) {
+            return true;
+        }
+    }
+    false
+}
+
+/// Whether a table has a key that isn't listed, or lacks one that is needed.
+fn keys_break<S>(rule: Rule, keys: &[Key<S>], table: &Table) -> bool
+    ensures { result ≡ spec.keys_break rule (keys_of keys.now) (table_view table.now) }
+{
+    match rule {
+        Rule::Known => !has_only(keys, table),
+        Rule::Needed => lacks_key(keys, table),
+        _ => false,
+    }
+}
+
+fn leaf_at_breaks(
+    alloc: Global,
+    rule: Rule,
+    names: &Catalogue<'_>,
+    key: &Key<Leaf>,
+    table: &Table,
+) -> Result<bool, AllocError>
+    ensures { IfOk result (λ b. b ≡ spec.if_there (leaf_breaks (names_in names.now) rule key.now.holds) (get_member key.now.name.now (table_view table.now))) }
+{
+    match find(table, key.name) {
+        Some(value) => leaf_breaks(alloc, rule, names, key.holds, value),
+        None => Ok(false),
+    }
+}
+
+fn leaves_break(
+    alloc: Global,
+    rule: Rule,
+    names: &Catalogue<'_>,
+    keys: &[Key<Leaf>],
+    table: &Table,
+) -> Result<bool, AllocError>
+    ensures { IfOk result (λ b. b ≡ list_any (λ k. spec.if_there (leaf_breaks (names_in names.now) rule k.holds) (get_member k.name (table_view table.now))) (keys_of keys.now)) }
+{
+    for key in keys {
+        if leaf_at_breaks(alloc, rule, names, key, table)? {
+            return Ok(true);
+        }
+    }
+    Ok(false)
+}
+
+fn inner_table_breaks(
+    alloc: Global,
+    rule: Rule,
+    names: &Catalogue<'_>,
+    keys: &[Key<Leaf>],
+    table: &Table,
+) -> Result<bool, AllocError>
+    ensures { IfOk result (λ b. b ≡ spec.table_breaks (leaf_breaks (names_in names.now) rule) rule (keys_of keys.now) (table_view table.now)) }
+{
+    if keys_break(rule, keys, table) {
+        return Ok(true);
+    }
+    leaves_break(alloc, rule, names, keys, table)
+}
+
+#[tactic(auto, unfolding(book_spec::specs::Schema::inner_keys, book_spec::specs::Schema::row_keys))]
+fn row_breaks(
+    alloc: Global,
+    rule: Rule,
+    names: &Catalogue<'_>,
+    table: &Table,
+) -> Result<bool, AllocError>
+    ensures { IfOk result (λ b. b ≡ spec.table_breaks (leaf_breaks (names_in names.now) rule) rule (schema.inner_keys Inner.Row (table_view table.now)) (table_view table.now)) }
+{
+    if find(table, "show").is_some() {
+        inner_table_breaks(alloc, rule, names, &value_row_keys(), table)
+    } else {
+        inner_table_breaks(alloc, rule, names, &text_row_keys(), table)
+    }
+}
+
+fn source_breaks(
+    alloc: Global,
+    rule: Rule,
+    names: &Catalogue<'_>,
+    kind: Option<Kind>,
+    table: &Table,
+) -> Result<bool, AllocError>
+    ensures { IfOk result (λ b. b ≡ spec.table_breaks (leaf_breaks (names_in names.now) rule) rule (schema.source_keys kind) (table_view table.now)) }
+{
+    match kind {
+        Some(Kind::Disc) => inner_table_breaks(alloc, rule, names, &disc_keys(), table),
+        Some(Kind::Bnr) => inner_table_breaks(alloc, rule, names, &bnr_keys(), table),
+        Some(Kind::Bcd) => inner_table_breaks(alloc, rule, names, &bcd_keys(), table),
+        None => inner_table_breaks(alloc, rule, names, &any_source_keys(), table),
+    }
+}
+
+#[tactic(auto, unfolding(book_spec::specs::Schema::inner_keys))]
+fn keyed_inner_breaks(
+    alloc: Global,
+    rule: Rule,
+    names: &Catalogue<'_>,
+    inner: Inner,
+    table: &Table,
+) -> Result<bool, AllocError>
+    ensures { IfOk result (λ b. b ≡ spec.table_breaks (leaf_breaks (names_in names.now) rule) rule (schema.inner_keys inner (table_view table.now)) (table_view table.now)) }
+{
+    match inner {
+        Inner::Row => row_breaks(alloc, rule, names, table),
+        Inner::Source(kind) => source_breaks(alloc, rule, names, kind, table),
+        Inner::Line => inner_table_breaks(alloc, rule, names, &line_keys(), table),
+        Inner::Status => inner_table_breaks(alloc, rule, names, &status_keys(), table),
+    }
+}
+
+/// Whether a table inside an item breaks a rule.
+#[tactic(auto, unfolding(book_spec::specs::TableRules::inner_breaks))]
+fn inner_breaks(
+    alloc: Global,
+    rule: Rule,
+    names: &Catalogue<'_>,
+    inner: Inner,
+    value: &Value,
+) -> Result<bool, AllocError>
+    ensures { IfOk result (λ b. b ≡ spec.inner_breaks (names_in names.now) rule inner (view value.now)) }
+{
+    match value.as_table() {
+        Some(table) => keyed_inner_breaks(alloc, rule, names, inner, table),
+        None => Ok(matches!(rule, Rule::Typed)),
+    }
+}
+
+fn any_inner_breaks(
+    alloc: Global,
+    rule: Rule,
+    names: &Catalogue<'_>,
+    inner: Inner,
+    values: &[Value],
+) -> Result<bool, AllocError>
+    ensures { IfOk result (λ b. b ≡ list_any (spec.inner_breaks (names_in names.now) rule inner) (views values.now)) }
+{
+    for value in values {
+        if inner_breaks(alloc, rule, names, inner, value)? {
+            return Ok(true);
+        }
+    }
+    Ok(false)
+}
+
+/// Whether a list of `low` to `high` members has another type or length.
+pub(crate) fn list_breaks(rule: Rule, low: usize, high: usize, value: &Value) -> bool
+    ensures { result ≡ spec.list_breaks rule low high (view value.now) }
+{
+    match rule {
+        Rule::Typed => value.as_array().is_none(),
+        Rule::Counted => has_wrong_count(low, high, value),
+        _ => false,
+    }
+}
+
+/// Whether what a key of an item holds breaks a rule.
+#[tactic(auto, unfolding(book_spec::specs::TableRules::shape_breaks))]
+fn shape_breaks(
+    alloc: Global,
+    rule: Rule,
+    names: &Catalogue<'_>,
+    shape: Shape,
+    value: &Value,
+) -> Result<bool, AllocError>
+    ensures { IfOk result (λ b. b ≡ spec.shape_breaks (names_in names.now) rule shape (view value.now)) }
+{
+    match shape {
+        Shape::Leaf(leaf) => leaf_breaks(alloc, rule, names, leaf, value),
+        Shape::Tables(inner, low, high) => {
+            if list_breaks(rule, low, high, value) {
+                return Ok(true);
+            }
+            any_inner_breaks(alloc, rule, names, inner, members_of(value))
+        }
+    }
+}
+
+fn shape_at_breaks(
+    alloc: Global,
+    rule: Rule,
+    names: &Catalogue<'_>,
+    key: &Key<Shape>,
+    table: &Table,
+) -> Result<bool, AllocError>
+    ensures { IfOk result (λ b. b ≡ spec.if_there (spec.shape_breaks (names_in names.now) rule key.now.holds) (get_member key.now.name.now (table_view table.now))) }
+{
+    match find(table, key.name) {
+        Some(value) => shape_breaks(alloc, rule, names, key.holds, value),
+        None => Ok(false),
+    }
+}
+
+fn shapes_break(
+    alloc: Global,
+    rule: Rule,
+    names: &Catalogue<'_>,
+    keys: &[Key<Shape>],
+    table: &Table,
+) -> Result<bool, AllocError>
+    ensures { IfOk result (λ b. b ≡ list_any (λ k. spec.if_there (spec.shape_breaks (names_in names.now) rule k.holds) (get_member k.name (table_view table.now))) (keys_of keys.now)) }
+{
+    for key in keys {
+        if shape_at_breaks(alloc, rule, names, key, table)? {
+            return Ok(true);
+        }
+    }
+    Ok(false)
+}
+
+fn item_table_breaks(
+    alloc: Global,
+    rule: Rule,
+    names: &Catalogue<'_>,
+    keys: &[Key<Shape>],
+    table: &Table,
+) -> Result<bool, AllocError>
+    ensures { IfOk result (λ b. b ≡ spec.table_breaks (spec.shape_breaks (names_in names.now) rule) rule (keys_of keys.now) (table_view table.now)) }
+{
+    if keys_break(rule, keys, table) {
+        return Ok(true);
+    }
+    shapes_break(alloc, rule, names, keys, table)
+}
+
+#[tactic(auto, unfolding(book_spec::specs::Schema::item_keys))]
+fn keyed_item_breaks(
+    alloc: Global,
+    rule: Rule,
+    names: &Catalogue<'_>,
+    item: Item,
+    table: &Table,
+) -> Result<bool, AllocError>
+    ensures { IfOk result (λ b. b ≡ spec.table_breaks (spec.shape_breaks (names_in names.now) rule) rule (schema.item_keys item (table_view table.now)) (table_view table.now)) }
+{
+    match item {
+        Item::Page => item_table_breaks(alloc, rule, names, &page_keys(), table),
+        Item::Param => item_table_breaks(alloc, rule, names, &param_keys(kind_at(table)), table),
+        Item::Phase => item_table_breaks(alloc, rule, names, &phase_keys(), table),
+        Item::Alert => item_table_breaks(alloc, rule, names, &alert_keys(), table),
+        Item::Memo => item_table_breaks(alloc, rule, names, &memo_keys(), table),
+    }
+}
+
+/// Whether an item, or the table of the flight phase, breaks a rule. It costs a look-up for each key that the table
+/// may have, and for each of its keys a comparison with those.
+#[tactic(auto, unfolding(book_spec::specs::TableRules::item_breaks))]
+pub(crate) fn item_breaks(
+    alloc: Global,
+    rule: Rule,
+    names: &Catalogue<'_>,
+    item: Item,
+    value: &Value,
+) -> Result<bool, AllocError>
+    ensures { IfOk result (λ b. b ≡ spec.item_breaks (names_in names.now) rule item (view value.now)) }
+{
+    match value.as_table() {
+        Some(table) => keyed_item_breaks(alloc, rule, names, item, table),
+        None => Ok(matches!(rule, Rule::Typed)),
+    }
+}

@@ -1,7 +1,0 @@
-use Rattle.std.proofs.Common.{take}
-use Rattle.book_reader.specs.Reading.{texts_of}
-use Rattle.book_reader.specs.Places.{FindsPlaces}
-use Rattle.book_reader.proofs.places.places_of.Given as goal
-
-abbrev pub invariant-loop-i : goal.invariant-loop-i
-invariant-loop-i l = FindsPlaces (texts_of (take l.i l.names)) l.places

@@ -1,0 +1,3 @@
+pub mod Items
+pub mod NamePlaces
+pub mod FewItems

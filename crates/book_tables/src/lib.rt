@@ -1,0 +1,10 @@
+//! What stands in the tables of a book's document, and the places of its names.
+#![tactic(auto)]
+
+pub mod fields;
+mod names;
+pub mod places;
+pub mod texts;
+pub mod words;
+
+pub use names::Catalogue;

@@ -1,0 +1,114 @@
+// Names as a map keeps them: their places, and how often each stands.
+ghost use Rattle.std.specs.Prelude.{◌≡◌, ◌<◌, ◌^◌, ◌+◌, List, length, IfOk, OnOk, Some};
+ghost use Rattle.std.specs.Str.{bytes_eq};
+ghost use Rattle.ecam_spec.specs.Book.{Text};
+ghost use Rattle.ecam_spec.specs.TermText.{place_of};
+ghost use Rattle.toml.specs.View.{table_view};
+ghost use Rattle.book_spec.specs.Document.{system_texts, names_in};
+ghost use Rattle.book_tables.specs.Reading.{texts_of};
+ghost use Rattle.book_tables.specs.Places.{number_by, times, FindsPlaces, NotesPlace, CountsNames, CountsOne};
+
+use crate::fields::{list_in, names_in, texts_in};
+use std::alloc::{AllocError, Global};
+use std::collections::BTreeMap;
+use toml::Table;
+
+// The most bytes that a name has.
+const LONGEST_NAME: usize = 24;
+
+/// Places of names, from 0.
+pub(crate) type Places<'a> = BTreeMap<&'a [u8], u32>;
+
+/// How often names stand.
+pub type Counts<'a> = BTreeMap<&'a [u8], usize>;
+
+/// The places of these names, from 0. Of two equal names the first counts.
+fn places_of<'a>(alloc: Global, names: &[&'a str]) -> Result<Places<'a>, AllocError>
+    requires { length names.now < 2 ^ 32 }
+    ensures { IfOk result (FindsPlaces (texts_of names.now)) }
+{
+    let mut places = BTreeMap::new(alloc);
+    for (i, name) in names.iter().enumerate() {
+        note_place(&mut places, name.as_bytes(), i as u32)?;
+    }
+    Ok(places)
+}
+
+/// The places of a document's systems.
+pub(crate) fn system_places<'a>(alloc: Global, top: &'a Table) -> Result<Places<'a>, AllocError>
+    requires { length (system_texts (table_view top.now)) < 2 ^ 32 }
+    ensures { IfOk result (FindsPlaces (system_texts (table_view top.now))) }
+{
+    let texts = texts_in(alloc, list_in(top, "systems"))?;
+    places_of(alloc, texts.as_slice())
+}
+
+/// The places of the names of a section's items.
+pub(crate) fn name_places<'a>(
+    alloc: Global,
+    top: &'a Table,
+    key: &str,
+) -> Result<Places<'a>, AllocError>
+    requires { length (names_in key.now (table_view top.now)) < 2 ^ 32 }
+    ensures { IfOk result (FindsPlaces (names_in key.now (table_view top.now))) }
+{
+    let names = names_in(alloc, list_in(top, key))?;
+    places_of(alloc, names.as_slice())
+}
+
+fn note_place<'a>(places: &mut Places<'a>, name: &'a [u8], place: u32) -> Result<(), AllocError>
+    ensures { OnOk result (NotesPlace places.old places.new name.now place) }
+{
+    if !places.contains_key(name) {
+        places.insert(name, place)?;
+    }
+    Ok(())
+}
+
+/// The place of a name.
+pub(crate) fn place_in(places: &Places<'_>, name: &[u8]) -> Option<u32>
+    ensures { result ≡ number_by places.now name.now }
+{
+    places.get(name).copied()
+}
+
+/// The place of a name of at most 24 bytes; a longer one is unknown.
+#[tactic(auto, unfolding(ecam_spec::specs::TermText::place_of))]
+pub(crate) fn short_place(places: &Places<'_>, name: &[u8]) -> Option<u32>
+    ensures { (names : List Text) → FindsPlaces names places.now → result ≡ place_of names name.now }
+{
+    if name.len() > LONGEST_NAME {
+        return None;
+    }
+    place_in(places, name)
+}
+
+/// How often each of these names stands.
+pub fn counts_of<'a>(alloc: Global, names: &[&'a str]) -> Result<Counts<'a>, AllocError>
+    ensures { IfOk result (CountsNames (texts_of names.now)) }
+{
+    let mut counts = BTreeMap::new(alloc);
+    for name in names {
+        count_one(&mut counts, name.as_bytes())?;
+    }
+    Ok(counts)
+}
+
+fn count_one<'a>(counts: &mut Counts<'a>, name: &'a [u8]) -> Result<(), AllocError>
+    requires { times counts.old name.now + 1 < 2 ^ 64 }
+    ensures { OnOk result (CountsOne counts.old counts.new name.now) }
+{
+    let before = times_in(counts, name);
+    counts.insert(name, before + 1)?;
+    Ok(())
+}
+
+/// How often a name was counted.
+pub fn times_in(counts: &Counts<'_>, name: &[u8]) -> usize
+    ensures { result ≡ times counts.now name.now }
+{
+    match counts.get(name) {
+        Some(count) => *count,
+        None => 0,
+    }
+}
