@@ -13,7 +13,7 @@ use book_model::{Name, Text};
 use std::alloc::{AllocError, Global};
 use toml::{Table, Value};
 
-/// The value at a key.
+/// The value at a key, if the table has it.
 pub fn find<'a>(table: &'a Table, key: &str) -> Option<&'a Value>
     ensures { option_map (λ v. view v.now) result ≡ get_member key.now (table_view table.now) }
 {
@@ -27,7 +27,7 @@ pub fn has_only(table: &Table, known: &[&str]) -> bool
     table.keys().all(|key| is_one_of(known, key.as_str()))
 }
 
-/// The string at a key.
+/// The string at a key, if one stands there.
 #[tactic(auto, unfolding(book_spec::specs::Fields::string_at))]
 pub fn string_at<'a>(table: &'a Table, key: &str) -> Option<&'a str>
     ensures { option_copied result ≡ spec.string_at key.now (table_view table.now) }
@@ -35,7 +35,7 @@ pub fn string_at<'a>(table: &'a Table, key: &str) -> Option<&'a str>
     find(table, key)?.as_str()
 }
 
-/// The name at a key.
+/// The name at a key, if a string of a name's form stands there.
 #[tactic(auto, unfolding(book_spec::specs::Fields::name_at))]
 pub fn name_at(table: &Table, key: &str) -> Option<Name>
     ensures { option_map bytes_of result ≡ spec.name_at key.now (table_view table.now) }
@@ -43,7 +43,7 @@ pub fn name_at(table: &Table, key: &str) -> Option<Name>
     name_from(string_at(table, key)?)
 }
 
-/// The text of at most `most` bytes that a value is.
+/// The text of 1 to `most` bytes that a value is, if it is a string of a text's form.
 #[tactic(auto, unfolding(book_spec::specs::Fields::text_in))]
 pub fn text_in(value: &Value, most: usize) -> Option<Text>
     requires { most ≤ 36 }
@@ -52,7 +52,7 @@ pub fn text_in(value: &Value, most: usize) -> Option<Text>
     text_from(value.as_str()?, most)
 }
 
-/// The text of at most `most` bytes at a key.
+/// The text of 1 to `most` bytes at a key, if a string of a text's form stands there.
 #[tactic(auto, unfolding(book_spec::specs::Fields::text_at))]
 pub fn text_at(table: &Table, most: usize, key: &str) -> Option<Text>
     requires { most ≤ 36 }
@@ -61,7 +61,7 @@ pub fn text_at(table: &Table, most: usize, key: &str) -> Option<Text>
     text_in(find(table, key)?, most)
 }
 
-/// A whole number as one from `low` to `high`.
+/// A whole number as one from `low` to `high`, if it is in that range.
 pub fn number_from(value: i64, low: u32, high: u32) -> Option<u32>
     ensures value { result ≡ spec.number_from low high value }
     ensures within { IfSome result (λ n. n ≤ high) }
@@ -74,7 +74,7 @@ pub fn number_from(value: i64, low: u32, high: u32) -> Option<u32>
     }
 }
 
-/// The whole number from `low` to `high` at a key.
+/// The whole number from `low` to `high` at a key, if one stands there.
 #[tactic(auto, unfolding(book_spec::specs::Fields::number_at))]
 pub fn number_at(table: &Table, low: u32, high: u32, key: &str) -> Option<u32>
     ensures value { result ≡ spec.number_at low high key.now (table_view table.now) }
@@ -84,7 +84,7 @@ pub fn number_at(table: &Table, low: u32, high: u32, key: &str) -> Option<u32>
     number_from(value, low, high)
 }
 
-/// The label at a key.
+/// The label at a key, if a string of three octal digits stands there, at most 377.
 #[tactic(auto, unfolding(book_spec::specs::Fields::label_at))]
 pub fn label_at(table: &Table, key: &str) -> Option<u8>
     ensures { result ≡ spec.label_at key.now (table_view table.now) }
@@ -139,7 +139,7 @@ pub(crate) fn name_of(value: &Value) -> &str
     }
 }
 
-/// The texts that these values are.
+/// The texts that these values are, the empty one for what is none. An error is want of memory.
 pub fn texts_in<'a>(alloc: Global, values: &'a [Value]) -> Result<Vec<&'a str>, AllocError>
     ensures { IfOk result (λ v. texts_of v.items ≡ map text_of (views values.now)) }
 {
@@ -150,7 +150,7 @@ pub fn texts_in<'a>(alloc: Global, values: &'a [Value]) -> Result<Vec<&'a str>, 
     Ok(texts)
 }
 
-/// The names that these items have.
+/// The names that these items have, the empty one for what has none. An error is want of memory.
 pub fn names_in<'a>(alloc: Global, items: &'a [Value]) -> Result<Vec<&'a str>, AllocError>
     ensures { IfOk result (λ v. texts_of v.items ≡ map name_of (views items.now)) }
 {

@@ -13,6 +13,7 @@ use toml::Table;
 /// counts. A look-up costs a logarithm of the number of names.
 #[derive(Drop)]
 pub struct Catalogue<'a> {
+    /// The document's table.
     pub top: &'a Table,
     systems: Places<'a>,
     pages: Places<'a>,
@@ -36,7 +37,7 @@ impl<'a> Catalogue<'a> {
     ghost use Rattle.book_tables.specs.Places.{HasFewItems};
     ghost use Rattle.book_tables.specs.Catalogue.{table_in, names_in};
 
-    /// The places of a document's names.
+    /// The places of a document's names. An error is want of memory.
     #[tactic(auto, using(crate::proofs::FewItems::name_count, crate::proofs::FewItems::system_count), unfolding(book_spec::specs::Document::names_of))]
     pub fn new(alloc: Global, top: &'a Table) -> Result<Catalogue<'a>, AllocError>
         requires { HasFewItems (table_view top.now) }
@@ -52,21 +53,21 @@ impl<'a> Catalogue<'a> {
         })
     }
 
-    /// The place of a system.
+    /// The place of a system, if the document has it.
     pub fn system(&self, name: &str) -> Option<u32>
         ensures { result ≡ place_of (names_in self.now).systems name.now }
     {
         place_in(&self.systems, name.as_bytes())
     }
 
-    /// The place of a page.
+    /// The place of a page, if the document has it.
     pub fn page(&self, name: &str) -> Option<u32>
         ensures { result ≡ place_of (names_in self.now).pages name.now }
     {
         place_in(&self.pages, name.as_bytes())
     }
 
-    /// The place of a parameter.
+    /// The place of a parameter, if the document has it.
     pub fn parameter(&self, name: &str) -> Option<u32>
         ensures { result ≡ place_of (names_in self.now).of_terms.parameters name.now }
     {

@@ -83,7 +83,7 @@ pub(crate) fn short_place(places: &Places<'_>, name: &[u8]) -> Option<u32>
     place_in(places, name)
 }
 
-/// How often each of these names stands.
+/// How often each of these names stands. It costs n log n for n names. An error is want of memory.
 pub fn counts_of<'a>(alloc: Global, names: &[&'a str]) -> Result<Counts<'a>, AllocError>
     ensures { IfOk result (CountsNames (texts_of names.now)) }
 {
@@ -103,7 +103,7 @@ fn count_one<'a>(counts: &mut Counts<'a>, name: &'a [u8]) -> Result<(), AllocErr
     Ok(())
 }
 
-/// How often a name was counted.
+/// How often a name was counted, 0 for one that wasn't.
 pub fn times_in(counts: &Counts<'_>, name: &[u8]) -> usize
     ensures { result ≡ times counts.now name.now }
 {

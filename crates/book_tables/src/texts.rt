@@ -155,7 +155,7 @@ fn is_octal(byte: u8) -> bool
     b'0' <= byte && byte <= b'7'
 }
 
-/// The label of three octal digits, at most 377.
+/// The label that three octal digits spell, if the text is that and at most 377.
 #[tactic(auto, unfolding(book_spec::specs::Fields::label_from))]
 pub fn label_from(text: &str) -> Option<u8>
     ensures { result ≡ label_from text.now }

@@ -5,7 +5,7 @@ ghost use Rattle.book_spec.specs.Schema.{meaning, kind_words, sound_words, secti
 use ecam_kinds::{Colour, Sound};
 use ecam_spec::Kind;
 
-/// How the words of a parameter are read.
+/// How the words of a parameter are read: the kind that a word of the list names.
 #[tactic(auto, unfolding(book_spec::specs::Schema::kind_words))]
 pub fn kind_of(word: &str) -> Option<Kind>
     ensures { result ≡ meaning kind_words word.now }
@@ -18,7 +18,7 @@ pub fn kind_of(word: &str) -> Option<Kind>
     }
 }
 
-/// The sound of an alert.
+/// The sound of an alert that a word of the list names.
 #[tactic(auto, unfolding(book_spec::specs::Schema::sound_words))]
 pub fn sound_of(word: &str) -> Option<Sound>
     ensures { result ≡ meaning sound_words word.now }
@@ -33,7 +33,8 @@ pub fn sound_of(word: &str) -> Option<Sound>
     }
 }
 
-/// A section of the status page by its number from 0, in the order in which they stand there.
+/// The section of the status page that a word of the list names, by its number from 0, in the order in which they
+/// stand there.
 #[tactic(auto, unfolding(book_spec::specs::Schema::section_words))]
 pub fn section_of(word: &str) -> Option<u8>
     ensures { result ≡ meaning section_words word.now }
@@ -48,7 +49,7 @@ pub fn section_of(word: &str) -> Option<u8>
     }
 }
 
-/// A zone of memos: whether it is the left one.
+/// The zone of memos that a word of the list names: whether it is the left one.
 #[tactic(auto, unfolding(book_spec::specs::Schema::zone_words))]
 pub fn zone_of(word: &str) -> Option<bool>
     ensures { result ≡ meaning zone_words word.now }
@@ -60,7 +61,7 @@ pub fn zone_of(word: &str) -> Option<bool>
     }
 }
 
-/// The colour of a text.
+/// The colour of a text that a word of the list names.
 #[tactic(auto, unfolding(book_spec::specs::Schema::colour_words))]
 pub fn colour_of(word: &str) -> Option<Colour>
     ensures { result ≡ meaning colour_words word.now }
