@@ -14,4 +14,6 @@ pub use reader::{LONGEST, read_book};
 #[cfg(test)]
 mod test_books;
 #[cfg(test)]
+mod test_order;
+#[cfg(test)]
 mod tests;

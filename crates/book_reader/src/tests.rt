@@ -1,6 +1,9 @@
 use super::*;
-use crate::test_books::{FAULTS, ITEMS, TOP};
+use crate::test_books::{FAULTS, Faulty, ITEMS, TOP};
+use crate::test_order::ORDER;
 use book_model::{BookFault, Draft, LoadError, Section};
+use std::alloc::Global;
+use std::process::Abort;
 use std::test::*;
 
 fn told(read: Result<Draft, LoadError>) -> Option<BookFault> {
@@ -10,22 +13,31 @@ fn told(read: Result<Draft, LoadError>) -> Option<BookFault> {
     }
 }
 
-#[test]
-fn books_with_a_fault(rt: HostRuntime) -> Result<(), Fail> {
-    for (i, (top, tail, code, section, item)) in FAULTS.iter().enumerate() {
-        let text = format!(in rt.alloc(); "{top}{ITEMS}{tail}")?;
+fn have_these_faults(rt: &impl Abort, alloc: Global, books: &[Faulty]) -> Result<(), Fail> {
+    for (i, (top, tail, code, section, item)) in books.iter().enumerate() {
+        let text = format!(in alloc; "{top}{ITEMS}{tail}")?;
         let fault = BookFault {
             code: *code,
             section: *section,
             item: *item,
         };
         assert_eq!(rt;
-            told(read_book(rt.alloc(), text.as_bytes())),
+            told(read_book(alloc, text.as_bytes())),
             Some(fault),
             "book {i}"
         );
     }
     Ok(())
+}
+
+#[test]
+fn books_with_a_fault(rt: HostRuntime) -> Result<(), Fail> {
+    have_these_faults(&rt, rt.alloc(), &FAULTS)
+}
+
+#[test]
+fn books_with_several_faults(rt: HostRuntime) -> Result<(), Fail> {
+    have_these_faults(&rt, rt.alloc(), &ORDER)
 }
 
 fn loaded(read: Result<Draft, LoadError>) -> Option<Draft> {
