@@ -250,7 +250,8 @@ fn top_fault(top: &Table) -> Option<BookFault>
 }
 
 /// The first fault that a document's table shows: the one with the least code, among these the one in the first
-/// section, and among these the one of the least item. Each code is one search through the document.
+/// section, and among these the one of the least item. Each code is one search through the document. An error is want
+/// of memory.
 pub fn table_fault(alloc: Global, names: &Catalogue<'_>) -> Result<Option<BookFault>, AllocError>
     ensures { IfOk result (λ r. r ≡ spec.table_fault (table_in names.now)) }
 {
