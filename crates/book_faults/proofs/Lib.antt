@@ -1,3 +1,5 @@
 pub mod KeyLists
+pub mod NoFault
+pub mod EveryRule
 pub mod FirstItems
 pub mod FaultOrder

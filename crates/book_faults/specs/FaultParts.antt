@@ -1,19 +1,26 @@
 -- The parts of a document's first fault, as they are searched for.
 use Rattle.std.specs.Prelude.{ℕ, not, List, [], ◌∷◌, map, codes, Option}
+use Rattle.std.specs.Option.{option_or}
 use Rattle.toml.specs.Data.{Members, get_member}
+use Rattle.ecam_spec.specs.declared.kinds.Section.{Section}
 use Rattle.ecam_spec.specs.declared.kinds.Section.TheVariants as section
 use Rattle.ecam_spec.specs.declared.kinds.BookFault.{BookFault}
+use Rattle.ecam_spec.specs.Book.{Text}
 use Rattle.ecam_spec.specs.Faults.{first_of, fault_at, whole}
 use Rattle.book_spec.specs.Fields.{has_only}
 use Rattle.book_spec.specs.Schema.{top_keys}
 use Rattle.book_spec.specs.Rules.{leaf_breaks}
 use Rattle.book_spec.specs.TableRules.{item_breaks}
-use Rattle.book_spec.specs.Document.{names_of, at_section, in_list, rule_fault, is_version}
+use Rattle.book_spec.specs.Document.{names_of, at_section, repeated_fault, is_version}
 use Rattle.book_spec.specs.declared.schema.Leaf.TheVariants as leaves
+use Rattle.book_spec.specs.declared.schema.Item.{Item}
 use Rattle.book_spec.specs.declared.schema.Item.TheVariants as items
 use Rattle.book_spec.specs.declared.schema.Rule.{Rule}
 use Rattle.book_spec.specs.declared.schema.Rule.TheVariants as rules
+use Rattle.book_faults.specs.declared.rules.Asked.{Asked}
+use Rattle.book_faults.specs.declared.rules.Asked.TheVariants.{One}
 use Rattle.book_faults.specs.declared.sections.Listed.{Listed}
+use Rattle.book_faults.specs.Asked.{item_fails, place_in_list}
 
 -- the codes that are searched for before names that stand twice, and those after, with their rules
 abbrev pub before_names : List (ℕ × Rule)
@@ -27,22 +34,39 @@ after_names =
     ∷ (17, rules.Found) ∷ (18, rules.Small) ∷ (19, rules.Measured) ∷ []
 
 module _ (top : Members) where
-  -- where the systems break a rule
-  abbrev pub system_fault : ℕ → Rule → Option BookFault
-  system_fault code rule = at_section top code section.System (codes "systems") (in_list 64 (leaf_breaks (names_of top) rule (leaves.Text 16)) rule)
+  -- where the systems break a rule that is asked for
+  abbrev pub system_fault : ℕ → Asked → Option BookFault
+  system_fault code asked = at_section top code section.System (codes "systems") (place_in_list asked 64 (λ rule. leaf_breaks (names_of top) rule (leaves.Text 16)))
 
-  -- where a section of items breaks a rule
-  abbrev pub listed_fault : ℕ → Rule → Listed → Option BookFault
-  listed_fault code rule listed =
-      at_section top code listed.section listed.key.now (in_list listed.most (item_breaks (names_of top) rule listed.item) rule)
+  -- where a section of items does
+  abbrev pub items_fault : ℕ → Asked → Section → Text → ℕ → Item → Option BookFault
+  items_fault code asked section key most item = at_section top code section key (place_in_list asked most (λ rule. item_breaks (names_of top) rule item))
 
-  -- where the table of the flight phase breaks a rule
-  abbrev pub phase_fault : ℕ → Rule → Option BookFault
-  phase_fault code rule = at_section top code section.Phase (codes "phase") (λ value. whole (item_breaks (names_of top) rule items.Phase value))
+  abbrev pub listed_fault : ℕ → Asked → Listed → Option BookFault
+  listed_fault code asked listed = items_fault code asked listed.section listed.key.now listed.most listed.item
+
+  -- where the table of the flight phase does
+  abbrev pub phase_fault : ℕ → Asked → Option BookFault
+  phase_fault code asked = at_section top code section.Phase (codes "phase") (λ value. whole (item_fails (names_of top) asked items.Phase value))
+
+  -- the first section that does, and its first item
+  unfoldable pub asked_fault : ℕ → Asked → Option BookFault
+  asked_fault code asked = first_of (
+      system_fault code asked
+      ∷ items_fault code asked section.Page (codes "page") 16 items.Page
+      ∷ items_fault code asked section.Param (codes "param") 1024 items.Param
+      ∷ phase_fault code asked
+      ∷ items_fault code asked section.Alert (codes "alert") 1024 items.Alert
+      ∷ items_fault code asked section.Memo (codes "memo") 128 items.Memo
+      ∷ [])
 
   -- the first of these codes whose rule is broken
   abbrev pub rule_faults : List (ℕ × Rule) → Option BookFault
-  rule_faults coded = first_of (map (λ r. rule_fault top r.0 r.1) coded)
+  rule_faults coded = first_of (map (λ r. asked_fault r.0 (One r.1)) coded)
+
+  -- the first fault below the top
+  abbrev pub ordered_fault : Option BookFault
+  ordered_fault = option_or (rule_faults before_names) (option_or (repeated_fault top) (rule_faults after_names))
 
   -- the fault of the top alone
   abbrev pub top_fault : Option BookFault

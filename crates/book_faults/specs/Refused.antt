@@ -1,10 +1,10 @@
 -- For which rule the text of a condition is refused.
-use Rattle.std.specs.Prelude.{Bool, false, Option}
+use Rattle.std.specs.Prelude.{Bool, true, false, Option}
 use Rattle.toml.specs.Data.{Data, as_str}
 use Rattle.ecam_spec.specs.Book.{Text}
 use Rattle.ecam_spec.specs.BookText.{is_term_text}
 use Rattle.book_spec.specs.Fields.{◌>>=◌, passing}
-use Rattle.ecam_spec.specs.TermText.{Outcome}
+use Rattle.ecam_spec.specs.TermText.{Outcome, means}
 use Rattle.book_spec.specs.Rules.{is_misspelled, has_unknown, is_too_much, has_wrong_number}
 use Rattle.book_spec.specs.declared.schema.Rule.{Rule}
 use Rattle.book_spec.specs.declared.schema.Rule.TheVariants.{Spelled, Found, Small, Measured}
@@ -15,6 +15,11 @@ refused_by Found outcome = has_unknown outcome
 refused_by Small outcome = is_too_much outcome
 refused_by Measured outcome = has_wrong_number outcome
 refused_by _ outcome = false
+
+-- it is refused for one of them
+abbrev pub refuses : Outcome → Bool
+refuses (means tree) = false
+refuses _ = true
 
 -- the text of a condition that a value is, if it has the form of one
 abbrev pub written : Data → Option Text

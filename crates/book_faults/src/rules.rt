@@ -6,9 +6,11 @@ ghost use Rattle.toml.specs.View.{view};
 ghost use Rattle.ecam_spec.specs.TermReading.{verdict};
 ghost use Rattle.book_spec.specs.Schema.{is_word};
 ghost use Rattle.book_spec.specs.Rules as spec;
+ghost use Rattle.book_faults.specs.Asked.{leaf_fails, unread_rules, read_rules};
 ghost use Rattle.book_tables.specs.Catalogue.{names_in};
-ghost use Rattle.book_faults.specs.Refused.{refused_by, written};
+ghost use Rattle.book_faults.specs.Refused.{refused_by, refuses, written};
 ghost use Rattle.book_tables.specs.Reading.{views};
+ghost use Rattle.book_faults.specs.declared.rules.Asked.TheVariants.{Every};
 
 use book_spec::{Leaf, Rule, Words};
 use book_tables::Catalogue;
@@ -18,6 +20,13 @@ use book_tables::words::{colour_of, kind_of, section_of, sound_of, zone_of};
 use std::alloc::{AllocError, Global};
 use term_text::{TermError, read_term_by};
 use toml::Value;
+
+/// The rules that are asked for: one, or every one.
+#[derive(Clone, Copy)]
+pub(crate) enum Asked {
+    One(Rule),
+    Every,
+}
 
 fn is_string(value: &Value) -> bool
     ensures { result ≡ spec.is_string (view value.now) }
@@ -247,9 +256,9 @@ fn term_fails(
     }
 }
 
-/// Whether a value breaks a rule.
+/// Whether a value breaks this rule.
 #[tactic(auto, unfolding(book_spec::specs::Rules::leaf_breaks))]
-pub(crate) fn leaf_breaks(
+fn one_rule_breaks(
     alloc: Global,
     rule: Rule,
     names: &Catalogue<'_>,
@@ -277,5 +286,81 @@ pub(crate) fn leaf_breaks(
         }
         Rule::Small => term_fails(alloc, rule, names, leaf, value),
         Rule::Measured => term_fails(alloc, rule, names, leaf, value),
+    }
+}
+
+/// Whether a condition's text is refused, for whichever rule.
+fn is_unreadable(alloc: Global, names: &Catalogue<'_>, text: &str) -> Result<bool, AllocError>
+    requires { length text.now ≤ 2048 }
+    ensures { IfOk result (λ b. b ≡ refuses (verdict (names_in names.now).of_terms text.now)) }
+{
+    match read_term_by(alloc, text, names) {
+        Ok(_) => Ok(false),
+        Err(TermError::Memory) => Err(AllocError),
+        Err(_) => Ok(true),
+    }
+}
+
+/// Whether a value breaks one of the rules for which no condition is read.
+#[tactic(auto, unfolding(book_spec::specs::Rules::leaf_breaks))]
+fn unread_breaks(names: &Catalogue<'_>, leaf: Leaf, value: &Value) -> bool
+    ensures { result ≡ list_any (λ rule. spec.leaf_breaks (names_in names.now) rule leaf (view value.now)) unread_rules }
+{
+    has_wrong_type(leaf, value)
+        || name_fails(leaf, value)
+        || has_wrong_form(leaf, value)
+        || is_out_of_range(leaf, value)
+        || is_too_long(leaf, value)
+        || is_no_word(leaf, value)
+        || label_fails(leaf, value)
+        || page_fails(names, leaf, value)
+        || system_fails(names, leaf, value)
+}
+
+/// Whether a value breaks one of the rules for which a condition is read. It is read once for all of them.
+#[tactic(auto, using(crate::proofs::EveryRule::refused_once), unfolding(book_spec::specs::Rules::leaf_breaks, book_spec::specs::Rules::outcome_in))]
+fn read_breaks(
+    alloc: Global,
+    names: &Catalogue<'_>,
+    leaf: Leaf,
+    value: &Value,
+) -> Result<bool, AllocError>
+    ensures { IfOk result (λ b. b ≡ list_any (λ rule. spec.leaf_breaks (names_in names.now) rule leaf (view value.now)) read_rules) }
+{
+    match (leaf, written(value)) {
+        (Leaf::Term, Some(text)) => is_unreadable(alloc, names, text),
+        _ => Ok(parameter_fails(names, leaf, value)),
+    }
+}
+
+/// Whether a value breaks a rule, whichever it is.
+fn any_rule_breaks(
+    alloc: Global,
+    names: &Catalogue<'_>,
+    leaf: Leaf,
+    value: &Value,
+) -> Result<bool, AllocError>
+    ensures { IfOk result (λ b. b ≡ leaf_fails (names_in names.now) Every leaf (view value.now)) }
+{
+    if unread_breaks(names, leaf, value) {
+        return Ok(true);
+    }
+    read_breaks(alloc, names, leaf, value)
+}
+
+/// Whether a value breaks a rule that is asked for. A condition is read at most once, and only where a rule is asked
+/// for that it can be refused by.
+pub(crate) fn leaf_breaks(
+    alloc: Global,
+    asked: Asked,
+    names: &Catalogue<'_>,
+    leaf: Leaf,
+    value: &Value,
+) -> Result<bool, AllocError>
+    ensures { IfOk result (λ b. b ≡ leaf_fails (names_in names.now) asked leaf (view value.now)) }
+{
+    match asked {
+        Asked::One(rule) => one_rule_breaks(alloc, rule, names, leaf, value),
+        Asked::Every => any_rule_breaks(alloc, names, leaf, value),
     }
 }

@@ -5,14 +5,14 @@ ghost use Rattle.ecam_spec.specs.Faults.{first_item};
 ghost use Rattle.ecam_spec.specs.Sound.{is_repeated};
 ghost use Rattle.book_spec.specs.Rules.{leaf_breaks, members_of};
 ghost use Rattle.book_spec.specs.TableRules.{item_breaks};
-ghost use Rattle.book_spec.specs.Document.{in_list};
+ghost use Rattle.book_faults.specs.Asked.{leaf_fails, item_fails, place_in_list};
 ghost use Rattle.book_tables.specs.Catalogue.{names_in};
 ghost use Rattle.book_tables.specs.Places.{CountsNames};
 ghost use Rattle.book_tables.specs.Reading.{texts_of, views};
 
-use crate::rules::leaf_breaks;
+use crate::rules::{Asked, leaf_breaks};
 use crate::tables::{item_breaks, list_breaks};
-use book_spec::{Item, Leaf, Rule};
+use book_spec::{Item, Leaf};
 use book_tables::Catalogue;
 use book_tables::fields::members_of;
 use book_tables::places::{Counts, counts_of, times_in};
@@ -21,16 +21,16 @@ use toml::Value;
 
 fn first_leaf(
     alloc: Global,
-    rule: Rule,
+    asked: Asked,
     names: &Catalogue<'_>,
     leaf: Leaf,
     values: &[Value],
 ) -> Result<Option<u32>, AllocError>
     requires { length values.now < 2 ^ 32 }
-    ensures { IfOk result (λ r. r ≡ first_item (λ i d. leaf_breaks (names_in names.now) rule leaf d) (views values.now)) }
+    ensures { IfOk result (λ r. r ≡ first_item (λ i d. leaf_fails (names_in names.now) asked leaf d) (views values.now)) }
 {
     for (i, value) in values.iter().enumerate() {
-        if leaf_breaks(alloc, rule, names, leaf, value)? {
+        if leaf_breaks(alloc, asked, names, leaf, value)? {
             return Ok(Some(i as u32 + 1));
         }
     }
@@ -39,16 +39,16 @@ fn first_leaf(
 
 fn first_table(
     alloc: Global,
-    rule: Rule,
+    asked: Asked,
     names: &Catalogue<'_>,
     item: Item,
     values: &[Value],
 ) -> Result<Option<u32>, AllocError>
     requires { length values.now < 2 ^ 32 }
-    ensures { IfOk result (λ r. r ≡ first_item (λ i d. item_breaks (names_in names.now) rule item d) (views values.now)) }
+    ensures { IfOk result (λ r. r ≡ first_item (λ i d. item_fails (names_in names.now) asked item d) (views values.now)) }
 {
     for (i, value) in values.iter().enumerate() {
-        if item_breaks(alloc, rule, names, item, value)? {
+        if item_breaks(alloc, asked, names, item, value)? {
             return Ok(Some(i as u32 + 1));
         }
     }
@@ -59,38 +59,38 @@ fn first_table(
 /// of the first value that does, counted from 1.
 pub(crate) fn place_among_leaves(
     alloc: Global,
-    rule: Rule,
+    asked: Asked,
     names: &Catalogue<'_>,
     leaf: Leaf,
     most: usize,
     value: &Value,
 ) -> Result<Option<u32>, AllocError>
     requires { length (members_of (view value.now)) < 2 ^ 32 }
-    ensures { IfOk result (λ r. r ≡ in_list most (leaf_breaks (names_in names.now) rule leaf) rule (view value.now)) }
+    ensures { IfOk result (λ r. r ≡ place_in_list asked most (λ rule. leaf_breaks (names_in names.now) rule leaf) (view value.now)) }
 {
-    if list_breaks(rule, 0, most, value) {
+    if list_breaks(asked, 0, most, value) {
         return Ok(Some(0));
     }
-    first_leaf(alloc, rule, names, leaf, members_of(value))
+    first_leaf(alloc, asked, names, leaf, members_of(value))
 }
 
 /// Where a list of at most `most` items breaks a rule: 0 for the list as a whole, else the number of the first item
 /// that does, counted from 1.
 pub(crate) fn place_among_items(
     alloc: Global,
-    rule: Rule,
+    asked: Asked,
     names: &Catalogue<'_>,
     item: Item,
     most: usize,
     value: &Value,
 ) -> Result<Option<u32>, AllocError>
     requires { length (members_of (view value.now)) < 2 ^ 32 }
-    ensures { IfOk result (λ r. r ≡ in_list most (item_breaks (names_in names.now) rule item) rule (view value.now)) }
+    ensures { IfOk result (λ r. r ≡ place_in_list asked most (λ rule. item_breaks (names_in names.now) rule item) (view value.now)) }
 {
-    if list_breaks(rule, 0, most, value) {
+    if list_breaks(asked, 0, most, value) {
         return Ok(Some(0));
     }
-    first_table(alloc, rule, names, item, members_of(value))
+    first_table(alloc, asked, names, item, members_of(value))
 }
 
 fn first_counted_twice(counts: &Counts<'_>, names: &[&str]) -> Option<u32>

@@ -7,7 +7,9 @@ ghost use Rattle.ecam_spec.specs.BookText.{same_text};
 ghost use Rattle.book_spec.specs.Fields.{has_only};
 ghost use Rattle.book_spec.specs.Schema as schema;
 ghost use Rattle.book_spec.specs.Rules.{leaf_breaks};
+ghost use Rattle.book_spec.specs.TableRules.{if_there, shape_breaks};
 ghost use Rattle.book_spec.specs.TableRules as spec;
+ghost use Rattle.book_faults.specs.Asked.{any_asked, keys_fail, list_fails, leaf_table_fails, inner_fails, shape_fails, shape_table_fails, item_fails};
 ghost use Rattle.book_tables.specs.Catalogue.{names_in};
 ghost use Rattle.book_faults.specs.Keys.{keys_of, key_of, key_names};
 ghost use Rattle.book_tables.specs.Reading.{views};
@@ -16,7 +18,7 @@ use crate::keys::{
     Key, alert_keys, any_source_keys, bcd_keys, bnr_keys, disc_keys, kind_at, line_keys, memo_keys,
     page_keys, param_keys, phase_keys, status_keys, text_row_keys, value_row_keys,
 };
-use crate::rules::{has_wrong_count, leaf_breaks};
+use crate::rules::{Asked, has_wrong_count, leaf_breaks};
 use book_spec::{Inner, Item, Leaf, Rule, Shape};
 use book_tables::Catalogue;
 use book_tables::fields::{find, members_of};
@@ -59,42 +61,43 @@ fn lacks_key<S>(keys: &[Key<S>], table: &Table) -> bool
 }
 
 /// Whether a table has a key that isn't listed, or lacks one that is needed.
-fn keys_break<S>(rule: Rule, keys: &[Key<S>], table: &Table) -> bool
-    ensures { result ≡ spec.keys_break rule (keys_of keys.now) (table_view table.now) }
+fn keys_break<S>(asked: Asked, keys: &[Key<S>], table: &Table) -> bool
+    ensures { result ≡ keys_fail asked (keys_of keys.now) (table_view table.now) }
 {
-    match rule {
-        Rule::Known => !has_only(keys, table),
-        Rule::Needed => lacks_key(keys, table),
-        _ => false,
+    match asked {
+        Asked::One(Rule::Known) => !has_only(keys, table),
+        Asked::One(Rule::Needed) => lacks_key(keys, table),
+        Asked::One(_) => false,
+        Asked::Every => !has_only(keys, table) || lacks_key(keys, table),
     }
 }
 
 fn leaf_at_breaks(
     alloc: Global,
-    rule: Rule,
+    asked: Asked,
     names: &Catalogue<'_>,
     key: &Key<Leaf>,
     table: &Table,
 ) -> Result<bool, AllocError>
-    ensures { IfOk result (λ b. b ≡ spec.if_there (leaf_breaks (names_in names.now) rule key.now.holds) (get_member key.now.name.now (table_view table.now))) }
+    ensures { IfOk result (λ b. b ≡ any_asked asked (λ rule. if_there (leaf_breaks (names_in names.now) rule key.now.holds) (get_member key.now.name.now (table_view table.now)))) }
 {
     match find(table, key.name) {
-        Some(value) => leaf_breaks(alloc, rule, names, key.holds, value),
+        Some(value) => leaf_breaks(alloc, asked, names, key.holds, value),
         None => Ok(false),
     }
 }
 
 fn leaves_break(
     alloc: Global,
-    rule: Rule,
+    asked: Asked,
     names: &Catalogue<'_>,
     keys: &[Key<Leaf>],
     table: &Table,
 ) -> Result<bool, AllocError>
-    ensures { IfOk result (λ b. b ≡ list_any (λ k. spec.if_there (leaf_breaks (names_in names.now) rule k.holds) (get_member k.name (table_view table.now))) (keys_of keys.now)) }
+    ensures { IfOk result (λ b. b ≡ list_any (λ k. any_asked asked (λ rule. if_there (leaf_breaks (names_in names.now) rule k.holds) (get_member k.name (table_view table.now)))) (keys_of keys.now)) }
 {
     for key in keys {
-        if leaf_at_breaks(alloc, rule, names, key, table)? {
+        if leaf_at_breaks(alloc, asked, names, key, table)? {
             return Ok(true);
         }
     }
@@ -103,98 +106,109 @@ fn leaves_break(
 
 fn inner_table_breaks(
     alloc: Global,
-    rule: Rule,
+    asked: Asked,
     names: &Catalogue<'_>,
     keys: &[Key<Leaf>],
     table: &Table,
 ) -> Result<bool, AllocError>
-    ensures { IfOk result (λ b. b ≡ spec.table_breaks (leaf_breaks (names_in names.now) rule) rule (keys_of keys.now) (table_view table.now)) }
+    ensures { IfOk result (λ b. b ≡ leaf_table_fails (names_in names.now) asked (keys_of keys.now) (table_view table.now)) }
 {
-    if keys_break(rule, keys, table) {
+    if keys_break(asked, keys, table) {
         return Ok(true);
     }
-    leaves_break(alloc, rule, names, keys, table)
+    leaves_break(alloc, asked, names, keys, table)
 }
 
 #[tactic(auto, unfolding(book_spec::specs::Schema::inner_keys, book_spec::specs::Schema::row_keys))]
 fn row_breaks(
     alloc: Global,
-    rule: Rule,
+    asked: Asked,
     names: &Catalogue<'_>,
     table: &Table,
 ) -> Result<bool, AllocError>
-    ensures { IfOk result (λ b. b ≡ spec.table_breaks (leaf_breaks (names_in names.now) rule) rule (schema.inner_keys Inner.Row (table_view table.now)) (table_view table.now)) }
+    ensures { IfOk result (λ b. b ≡ leaf_table_fails (names_in names.now) asked (schema.inner_keys Inner.Row (table_view table.now)) (table_view table.now)) }
 {
     if find(table, "show").is_some() {
-        inner_table_breaks(alloc, rule, names, &value_row_keys(), table)
+        inner_table_breaks(alloc, asked, names, &value_row_keys(), table)
     } else {
-        inner_table_breaks(alloc, rule, names, &text_row_keys(), table)
+        inner_table_breaks(alloc, asked, names, &text_row_keys(), table)
     }
 }
 
 fn source_breaks(
     alloc: Global,
-    rule: Rule,
+    asked: Asked,
     names: &Catalogue<'_>,
     kind: Option<Kind>,
     table: &Table,
 ) -> Result<bool, AllocError>
-    ensures { IfOk result (λ b. b ≡ spec.table_breaks (leaf_breaks (names_in names.now) rule) rule (schema.source_keys kind) (table_view table.now)) }
+    ensures { IfOk result (λ b. b ≡ leaf_table_fails (names_in names.now) asked (schema.source_keys kind) (table_view table.now)) }
 {
     match kind {
-        Some(Kind::Disc) => inner_table_breaks(alloc, rule, names, &disc_keys(), table),
-        Some(Kind::Bnr) => inner_table_breaks(alloc, rule, names, &bnr_keys(), table),
-        Some(Kind::Bcd) => inner_table_breaks(alloc, rule, names, &bcd_keys(), table),
-        None => inner_table_breaks(alloc, rule, names, &any_source_keys(), table),
+        Some(Kind::Disc) => inner_table_breaks(alloc, asked, names, &disc_keys(), table),
+        Some(Kind::Bnr) => inner_table_breaks(alloc, asked, names, &bnr_keys(), table),
+        Some(Kind::Bcd) => inner_table_breaks(alloc, asked, names, &bcd_keys(), table),
+        None => inner_table_breaks(alloc, asked, names, &any_source_keys(), table),
     }
 }
 
 #[tactic(auto, unfolding(book_spec::specs::Schema::inner_keys))]
 fn keyed_inner_breaks(
     alloc: Global,
-    rule: Rule,
+    asked: Asked,
     names: &Catalogue<'_>,
     inner: Inner,
     table: &Table,
 ) -> Result<bool, AllocError>
-    ensures { IfOk result (λ b. b ≡ spec.table_breaks (leaf_breaks (names_in names.now) rule) rule (schema.inner_keys inner (table_view table.now)) (table_view table.now)) }
+    ensures { IfOk result (λ b. b ≡ leaf_table_fails (names_in names.now) asked (schema.inner_keys inner (table_view table.now)) (table_view table.now)) }
 {
     match inner {
-        Inner::Row => row_breaks(alloc, rule, names, table),
-        Inner::Source(kind) => source_breaks(alloc, rule, names, kind, table),
-        Inner::Line => inner_table_breaks(alloc, rule, names, &line_keys(), table),
-        Inner::Status => inner_table_breaks(alloc, rule, names, &status_keys(), table),
+        Inner::Row => row_breaks(alloc, asked, names, table),
+        Inner::Source(kind) => source_breaks(alloc, asked, names, kind, table),
+        Inner::Line => inner_table_breaks(alloc, asked, names, &line_keys(), table),
+        Inner::Status => inner_table_breaks(alloc, asked, names, &status_keys(), table),
     }
 }
 
-/// Whether a table inside an item breaks a rule.
+/// Whether a value is no table, where one is listed.
+fn is_no_table(asked: Asked, value: &Value) -> bool
+    ensures { result ≡ any_asked asked (λ rule. spec.is_no_table rule (view value.now)) }
+{
+    match asked {
+        Asked::One(Rule::Typed) => value.as_table().is_none(),
+        Asked::One(_) => false,
+        Asked::Every => value.as_table().is_none(),
+    }
+}
+
+/// Whether a table inside an item breaks a rule that is asked for.
 #[tactic(auto, unfolding(book_spec::specs::TableRules::inner_breaks))]
 fn inner_breaks(
     alloc: Global,
-    rule: Rule,
+    asked: Asked,
     names: &Catalogue<'_>,
     inner: Inner,
     value: &Value,
 ) -> Result<bool, AllocError>
-    ensures { IfOk result (λ b. b ≡ spec.inner_breaks (names_in names.now) rule inner (view value.now)) }
+    ensures { IfOk result (λ b. b ≡ inner_fails (names_in names.now) asked inner (view value.now)) }
 {
     match value.as_table() {
-        Some(table) => keyed_inner_breaks(alloc, rule, names, inner, table),
-        None => Ok(matches!(rule, Rule::Typed)),
+        Some(table) => keyed_inner_breaks(alloc, asked, names, inner, table),
+        None => Ok(is_no_table(asked, value)),
     }
 }
 
 fn any_inner_breaks(
     alloc: Global,
-    rule: Rule,
+    asked: Asked,
     names: &Catalogue<'_>,
     inner: Inner,
     values: &[Value],
 ) -> Result<bool, AllocError>
-    ensures { IfOk result (λ b. b ≡ list_any (spec.inner_breaks (names_in names.now) rule inner) (views values.now)) }
+    ensures { IfOk result (λ b. b ≡ list_any (inner_fails (names_in names.now) asked inner) (views values.now)) }
 {
     for value in values {
-        if inner_breaks(alloc, rule, names, inner, value)? {
+        if inner_breaks(alloc, asked, names, inner, value)? {
             return Ok(true);
         }
     }
@@ -202,64 +216,65 @@ fn any_inner_breaks(
 }
 
 /// Whether a list of `low` to `high` members has another type or length.
-pub(crate) fn list_breaks(rule: Rule, low: usize, high: usize, value: &Value) -> bool
-    ensures { result ≡ spec.list_breaks rule low high (view value.now) }
+pub(crate) fn list_breaks(asked: Asked, low: usize, high: usize, value: &Value) -> bool
+    ensures { result ≡ list_fails asked low high (view value.now) }
 {
-    match rule {
-        Rule::Typed => value.as_array().is_none(),
-        Rule::Counted => has_wrong_count(low, high, value),
-        _ => false,
+    match asked {
+        Asked::One(Rule::Typed) => value.as_array().is_none(),
+        Asked::One(Rule::Counted) => has_wrong_count(low, high, value),
+        Asked::One(_) => false,
+        Asked::Every => value.as_array().is_none() || has_wrong_count(low, high, value),
     }
 }
 
-/// Whether what a key of an item holds breaks a rule.
+/// Whether what a key of an item holds breaks a rule that is asked for.
 #[tactic(auto, unfolding(book_spec::specs::TableRules::shape_breaks))]
 fn shape_breaks(
     alloc: Global,
-    rule: Rule,
+    asked: Asked,
     names: &Catalogue<'_>,
     shape: Shape,
     value: &Value,
 ) -> Result<bool, AllocError>
-    ensures { IfOk result (λ b. b ≡ spec.shape_breaks (names_in names.now) rule shape (view value.now)) }
+    ensures { IfOk result (λ b. b ≡ shape_fails (names_in names.now) asked shape (view value.now)) }
 {
     match shape {
-        Shape::Leaf(leaf) => leaf_breaks(alloc, rule, names, leaf, value),
+        Shape::Leaf(leaf) => leaf_breaks(alloc, asked, names, leaf, value),
         Shape::Tables(inner, low, high) => {
-            if list_breaks(rule, low, high, value) {
+            if list_breaks(asked, low, high, value) {
                 return Ok(true);
             }
-            any_inner_breaks(alloc, rule, names, inner, members_of(value))
+            any_inner_breaks(alloc, asked, names, inner, members_of(value))
         }
     }
 }
 
 fn shape_at_breaks(
     alloc: Global,
-    rule: Rule,
+    asked: Asked,
     names: &Catalogue<'_>,
     key: &Key<Shape>,
     table: &Table,
 ) -> Result<bool, AllocError>
-    ensures { IfOk result (λ b. b ≡ spec.if_there (spec.shape_breaks (names_in names.now) rule key.now.holds) (get_member key.now.name.now (table_view table.now))) }
+    ensures { IfOk result (λ b. b ≡ any_asked asked (λ rule. if_there (shape_breaks (names_in names.now) rule key.now.holds) (get_member key.now.name.now (table_view table.now)))) }
 {
     match find(table, key.name) {
-        Some(value) => shape_breaks(alloc, rule, names, key.holds, value),
+        Some(value) => shape_breaks(alloc, asked, names, key.holds, value),
         None => Ok(false),
     }
 }
 
 fn shapes_break(
     alloc: Global,
-    rule: Rule,
+    asked: Asked,
     names: &Catalogue<'_>,
     keys: &[Key<Shape>],
     table: &Table,
 ) -> Result<bool, AllocError>
-    ensures { IfOk result (λ b. b ≡ list_any (λ k. spec.if_there (spec.shape_breaks (names_in names.now) rule k.holds) (get_member k.name (table_view table.now))) (keys_of keys.now)) }
+    ensures { IfOk result (λ b. b ≡ list_any (λ k. any_asked asked (λ rule. if_there (shape_breaks (names_in names.now) rule k.holds) (get_member k.name (table_view table.now)))) (keys_of keys.now)) }
 {
     for key in keys {
-        if shape_at_breaks(alloc, rule, names, key, table)? {
+        if shape_at_breaks(alloc, asked, names, key, table)? {
             return Ok(true);
         }
     }
@@ -268,52 +283,52 @@ fn shapes_break(
 
 fn item_table_breaks(
     alloc: Global,
-    rule: Rule,
+    asked: Asked,
     names: &Catalogue<'_>,
     keys: &[Key<Shape>],
     table: &Table,
 ) -> Result<bool, AllocError>
-    ensures { IfOk result (λ b. b ≡ spec.table_breaks (spec.shape_breaks (names_in names.now) rule) rule (keys_of keys.now) (table_view table.now)) }
+    ensures { IfOk result (λ b. b ≡ shape_table_fails (names_in names.now) asked (keys_of keys.now) (table_view table.now)) }
 {
-    if keys_break(rule, keys, table) {
+    if keys_break(asked, keys, table) {
         return Ok(true);
     }
-    shapes_break(alloc, rule, names, keys, table)
+    shapes_break(alloc, asked, names, keys, table)
 }
 
 #[tactic(auto, unfolding(book_spec::specs::Schema::item_keys))]
 fn keyed_item_breaks(
     alloc: Global,
-    rule: Rule,
+    asked: Asked,
     names: &Catalogue<'_>,
     item: Item,
     table: &Table,
 ) -> Result<bool, AllocError>
-    ensures { IfOk result (λ b. b ≡ spec.table_breaks (spec.shape_breaks (names_in names.now) rule) rule (schema.item_keys item (table_view table.now)) (table_view table.now)) }
+    ensures { IfOk result (λ b. b ≡ shape_table_fails (names_in names.now) asked (schema.item_keys item (table_view table.now)) (table_view table.now)) }
 {
     match item {
-        Item::Page => item_table_breaks(alloc, rule, names, &page_keys(), table),
-        Item::Param => item_table_breaks(alloc, rule, names, &param_keys(kind_at(table)), table),
-        Item::Phase => item_table_breaks(alloc, rule, names, &phase_keys(), table),
-        Item::Alert => item_table_breaks(alloc, rule, names, &alert_keys(), table),
-        Item::Memo => item_table_breaks(alloc, rule, names, &memo_keys(), table),
+        Item::Page => item_table_breaks(alloc, asked, names, &page_keys(), table),
+        Item::Param => item_table_breaks(alloc, asked, names, &param_keys(kind_at(table)), table),
+        Item::Phase => item_table_breaks(alloc, asked, names, &phase_keys(), table),
+        Item::Alert => item_table_breaks(alloc, asked, names, &alert_keys(), table),
+        Item::Memo => item_table_breaks(alloc, asked, names, &memo_keys(), table),
     }
 }
 
-/// Whether an item, or the table of the flight phase, breaks a rule. It costs a look-up for each key that the table
-/// may have, and for each of its keys a comparison with those.
+/// Whether an item, or the table of the flight phase, breaks a rule that is asked for. It costs a look-up or two for
+/// each key that the table may have, and for each of its keys a comparison with those.
 #[tactic(auto, unfolding(book_spec::specs::TableRules::item_breaks))]
 pub(crate) fn item_breaks(
     alloc: Global,
-    rule: Rule,
+    asked: Asked,
     names: &Catalogue<'_>,
     item: Item,
     value: &Value,
 ) -> Result<bool, AllocError>
-    ensures { IfOk result (λ b. b ≡ spec.item_breaks (names_in names.now) rule item (view value.now)) }
+    ensures { IfOk result (λ b. b ≡ item_fails (names_in names.now) asked item (view value.now)) }
 {
     match value.as_table() {
-        Some(table) => keyed_item_breaks(alloc, rule, names, item, table),
-        None => Ok(matches!(rule, Rule::Typed)),
+        Some(table) => keyed_item_breaks(alloc, asked, names, item, table),
+        None => Ok(is_no_table(asked, value)),
     }
 }
