@@ -1,13 +1,14 @@
 -- What callers see of a shelf in memory.
-use Rattle.std.specs.Prelude.{Option, ℕ, List, [], drop, map, Some, None, slice_index_or, string_bytes}
+use Rattle.std.specs.Prelude.{Option, ℕ, Bool, List, [], drop, map, Some, None, slice_index_or, string_bytes}
 use Rattle.ecam_io.specs.declared.memory_shelf.MemoryFile.{MemoryFile}
 
 -- Its files, each a name and what it holds; the numbers of the calls that fail, and the most bytes that a read
--- gives; what is left of the open file; and how many calls, opens and faults there were.
+-- gives; whether one is open, and what is left of it; and how many calls, opens and faults there were.
 pub record ShelfState : Type 0 where
   pub files : List (List ℕ × List ℕ)
   pub failing : List ℕ
   pub piece : ℕ
+  pub is_open : Bool
   pub left : List ℕ
   pub calls : ℕ
   pub opens : ℕ

@@ -1,5 +1,5 @@
 // A shelf whose files lie in memory.
-ghost use Rattle.std.specs.Prelude.{◌≡◌, ◌+◌, ◌^◌, ◌<◌, ◌≤◌, ◌&&◌, not, min, List, [], take, drop, length, IfOk, IfSome, IfNone, OnOk, OnErr, Some, None, Ok, is_err, is_ok, is_some, if◌then◌else◌};
+ghost use Rattle.std.specs.Prelude.{◌≡◌, ◌+◌, ◌^◌, ◌<◌, ◌≤◌, ◌&&◌, not, min, List, [], take, drop, length, IfOk, IfSome, IfNone, OnOk, OnErr, Some, None, Ok, is_err, is_ok, is_some, true, false, if◌then◌else◌};
 ghost use Rattle.std.specs.Io.KnownBytes.{Consumes, IsAtEnd};
 ghost use Rattle.ecam_io.specs.Outside.{raised, Rose, fails_after, file_named, FileHas, MayRefuse, IsClosed};
 ghost use Rattle.ecam_io.specs.MemoryShelf.{files_of, left_of};
@@ -30,7 +30,7 @@ pub struct MemoryShelf {
 }
 
 impl Model for MemoryShelf {
-    ghost use Rattle.std.specs.Prelude.{◌<◌};
+    ghost use Rattle.std.specs.Prelude.{◌<◌, is_some};
     ghost use Rattle.ecam_io.specs.MemoryShelf.{ShelfState, files_of, left_of};
 
     ghost Value = { ShelfState };
@@ -39,6 +39,7 @@ impl Model for MemoryShelf {
       files = files_of s.files.items;
       failing = s.failing.items;
       piece = s.piece;
+      is_open = is_some s.file;
       left = left_of (files_of s.files.items) s.file s.taken;
       calls = s.calls;
       opens = s.opens;
@@ -84,7 +85,7 @@ impl MemoryShelf {
     /// fail. A read gives `piece` bytes at most.
     pub fn new(files: Vec<MemoryFile>, failing: Vec<u32>, piece: usize) -> MemoryShelf
         requires { 0 < piece }
-        ensures { result ≡ record { files = files_of files.items; failing = failing.items; piece = piece; left = []; calls = 0; opens = 0; faults = 0 } }
+        ensures { result ≡ record { files = files_of files.items; failing = failing.items; piece = piece; is_open = false; left = []; calls = 0; opens = 0; faults = 0 } }
     {
         MemoryShelf {
             files,
@@ -117,7 +118,7 @@ impl MemoryShelf {
 
     // Counts an open, and leaves nothing open.
     fn close(&mut self)
-        ensures { self.new ≡ record self.old { left = []; opens = raised self.old.opens } }
+        ensures { self.new ≡ record self.old { is_open = false; left = []; opens = raised self.old.opens } }
     {
         self.opens = self.opens.saturating_add(1);
         self.file = None;
@@ -127,7 +128,8 @@ impl MemoryShelf {
     fn find_file(&mut self, name: &str) -> Result<(), Failed>
         ensures answer { is_ok result ≡ is_some (file_named self.old.files name.now) }
         ensures opened { OnOk result (file_named self.old.files name.now ≡ Some self.new.left) }
-        ensures state { self.new ≡ record self.old { left = self.new.left } }
+        ensures state { self.new ≡ record self.old { is_open = self.new.is_open; left = self.new.left } }
+        ensures is_open { OnOk result (self.new.is_open ≡ true) }
         ensures same { OnErr result (self.new ≡ self.old) }
     {
         let i = find(&self.files, name).ok_or(Failed)?;
@@ -157,6 +159,8 @@ impl Source for MemoryShelf {
 
     ghost files = { λ s. Some s.files };
 
+    ghost is_open = { λ s. s.is_open };
+
     ghost opens = { λ s. s.opens };
 
     ghost faults = { λ s. s.faults };
@@ -168,6 +172,7 @@ impl Source for MemoryShelf {
         ensures moved { IfOk result (λ n. Consumes (Some self.old.left) (Some self.new.left) (take n into.new)) }
         ensures end { IfOk result (λ n. n ≡ 0 → IsAtEnd (Some self.new.left)) }
         ensures kept { OnErr result (Some self.new.left ≡ Some self.old.left) }
+        ensures is_open { self.new.is_open ≡ self.old.is_open }
         ensures files { Some self.new.files ≡ Some self.old.files }
         ensures opens { self.new.opens ≡ self.old.opens }
         ensures faults { self.old.faults ≤ self.new.faults }
@@ -189,6 +194,7 @@ impl Shelf for MemoryShelf {
     fn open(&mut self, name: &str) -> Result<(), Failed>
         ensures found { OnOk result (FileHas (Some self.old.files) name.now (λ bytes. Some self.new.left ≡ Some bytes)) }
         ensures closed { OnErr result (IsClosed (Some self.old.files) (Some self.new.left)) }
+        ensures is_open { self.new.is_open ≡ is_ok result }
         ensures files { Some self.new.files ≡ Some self.old.files }
         ensures opens { self.new.opens ≡ raised self.old.opens }
         ensures faults { self.old.faults ≤ self.new.faults }
@@ -198,6 +204,7 @@ impl Shelf for MemoryShelf {
         ensures succeeds { is_ok result ≡ (not (fails_after self.old.failing self.old.calls) && is_some (file_named self.old.files name.now)) }
         ensures counted { self.new.faults ≡ (if fails_after self.old.failing self.old.calls then raised self.old.faults else self.old.faults) }
         ensures changed { self.new ≡ record self.old {
+          is_open = is_ok result;
           left = self.new.left;
           calls = raised self.old.calls;
           opens = raised self.old.opens;

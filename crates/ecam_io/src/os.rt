@@ -1,5 +1,5 @@
 // The ends over the real system. They tell nothing of content.
-ghost use Rattle.std.specs.Prelude.{◌≡◌, ◌<◌, ◌≤◌, ⊤, None, length, IfOk, OnErr};
+ghost use Rattle.std.specs.Prelude.{◌≡◌, ◌<◌, ◌≤◌, ⊤, None, false, length, IfOk, OnErr, is_some};
 ghost use Rattle.ecam_io.specs.Outside.{Rose};
 
 use crate::{Failed, Shelf, Sink, Source};
@@ -10,10 +10,9 @@ use std::io::{ErrorKind, Read, Stderr, Stdin, Stdout, Write};
 // How often a call that a signal broke off is made.
 const TRIES: usize = 64;
 
-// What a shelf over the system has open.
+// What a shelf over the system reads from.
 #[derive(Drop)]
 enum Opened {
-    Nothing,
     File(File),
     Input(Stdin),
 }
@@ -21,7 +20,6 @@ enum Opened {
 impl Read for Opened {
     fn read(&mut self, into: &mut [u8]) -> io::Result<usize> {
         match self {
-            Opened::Nothing => Ok(0),
             Opened::File(file) => file.read(into),
             Opened::Input(input) => input.read(into),
         }
@@ -78,7 +76,7 @@ fn write_counted<W: Write>(to: &mut W, faults: &mut u64, bytes: &[u8]) -> Result
 #[derive(Drop)]
 pub struct OsShelf {
     rt: HostRuntime,
-    opened: Opened,
+    opened: Option<Opened>,
     opens: u64,
     faults: u64,
 }
@@ -86,12 +84,13 @@ pub struct OsShelf {
 impl OsShelf {
     /// A shelf with nothing open.
     pub fn new(rt: HostRuntime) -> OsShelf
+        ensures is_open { ⟦<OsShelf as Source>⟧.is_open result ≡ false }
         ensures opens { ⟦<OsShelf as Source>⟧.opens result ≡ 0 }
         ensures faults { ⟦<OsShelf as Source>⟧.faults result ≡ 0 }
     {
         OsShelf {
             rt,
-            opened: Opened::Nothing,
+            opened: None,
             opens: 0,
             faults: 0,
         }
@@ -101,26 +100,31 @@ impl OsShelf {
 impl Source for OsShelf {
     ghost left = { λ _. None };
 
+    ghost is_open = { λ s. is_some s.opened };
+
     ghost opens = { λ s. s.opens };
 
     ghost faults = { λ s. s.faults };
 
     fn read(&mut self, into: &mut [u8]) -> Result<usize, Failed> {
-        read_counted(&mut self.opened, &mut self.faults, into)
+        match &mut self.opened {
+            Some(opened) => read_counted(opened, &mut self.faults, into),
+            None => Ok(0),
+        }
     }
 }
 
 impl Shelf for OsShelf {
     fn open(&mut self, name: &str) -> Result<(), Failed> {
         self.opens = self.opens.saturating_add(1);
-        self.opened = Opened::Nothing;
+        self.opened = None;
         if name == "-" {
-            self.opened = Opened::Input(self.rt.stdin());
+            self.opened = Some(Opened::Input(self.rt.stdin()));
             return Ok(());
         }
         match File::open(&self.rt, name) {
             Ok(file) => {
-                self.opened = Opened::File(file);
+                self.opened = Some(Opened::File(file));
                 Ok(())
             }
             Err(_) => {

@@ -1,5 +1,5 @@
 // The three traits, and the call that writes all.
-ghost use Rattle.std.specs.Prelude.{◌≡◌, ℕ, ◌<◌, ◌≤◌, List, [], take, length, Option, None, IfOk, OnOk, OnErr, Some};
+ghost use Rattle.std.specs.Prelude.{◌≡◌, ℕ, ◌<◌, ◌≤◌, Bool, true, List, [], take, length, Option, None, IfOk, OnOk, OnErr, is_ok, Some};
 ghost use Rattle.std.specs.Io.KnownBytes.{Consumes, IsAtEnd};
 ghost use Rattle.ecam_io.specs.Outside.{raised, Rose, FileHas, MayRefuse, IsClosed, Appended, IsKept, AppendedPrefix};
 
@@ -15,6 +15,9 @@ pub trait Source {
     /// The files of a shelf that tells them, each its name and what it holds; `None` for what is no shelf.
     ghost files: { Self → Option (List (List ℕ × List ℕ)) } = { λ _. None };
 
+    /// Whether a file is open; true for what is no shelf.
+    ghost is_open: { Self → Bool } = { λ _. true };
+
     /// How many calls of `open` there were, ending at 2^64 - 1; 0 for what is no shelf.
     ghost opens: { Self → ℕ } = { λ _. 0 };
 
@@ -29,6 +32,7 @@ pub trait Source {
         ensures moved { IfOk result (λ n. Consumes (left self.old) (left self.new) (take n into.new)) }
         ensures end { IfOk result (λ n. n ≡ 0 → IsAtEnd (left self.new)) }
         ensures kept { OnErr result (left self.new ≡ left self.old) }
+        ensures is_open { is_open self.new ≡ is_open self.old }
         ensures files { files self.new ≡ files self.old }
         ensures opens { opens self.new ≡ opens self.old }
         ensures faults { faults self.old ≤ faults self.new }
@@ -41,6 +45,7 @@ pub trait Shelf: Source {
     fn open(&mut self, name: &str) -> Result<(), Failed>
         ensures found { OnOk result (FileHas (Self.files self.old) name.now (λ bytes. Self.left self.new ≡ Some bytes)) }
         ensures closed { OnErr result (IsClosed (Self.files self.old) (Self.left self.new)) }
+        ensures is_open { Self.is_open self.new ≡ is_ok result }
         ensures files { Self.files self.new ≡ Self.files self.old }
         ensures opens { Self.opens self.new ≡ raised (Self.opens self.old) }
         ensures faults { Self.faults self.old ≤ Self.faults self.new }

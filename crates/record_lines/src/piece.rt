@@ -71,6 +71,7 @@ impl Piece {
         ensures few { length self.new ≤ 4096 }
         ensures none { OnErr result (self.new ≡ []) }
         ensures kept { OnErr result (S.left source.new ≡ S.left source.old) }
+        ensures is_open { S.is_open source.new ≡ S.is_open source.old }
         ensures files { S.files source.new ≡ S.files source.old }
         ensures opens { S.opens source.new ≡ S.opens source.old }
         ensures faults { S.faults source.old ≤ S.faults source.new }

@@ -89,6 +89,7 @@ impl LineReader {
 
         ensures cause { result ≡ Err LineError.Failed → Rose (S.faults source.old) (S.faults source.new) }
         ensures faults { S.faults source.old ≤ S.faults source.new }
+        ensures is_open { S.is_open source.new ≡ S.is_open source.old }
         ensures files { S.files source.new ≡ S.files source.old }
         ensures opens { S.opens source.new ≡ S.opens source.old }
     {
@@ -230,6 +231,7 @@ impl LineReader {
         ensures nearer { result ≡ Ok true → wait self.new ≡ 2 * self.old.allowance }
         ensures same { OnErr result (self.new ≡ self.old) }
         ensures kept { OnErr result (S.left source.new ≡ S.left source.old) }
+        ensures is_open { S.is_open source.new ≡ S.is_open source.old }
         ensures files { S.files source.new ≡ S.files source.old }
         ensures opens { S.opens source.new ≡ S.opens source.old }
         ensures faults { S.faults source.old ≤ S.faults source.new }

@@ -16,6 +16,7 @@ pieces-preserved g c =
       took = takes_piece _ _ _ c.args.self.now c.pieces.self c.found.new.self c.fill.new.self i.took advances empty c.in_default-found.ensures.within piece;
       fewer = let a = i.fewer in let b = advances.room_is in omega arith;
       faults = let a = i.faults in let b = c.fill.ensures.faults in omega arith;
+      is_open = c.fill.ensures.is_open ∙ i.is_open;
       files = c.fill.ensures.files ∙ i.files;
       opens = c.fill.ensures.opens ∙ i.opens;
     }

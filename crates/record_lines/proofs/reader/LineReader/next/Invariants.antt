@@ -10,6 +10,7 @@ invariant-pieces g l = record {
   took : Takes (g.S.Source.left l.initial.source) (g.S.Source.left l.source) (λ more. Goes l.initial.self l.self more);
   fewer : room l.self ≤ room l.initial.self;
   faults : g.S.Source.faults l.initial.source ≤ g.S.Source.faults l.source;
+  is_open : g.S.Source.is_open l.source ≡ g.S.Source.is_open l.initial.source;
   files : g.S.Source.files l.source ≡ g.S.Source.files l.initial.source;
   opens : g.S.Source.opens l.source ≡ g.S.Source.opens l.initial.source;
 }
