@@ -1,10 +1,10 @@
 -- The alerts of a book, one by one, tested for being their titles alone.
-use Rattle.std.proofs.Common.{◌≡◌, ℕ, ◌+◌, ◌<◌, ◌≤◌, Bool, true, false, not, ◌&&◌, List, [], ◌∷◌, map, length, get_or, take, slice_get, Some, refl, sym, ap, ◌∙◌, arith}
+use Rattle.std.proofs.Common.{◌≡◌, ℕ, ◌+◌, ◌<◌, ◌≤◌, Bool, true, false, ◌&&◌, List, map, length, get_or, take, slice_get, Some, sym, ap, ◌∙◌, arith}
 use Rattle.std.specs.List.{list_all}
 use Rattle.std.proofs.lemmas.List.{length-map, get_or-map, take_all}
 use Rattle.std.proofs.lemmas.List.Folds.{list_all_at, list_all_more}
 use Rattle.ecam_spec.specs.Book.{Text, Alert as AlertPlain}
-use Rattle.ecam_spec.specs.Draft.{DraftAlert, book_of, resolved, alert_names}
+use Rattle.ecam_spec.specs.Draft.{book_of, resolved, alert_names}
 use Rattle.ecam_spec.specs.Titles.{is_title}
 use Rattle.book_model.specs.View.{draft_of, alert_of}
 use Rattle.book_model.specs.Sealed.{the_book}

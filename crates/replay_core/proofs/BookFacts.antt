@@ -1,5 +1,5 @@
 -- What the reading and the sealing of a book's bytes tell of the bytes.
-use Rattle.std.proofs.Common.{◌≡◌, ℕ, ◌<◌, ◌≤◌, Bool, true, false, Option, Some, None, length, length-take, take, cond, ltb, leb, refl, sym, ap, ◌∙◌, subst, inl, inr, arith}
+use Rattle.std.proofs.Common.{◌≡◌, ◌<◌, ◌≤◌, true, false, Option, Some, None, length, length-take, take, cond, leb, refl, sym, ap, ◌∙◌, subst, inl, inr, arith}
 use Rattle.std.specs.Prelude.{is_none, if◌then◌else◌}
 use Rattle.std.specs.Option.{option_or}
 use Rattle.std.proofs.lemmas.List.{take_all}
@@ -10,7 +10,6 @@ use Rattle.ecam_spec.specs.Book.{Text, Book}
 use Rattle.ecam_spec.specs.Draft.{Draft, book_of}
 use Rattle.ecam_spec.specs.DraftFaults.{draft_fault}
 use Rattle.ecam_spec.specs.Titles.{is_title_book}
-use Rattle.book_spec.specs.Document.{table_fault}
 use Rattle.book_spec.specs.DraftOf.{draft_of}
 use Rattle.book_spec.specs.BookBytes.{table_of_text, top_fault, document_fault, text_fault, draft_in, draft_of_bytes, fault_after, book_fault, sealed, book}
 use Rattle.replay_core.specs.Replayed.{unbuilt, taken, unbuilt_in, replayed, replay_fault}

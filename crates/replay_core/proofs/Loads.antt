@@ -1,5 +1,5 @@
 -- How loading a book ends, from how its steps do.
-use Rattle.std.proofs.Common.{◌≡◌, ℕ, true, false, [], Option, Some, None, Err, IsSomeAnd, refl, sym, ap, ◌∙◌, subst, arith}
+use Rattle.std.proofs.Common.{◌≡◌, ℕ, Bool, true, false, [], Option, Some, None, Err, IsSomeAnd, refl, sym, ap, ◌∙◌, subst, arith}
 use Rattle.ecam_io.specs.Outside.{FileHas}
 use Rattle.ecam_io.proofs.Calls.{FileHas-weaker}
 use Rattle.ecam_spec.specs.declared.kinds.BookFault.{BookFault}
@@ -8,7 +8,7 @@ use Rattle.ecam_spec.specs.Draft.{Draft, book_of}
 use Rattle.ecam_spec.specs.DraftFaults.{draft_fault}
 use Rattle.ecam_spec.specs.Titles.{is_title_book}
 use Rattle.book_spec.specs.BookBytes.{draft_of_bytes, book_fault, book}
-use Rattle.replay_core.specs.Replayed.{unbuilt, replayed, replay_fault, taken}
+use Rattle.replay_core.specs.Replayed.{unbuilt, replayed, replay_fault}
 use Rattle.replay_core.specs.Loading.{Files, BookHas, ReplayedHas, IsFront, HasFault, Loads, Prepares, Readies}
 use Rattle.replay_core.specs.declared.outcome.Outcome.{Outcome}
 use Rattle.replay_core.specs.declared.outcome.Outcome.TheVariants as outcomes
@@ -49,22 +49,22 @@ module _ (files : Files) (name : Text) (b : Book) (left : Option Text) (loads : 
       (λ bytes is. unbuilt-told bytes b (some-is (book bytes) b is) more) has
 
   -- no replay was made by the book
-  pub unprepared : (before now : ℕ) (outcome : Outcome) → Prepares b (Err outcome) → Readies files name before now (Err outcome)
-  unprepared before now (outcomes.BookRefused f) (is, more) = subst (λ g. FileHas files name (λ bytes. replay_fault bytes ≡ Some g)) (sym is) (not-built more)
-  unprepared before now outcomes.NoMemory none = tt
-  unprepared before now outcomes.ReadFault never = absurd never
-  unprepared before now outcomes.Done never = absurd never
-  unprepared before now outcomes.Usage never = absurd never
-  unprepared before now (outcomes.RecordRefused f) never = absurd never
-  unprepared before now outcomes.WriteFault never = absurd never
+  pub unprepared : (before now : ℕ) (is_open : Bool) (outcome : Outcome) → Prepares b (Err outcome) → Readies files name before now is_open left (Err outcome)
+  unprepared before now is_open (outcomes.BookRefused f) (is, more) = subst (λ g. FileHas files name (λ bytes. replay_fault bytes ≡ Some g)) (sym is) (not-built more)
+  unprepared before now is_open outcomes.NoMemory none = tt
+  unprepared before now is_open outcomes.ReadFault never = absurd never
+  unprepared before now is_open outcomes.Done never = absurd never
+  unprepared before now is_open outcomes.Usage never = absurd never
+  unprepared before now is_open (outcomes.RecordRefused f) never = absurd never
+  unprepared before now is_open outcomes.WriteFault never = absurd never
 
 -- without a book no replay is ready
-pub unready : (files : Files) (name : Text) (before now : ℕ) (left : Option Text) (outcome : Outcome) → Loads files name before now left (Err outcome) → Readies files name before now (Err outcome)
-unready files name before now left (outcomes.BookRefused f) is = FileHas-weaker files name (λ bytes. HasFault bytes f left) (λ bytes. replay_fault bytes ≡ Some f)
+pub unready : (files : Files) (name : Text) (before now : ℕ) (is_open : Bool) (left : Option Text) (outcome : Outcome) → Loads files name before now is_open left (Err outcome) → Readies files name before now is_open left (Err outcome)
+unready files name before now is_open left (outcomes.BookRefused f) is = FileHas-weaker files name (λ bytes. HasFault bytes f left) (λ bytes. replay_fault bytes ≡ Some f)
     (λ bytes faulty. fault-told bytes f faulty.fault_is) is
-unready files name before now left outcomes.ReadFault refused = refused
-unready files name before now left outcomes.NoMemory loads = tt
-unready files name before now left outcomes.Done loads = absurd loads
-unready files name before now left outcomes.Usage loads = absurd loads
-unready files name before now left (outcomes.RecordRefused f) loads = absurd loads
-unready files name before now left outcomes.WriteFault loads = absurd loads
+unready files name before now is_open left outcomes.ReadFault unread = unread
+unready files name before now is_open left outcomes.NoMemory loads = tt
+unready files name before now is_open left outcomes.Done loads = absurd loads
+unready files name before now is_open left outcomes.Usage loads = absurd loads
+unready files name before now is_open left (outcomes.RecordRefused f) loads = absurd loads
+unready files name before now is_open left outcomes.WriteFault loads = absurd loads

@@ -1,6 +1,6 @@
 -- How loading a book ends, each ending with its cause.
-use Rattle.std.specs.Prelude.{◌≡◌, ℕ, ◌≤◌, ◌<◌, ◌++◌, length, true, false, List, [], Option, Some, Result, Ok, Err, IsSomeAnd}
-use Rattle.ecam_io.specs.Outside.{FileHas, MayRefuse}
+use Rattle.std.specs.Prelude.{◌≡◌, ◌⊎◌, ℕ, ◌≤◌, ◌<◌, ◌++◌, length, Bool, true, false, List, [], Option, Some, Result, Ok, Err, IsSomeAnd}
+use Rattle.ecam_io.specs.Outside.{Rose, FileHas, MayRefuse, IsClosed}
 use Rattle.ecam_spec.specs.declared.kinds.BookFault.{BookFault}
 use Rattle.ecam_spec.specs.Book.{Text, Book}
 use Rattle.ecam_spec.specs.Titles.{is_title_book, IsTitleBook}
@@ -47,16 +47,32 @@ pub record HasFault (bytes : Text) (f : BookFault) (left : Option Text) : Type 0
   pub fault_is : book_fault bytes ≡ Some f
   pub took : TookAtMost 4194305 bytes left
 
--- how loading a book ends, where the shelf's count of faults was `before` and is `now`, and `left` is what the file has left
-abbrev pub Loads : Files → Text → ℕ → ℕ → Option Text → Result Draft Outcome → Type 0
-Loads files name before now left (Ok d) = BookHas files name (λ b. (b ≡ the_book d) × (left ≡ Some []))
-Loads files name before now left (Err (outcomes.BookRefused f)) = FileHas files name (λ bytes. HasFault bytes f left)
-Loads files name before now left (Err outcomes.ReadFault) = MayRefuse files name before now
-Loads files name before now left (Err outcomes.NoMemory) = Unit {0}
-Loads files name before now left (Err outcomes.Done) = ⊥
-Loads files name before now left (Err outcomes.Usage) = ⊥
-Loads files name before now left (Err (outcomes.RecordRefused f)) = ⊥
-Loads files name before now left (Err outcomes.WriteFault) = ⊥
+-- the file couldn't be opened, and none is open
+pub record IsUnopened (files : Files) (name : Text) (before now : ℕ) (is_open : Bool) (left : Option Text) : Type 0 where
+  pub cause : MayRefuse files name before now
+  pub shut : is_open ≡ false
+  pub closed : IsClosed files left
+
+-- a book's file is open, and reading it failed, no further than one byte more than a book may have
+pub record IsBrokenOff (files : Files) (name : Text) (before now : ℕ) (is_open : Bool) (left : Option Text) : Type 0 where
+  pub cause : Rose before now
+  pub opened : is_open ≡ true
+  pub took : FileHas files name (λ bytes. TookAtMost 4194305 bytes left)
+
+-- a book's file wasn't read
+abbrev pub IsUnread : Files → Text → ℕ → ℕ → Bool → Option Text → Type 0
+IsUnread files name before now is_open left = IsUnopened files name before now is_open left ⊎ IsBrokenOff files name before now is_open left
+
+-- how loading a book ends, where the shelf's count of faults was `before` and is `now`; `is_open` says whether a file is open then, and `left` what it has left
+abbrev pub Loads : Files → Text → ℕ → ℕ → Bool → Option Text → Result Draft Outcome → Type 0
+Loads files name before now is_open left (Ok d) = BookHas files name (λ b. (b ≡ the_book d) × (left ≡ Some []))
+Loads files name before now is_open left (Err (outcomes.BookRefused f)) = FileHas files name (λ bytes. HasFault bytes f left)
+Loads files name before now is_open left (Err outcomes.ReadFault) = IsUnread files name before now is_open left
+Loads files name before now is_open left (Err outcomes.NoMemory) = Unit {0}
+Loads files name before now is_open left (Err outcomes.Done) = ⊥
+Loads files name before now is_open left (Err outcomes.Usage) = ⊥
+Loads files name before now is_open left (Err (outcomes.RecordRefused f)) = ⊥
+Loads files name before now is_open left (Err outcomes.WriteFault) = ⊥
 
 -- how making a replay by a book ends
 abbrev pub Prepares : Book → Result Replay Outcome → Type 0
@@ -81,12 +97,12 @@ pub record HasLoaded (files : Files) (name : Text) (l : Loaded) : Type 0 where
   pub ready : IsReady l
 
 -- how loading a book to replay by it ends
-abbrev pub Readies : Files → Text → ℕ → ℕ → Result Loaded Outcome → Type 0
-Readies files name before now (Ok l) = HasLoaded files name l
-Readies files name before now (Err (outcomes.BookRefused f)) = FileHas files name (λ bytes. replay_fault bytes ≡ Some f)
-Readies files name before now (Err outcomes.ReadFault) = MayRefuse files name before now
-Readies files name before now (Err outcomes.NoMemory) = Unit {0}
-Readies files name before now (Err outcomes.Done) = ⊥
-Readies files name before now (Err outcomes.Usage) = ⊥
-Readies files name before now (Err (outcomes.RecordRefused f)) = ⊥
-Readies files name before now (Err outcomes.WriteFault) = ⊥
+abbrev pub Readies : Files → Text → ℕ → ℕ → Bool → Option Text → Result Loaded Outcome → Type 0
+Readies files name before now is_open left (Ok l) = HasLoaded files name l
+Readies files name before now is_open left (Err (outcomes.BookRefused f)) = FileHas files name (λ bytes. replay_fault bytes ≡ Some f)
+Readies files name before now is_open left (Err outcomes.ReadFault) = IsUnread files name before now is_open left
+Readies files name before now is_open left (Err outcomes.NoMemory) = Unit {0}
+Readies files name before now is_open left (Err outcomes.Done) = ⊥
+Readies files name before now is_open left (Err outcomes.Usage) = ⊥
+Readies files name before now is_open left (Err (outcomes.RecordRefused f)) = ⊥
+Readies files name before now is_open left (Err outcomes.WriteFault) = ⊥

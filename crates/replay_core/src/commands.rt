@@ -33,7 +33,7 @@ pub fn ecam<F: Shelf, O: Sink, E: Sink>(
     err: &mut E,
 ) -> Status
     ensures ends { (ending : Ending) × (result ≡ status_of ending)
-        × Ends (F.files files.old) (F.opens files.old) (F.opens files.new) (F.faults files.old) (F.faults files.new) (F.left files.new) O.agrees (O.faults out.old) (O.faults out.new) out.old out.new
+        × Ends (F.files files.old) (F.opens files.old) (F.opens files.new) (F.faults files.old) (F.faults files.new) (F.is_open files.new) (F.left files.new) O.agrees (O.faults out.old) (O.faults out.new) out.old out.new
         (command_of (map string_bytes words.now)) ending
         × Complains E.agrees (E.faults err.old) (E.faults err.new) err.old err.new ending }
     ensures decides { (told : _) → F.files files.old ≡ Some told → (Rose (F.faults files.old) (F.faults files.new) → ⊥) → (Rose (O.faults out.old) (O.faults out.new) → ⊥)
@@ -49,7 +49,7 @@ pub fn ecam<F: Shelf, O: Sink, E: Sink>(
 }
 
 fn answer<F: Shelf, O: Sink>(alloc: Global, words: &[String], files: &mut F, out: &mut O) -> Outcome
-    ensures ends { Ends (F.files files.old) (F.opens files.old) (F.opens files.new) (F.faults files.old) (F.faults files.new) (F.left files.new) O.agrees (O.faults out.old) (O.faults out.new) out.old out.new
+    ensures ends { Ends (F.files files.old) (F.opens files.old) (F.opens files.new) (F.faults files.old) (F.faults files.new) (F.is_open files.new) (F.left files.new) O.agrees (O.faults out.old) (O.faults out.new) out.old out.new
         (command_of (map string_bytes words.now)) result }
     ensures files { F.files files.new ≡ F.files files.old }
     ensures faults { F.faults files.old ≤ F.faults files.new }
@@ -70,7 +70,7 @@ fn answer<F: Shelf, O: Sink>(alloc: Global, words: &[String], files: &mut F, out
 
 // Checks the book of a file, and writes how much it has.
 fn check_file<F: Shelf, O: Sink>(alloc: Global, name: &str, files: &mut F, out: &mut O) -> Outcome
-    ensures checks { Checks (F.files files.old) (F.opens files.old) (F.opens files.new) (F.faults files.old) (F.faults files.new) (F.left files.new) O.agrees (O.faults out.old) (O.faults out.new) out.old out.new
+    ensures checks { Checks (F.files files.old) (F.opens files.old) (F.opens files.new) (F.faults files.old) (F.faults files.new) (F.is_open files.new) (F.left files.new) O.agrees (O.faults out.old) (O.faults out.new) out.old out.new
         name.now result }
     ensures opens { F.opens files.new ≡ raised (F.opens files.old) }
     ensures files { F.files files.new ≡ F.files files.old }
@@ -105,7 +105,7 @@ fn replay_files<F: Shelf, O: Sink>(
     files: &mut F,
     out: &mut O,
 ) -> Outcome
-    ensures replays { Replays (F.files files.old) (F.opens files.old) (F.opens files.new) (F.faults files.old) (F.faults files.new) (F.left files.new) O.agrees (O.faults out.old) (O.faults out.new) out.old out.new
+    ensures replays { Replays (F.files files.old) (F.opens files.old) (F.opens files.new) (F.faults files.old) (F.faults files.new) (F.is_open files.new) (F.left files.new) O.agrees (O.faults out.old) (O.faults out.new) out.old out.new
         book_name.now record_name.now limit result }
     ensures files { F.files files.new ≡ F.files files.old }
     ensures faults { F.faults files.old ≤ F.faults files.new }
@@ -126,8 +126,9 @@ fn play<F: Shelf, O: Sink>(
     out: &mut O,
 ) -> Outcome
     requires { IsReady loaded.old }
-    ensures plays { Plays (F.files files.old) (F.faults files.old) (F.faults files.new) (F.left files.new) O.agrees (O.faults out.old) (O.faults out.new) out.old out.new
+    ensures plays { Plays (F.files files.old) (F.faults files.old) (F.faults files.new) (F.is_open files.new) (F.left files.new) O.agrees (O.faults out.old) (O.faults out.new) out.old out.new
         (the_book loaded.old.book) record_name.now limit result }
+    ensures opens { F.opens files.new ≡ raised (F.opens files.old) }
     ensures files { F.files files.new ≡ F.files files.old }
     ensures faults { F.faults files.old ≤ F.faults files.new }
     ensures out_faults { O.faults out.old ≤ O.faults out.new }

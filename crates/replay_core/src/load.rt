@@ -30,7 +30,7 @@ pub(crate) struct Loaded {
 
 // The book of the file of that name, or how the program ends without it.
 pub(crate) fn load_book<F: Shelf>(alloc: Global, files: &mut F, name: &str) -> Result<Book, Outcome>
-    ensures loads { Loads (F.files files.old) name.now (F.faults files.old) (F.faults files.new) (F.left files.new) result }
+    ensures loads { Loads (F.files files.old) name.now (F.faults files.old) (F.faults files.new) (F.is_open files.new) (F.left files.new) result }
     ensures files { F.files files.new ≡ F.files files.old }
     ensures opens { F.opens files.new ≡ raised (F.opens files.old) }
     ensures faults { F.faults files.old ≤ F.faults files.new }
@@ -54,7 +54,7 @@ pub(crate) fn load_book<F: Shelf>(alloc: Global, files: &mut F, name: &str) -> R
 
 // The book of the file of that name, ready to be replayed, or how the program ends without it.
 pub(crate) fn load<F: Shelf>(alloc: Global, files: &mut F, name: &str) -> Result<Loaded, Outcome>
-    ensures readies { Readies (F.files files.old) name.now (F.faults files.old) (F.faults files.new) result }
+    ensures readies { Readies (F.files files.old) name.now (F.faults files.old) (F.faults files.new) (F.is_open files.new) (F.left files.new) result }
     ensures files { F.files files.new ≡ F.files files.old }
     ensures opens { F.opens files.new ≡ raised (F.opens files.old) }
     ensures faults { F.faults files.old ≤ F.faults files.new }

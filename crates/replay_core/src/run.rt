@@ -49,6 +49,7 @@ pub(crate) fn run<S: Source, O: Sink>(
     ensures write { result ≡ Err RunError.Write → Rose (O.faults out.old) (O.faults out.new) }
     ensures faults { S.faults source.old ≤ S.faults source.new }
     ensures out_faults { O.faults out.old ≤ O.faults out.new }
+    ensures is_open { S.is_open source.new ≡ S.is_open source.old }
     ensures files { S.files source.new ≡ S.files source.old }
     ensures opens { S.opens source.new ≡ S.opens source.old }
 {

@@ -7,6 +7,7 @@ abbrev pub invariant-loop-piece : goal.invariant-loop-piece
 invariant-loop-piece g l = record {
   came : Consumes (g.S.Source.left l.initial.source) (g.S.Source.left l.source) l.bytes.items;
   few : length l.bytes.items ≤ 4194305;
+  is_open : g.S.Source.is_open l.source ≡ g.S.Source.is_open l.initial.source;
   files : g.S.Source.files l.source ≡ g.S.Source.files l.initial.source;
   opens : g.S.Source.opens l.source ≡ g.S.Source.opens l.initial.source;
   faults : g.S.Source.faults l.initial.source ≤ g.S.Source.faults l.source;

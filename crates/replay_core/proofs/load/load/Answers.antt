@@ -15,4 +15,4 @@ returns-in-Ok-prepare-clause-readies g c =
 pub returns-in-Err-prepare-clause-readies : goal.returns-in-Err-prepare-clause-readies
 returns-in-Err-prepare-clause-readies g c =
     unprepared (g.F.Source.files c.args.files.now) c.args.name.now (the_book c.in-Ok.book) (g.F.Source.left c.load_book.new.files) c.in-Ok.ensures.loads
-    (g.F.Source.faults c.args.files.now) (g.F.Source.faults c.load_book.new.files) c.in-Err-prepare.outcome c.in-Err-prepare.ensures
+    (g.F.Source.faults c.args.files.now) (g.F.Source.faults c.load_book.new.files) (g.F.Source.is_open c.load_book.new.files) c.in-Err-prepare.outcome c.in-Err-prepare.ensures

@@ -15,6 +15,7 @@ lines-init g c = record {
   fits = c.requires.fits;
   faults = omega arith;
   out_faults = omega arith;
+  is_open = refl;
   files = refl;
   opens = refl;
 }
@@ -36,6 +37,7 @@ lines-preserved g c =
       fits = c.in_ok-feed.ensures.fits;
       faults = omega (arith, c.lines.invariant.faults, c.in-Ok.ensures.faults);
       out_faults = omega (arith, c.lines.invariant.out_faults, c.in_ok-feed.ensures.out_faults);
+      is_open = c.in-Ok.ensures.is_open ∙ c.lines.invariant.is_open;
       files = c.in-Ok.ensures.files ∙ c.lines.invariant.files;
       opens = c.in-Ok.ensures.opens ∙ c.lines.invariant.opens;
     }

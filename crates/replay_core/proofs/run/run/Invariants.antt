@@ -11,6 +11,7 @@ invariant-lines g l = record {
   fits : Fits (the_book l.book) l.replay;
   faults : g.S.Source.faults l.initial.source ≤ g.S.Source.faults l.source;
   out_faults : g.O.Sink.faults l.initial.out ≤ g.O.Sink.faults l.out;
+  is_open : g.S.Source.is_open l.source ≡ g.S.Source.is_open l.initial.source;
   files : g.S.Source.files l.source ≡ g.S.Source.files l.initial.source;
   opens : g.S.Source.opens l.source ≡ g.S.Source.opens l.initial.source;
 }
