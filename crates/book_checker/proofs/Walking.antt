@@ -24,13 +24,3 @@ module _ (is_so : Tree → Bool) (cs : List Cond) (i : ℕ) where
 -- whether a condition of the lines from a place on is so
 abbrev pub lines_from : (Tree → Bool) → List Line → ℕ → Bool
 lines_from is_so lines i = list_any is_so (line_terms (map line_of (drop i lines)))
-
-module _ (is_so : Tree → Bool) (lines : List Line) (i : ℕ) where
-  pub no_line_left : length lines ≤ i → lines_from is_so lines i ≡ false
-  no_line_left after = rw (drop_all i lines after) refl
-
-  pub this_line_or_later : (l : Line) → i < length lines → l ≡ get_or lines i l
-      → lines_from is_so lines i ≡ (is_so (tree_in l.when) || (is_so (tree_in l.done) || lines_from is_so lines (i + 1)))
-  this_line_or_later l within is =
-      ap (λ ls. list_any is_so (line_terms (map line_of ls))) (drop_more lines i l within)
-      ∙ ap (λ x. is_so (tree_in x.when) || (is_so (tree_in x.done) || lines_from is_so lines (i + 1))) (sym is)

@@ -42,9 +42,6 @@ pub record Placing {X : Type 0} (ts : X → List Tree) (ps : X → List Placed) 
   pub next : at + slots_in (flat_map ts (drop i xs)) ≡ start + slots_in (flat_map ts before)
 
 module _ {X : Type 0} {ts : X → List Tree} {ps : X → List Placed} where
-  pub placing-start : (xs : List X) (at : ℕ) → Placing ts ps xs xs 0 at at
-  placing-start xs at = record { placed_so_far = refl; next = refl }
-
   module _ {before xs : List X} {i start at : ℕ} (so_far : Placing ts ps before xs i start at) where
     -- there is room for the next member
     pub placing-room : (d : X) → i < length xs → at + slots_in (ts (get_or xs i d)) ≤ start + slots_in (flat_map ts before)
@@ -78,9 +75,6 @@ module _ {X : Type 0} {ts : X → List Tree} {ps : X → List Placed} where
         let every : take i xs ≡ xs = take_all i xs all in
         let end : placed at (trees (flat_map ts (drop i xs))) ≡ [] = rw none (placed-none at) in
         ap (flat_map ps) (sym every) ∙ sym (append-nil (flat_map ps (take i xs))) ∙ ap (λ z. flat_map ps (take i xs) ++ z) (sym end) ∙ so_far.placed_so_far
-
-    pub placing-next : length xs ≤ i → at ≡ start + slots_in (flat_map ts before)
-    placing-next all = omega (arith, so_far.next, ap (λ ys. slots_in (flat_map ts ys)) (drop_all i xs all))
 
 -- what a vector has once all its items went through an `iter_mut`
 pub written-items : {X : Type 0} (n : ℕ) (xs olds : List X) → length xs ≡ length olds → n ≡ length olds → take n (xs ++ drop (length xs) olds) ≡ xs

@@ -33,9 +33,6 @@ filter-same : (p q : ℕ → Bool) → ((i : ℕ) → p i ≡ q i) → (xs : Lis
 filter-same p q same [] = refl
 filter-same p q same (x ∷ xs) = ap (λ ys. cond (p x) (x ∷ ys) ys) (filter-same p q same xs) ∙ ap (λ b. cond b (x ∷ filter q xs) (filter q xs)) (same x)
 
-pub length-names : (xs : List Alert) → length (map name_of xs) ≡ length xs
-length-names xs = length-map xs name_of
-
 level-same : (names : List Text) (xs : List Alert) (wanted : Level) (i : ℕ)
     → has_level xs wanted i ≡ is_level wanted (get_or (map (resolved names) (map alert_of xs)) i no_alert).level
 level-same names xs wanted i =

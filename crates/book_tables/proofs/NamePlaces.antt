@@ -49,10 +49,6 @@ module _ (names : List (Bor (List ℕ))) (i : ℕ) (d : Bor (List ℕ)) (within 
       rw texts_more (sum_by-append (λ t. cond (same_text q t) 1 0) (texts_of (take i names)) ((get_or names i d).now ∷ [])
       ∙ ap (λ n. count_by (same_text q) (texts_of (take i names)) + n) (zero-add (cond (same_text q (get_or names i d).now) 1 0)))
 
-  -- a count fits
-  pub count_fits : (q : Text) → length names < 2 ^ 63 → count_by (same_text q) (texts_of (take i names)) + 1 < 2 ^ 64
-  count_fits q h = omega (arith, count_by-le-length (same_text q) (texts_of (take i names)), length-map (take i names) (λ (s : Bor (List ℕ)). s.now), length-take i names)
-
 -- a map's count at a name after another name was counted once more
 pub counted : (o : Option ℕ) (same : Bool) (n : ℕ) → (same ≡ true → unwrap_or o 0 ≡ n) → unwrap_or (cond same (Some (n + 1)) o) 0 ≡ unwrap_or o 0 + cond same 1 0
 counted o true n h = ap (λ k. k + 1) (sym (h refl))

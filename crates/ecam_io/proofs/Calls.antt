@@ -6,24 +6,9 @@ use Rattle.std.proofs.Math.Seq.{take-add, take-append-add}
 use Rattle.std.specs.Io.{StartsWith}
 use Rattle.ecam_io.specs.Outside.{raised, Rose, file_named, FileHas, LacksFile, Appended, IsKept, AppendedPrefix}
 
--- a count that rose in a call rose up to any later moment
-pub Rose-later : (before mid now : ℕ) → before ≤ mid → Rose before mid → mid ≤ now → Rose before now
-Rose-later before mid now first rose later = λ below.
-    elim (cases_eq mid (2 ^ 64 - 1)) [ inl end ↦ omega arith | inr other ↦ omega (arith, rose other) ]
-
 -- a count that rose in a call rose from any earlier moment on
 pub Rose-earlier : (before mid now : ℕ) → before ≤ mid → Rose mid now → Rose before now
 Rose-earlier before mid now first rose = λ below. omega (arith, rose)
-
--- a fault that is counted raises the count
-pub Rose-raised : (before : ℕ) → Rose before (raised before)
-Rose-raised before = λ below. omega arith
-
--- a file that is there holds something, so the shelf doesn't lack it
-pub FileHas-there : (files : Option (List (List ℕ × List ℕ))) (name : List ℕ) (P : List ℕ → Type 0)
-    → FileHas files name P → LacksFile files name → ⊥
-FileHas-there None name P has lacks = lacks
-FileHas-there (Some files) name P has lacks = subst (λ found. IsSomeAnd found P) lacks has
 
 -- what follows from what the file holds
 pub FileHas-weaker : (files : Option (List (List ℕ × List ℕ))) (name : List ℕ) (P Q : List ℕ → Type 0)
@@ -59,18 +44,11 @@ module _ {S : Type 0} (agrees : S → List ℕ → Type 0) where
   pub Appended-kept : (old mid new : S) (xs : List ℕ) → Appended agrees old mid xs → IsKept agrees mid new → Appended agrees old new xs
   Appended-kept old mid new xs first kept w was = kept (w ++ xs) (first w was)
 
-  pub IsKept-trans : (old mid new : S) → IsKept agrees old mid → IsKept agrees mid new → IsKept agrees old new
-  IsKept-trans old mid new first second w was = second w (first w was)
-
   -- a call that appended the front of what was left, after those that appended what stands before
   pub Appended-take : (old mid new : S) (bytes : List ℕ) (done n : ℕ) → Appended agrees old mid (take done bytes)
       → Appended agrees mid new (take n (drop done bytes)) → Appended agrees old new (take (done + n) bytes)
   Appended-take old mid new bytes done n first second =
       subst (Appended agrees old new) (sym (take-add done n bytes)) (Appended-append old mid new (take done bytes) (take n (drop done bytes)) first second)
-
-  -- nothing is a prefix of all
-  pub AppendedPrefix-none : (s : S) (bytes : List ℕ) → AppendedPrefix agrees s s bytes
-  AppendedPrefix-none s bytes = record { part = []; prefix = refl; appended = Appended-none s }
 
   -- all is a prefix
   pub AppendedPrefix-all : (old new : S) (bytes : List ℕ) → Appended agrees old new bytes → AppendedPrefix agrees old new bytes

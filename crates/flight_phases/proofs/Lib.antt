@@ -2,4 +2,3 @@ pub mod Trips
 pub mod Stretches
 pub mod Climbing
 pub mod Numbers
-pub mod Agree

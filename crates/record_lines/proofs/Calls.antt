@@ -7,20 +7,10 @@ use Rattle.record_lines.specs.Reads.{Reads, TellsAfter, Tells, Goes, Advances, T
 use Rattle.std.proofs.KnownBytes.{Consumes-trans}
 use Rattle.record_lines.proofs.Progress.{goes_filled}
 
--- with each piece that was gone through the reader waits for less
-pub goes-then-tells : (old mid new : ReaderState) (first second : List ℕ) (answer : Result Event LineError) → Goes old mid first → Tells mid new second answer → Tells old new (first ++ second) answer
-goes-then-tells old mid new first second answer goes tells limit taken answered reads =
-    let P : List ℕ → Type 0 = λ l. TellsAfter limit l answered answer new in
-    subst P (append_assoc taken first second) (tells limit (taken ++ first) answered (goes limit taken answered reads))
-
 pub goes-then-goes : (old mid new : ReaderState) (first second : List ℕ) → Goes old mid first → Goes mid new second → Goes old new (first ++ second)
 goes-then-goes old mid new first second one two limit taken answered reads =
     let P : List ℕ → Type 0 = λ l. Reads limit l answered new in
     subst P (append_assoc taken first second) (two limit (taken ++ first) answered (one limit taken answered reads))
-
--- the reader gave an answer after it took some bytes
-abbrev pub TakesAndTells : Option (List ℕ) → Option (List ℕ) → ReaderState → ReaderState → Result Event LineError → Type 0
-TakesAndTells before after old new answer = Takes before after (λ more. Tells old new more answer)
 
 abbrev pub TakesAndGoes : Option (List ℕ) → Option (List ℕ) → ReaderState → ReaderState → Type 0
 TakesAndGoes before after old new = Takes before after (λ more. Goes old new more)

@@ -12,5 +12,4 @@ pub mod Went
 pub mod Refusals
 pub mod Progress
 pub mod Calls
-pub mod Callers
 pub mod FirstByte

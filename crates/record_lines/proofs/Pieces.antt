@@ -23,9 +23,3 @@ slice_range-empty xs n fits empty =
 pub IsSpent-end : (old new : Option (List ℕ)) → IsAtEnd new → IsSpent old new
 IsSpent-end None new end = tt
 IsSpent-end (Some xs) new end = end
-
--- nothing is left after some bytes were taken and nothing was left
-pub IsSpent-after : (old mid new : Option (List ℕ)) (bytes : List ℕ) → Consumes old mid bytes → IsSpent mid new → IsSpent old new
-IsSpent-after None mid new bytes moved spent = tt
-IsSpent-after (Some xs) None new bytes moved spent = absurd moved
-IsSpent-after (Some xs) (Some ys) new bytes moved spent = spent

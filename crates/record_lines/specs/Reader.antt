@@ -55,10 +55,6 @@ fault_in kind r = record { kind = kind; line = r.number }
 abbrev pub carried : ReaderState → ReaderState
 carried r = record r { line = r.line ++ r.pending; pending = [] }
 
--- the line whose line feed stands at this place was read
-abbrev pub past_line : ℕ → ReaderState → ReaderState
-past_line at r = record r { line = []; pending = drop (at + 1) r.pending; number = r.number + 1 }
-
 -- a piece was read
 abbrev pub filled : List ℕ → ReaderState → ReaderState
 filled bytes r = record r {

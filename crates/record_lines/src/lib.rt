@@ -2,7 +2,7 @@
 //! text, whatever pieces the bytes come in.
 //!
 //! A caller that reads to the end keeps what was taken and answered so far beside the reader, as `Reads` relates
-//! them, and joins each call to it by the lemmas of `proofs/Callers.antt`. Its loop ends by `room`.
+//! them. Its loop ends by `room`.
 #![tactic(auto)]
 
 mod line;

@@ -131,7 +131,3 @@ replayed-titles o b is titles = ap taken is ∙ ap (λ t. cond t (Some b) None) 
 pub unbuilt-told : (bytes : Text) (b : Book) → book bytes ≡ Some b → is_title_book b ≡ false → replay_fault bytes ≡ Some unbuilt
 unbuilt-told bytes b is more =
     ap (λ o. option_or o (unbuilt_in (book bytes))) (book-faultless bytes b is) ∙ ap unbuilt_in is ∙ ap (λ t. cond t None (Some unbuilt)) more
-
--- a fault of the bytes comes first
-pub fault-told : (bytes : Text) (f : BookFault) → book_fault bytes ≡ Some f → replay_fault bytes ≡ Some f
-fault-told bytes f is = ap (λ o. option_or o (unbuilt_in (book bytes))) is

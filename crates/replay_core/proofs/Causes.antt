@@ -24,23 +24,6 @@ Has-weaker of files name P Q then = FileHas-weaker files name (λ bytes. IsSomeA
   each None h = h
   each (Some b) h = then b h
 
-module _ (files : Files) (opens opens' faults faults' : ℕ) (is_open : Bool) (left : Option Text) {S : Type 0} (agrees : S → Text → Type 0) (out_faults out_faults' : ℕ) (old new : S) where
-  -- no book was loaded to be checked
-  pub unchecked : (book : Text) (outcome : Outcome) → Loads files book faults faults' is_open left (Err outcome) → opens' ≡ raised opens → IsKept agrees old new
-      → Checks files opens opens' faults faults' is_open left agrees out_faults out_faults' old new book outcome
-  unchecked book (outcomes.BookRefused f) is once kept = (is, kept)
-  unchecked book outcomes.ReadFault refused once kept = (refused, kept)
-  unchecked book outcomes.NoMemory loads once kept = (omega (arith, once), kept)
-  unchecked book outcomes.Done loads once kept = absurd loads
-  unchecked book outcomes.Usage loads once kept = absurd loads
-  unchecked book (outcomes.RecordRefused f) loads once kept = absurd loads
-  unchecked book outcomes.WriteFault loads once kept = absurd loads
-
--- what is known of a loaded book holds of the book that its file is
-pub of-file : (files : Files) (name : Text) (left : Option Text) (x : Book) (P : Book → Type 0) → P x
-    → BookHas files name (λ b. (b ≡ x) × (left ≡ Some [])) → BookHas files name (λ b. P b × (left ≡ Some []))
-of-file files name left x P so = Has-weaker book files name (λ b. (b ≡ x) × (left ≡ Some [])) (λ b. P b × (left ≡ Some [])) (λ b is. (subst P (sym is.0) so, is.1))
-
 -- an open that failed since a moment failed since any earlier one
 pub unopened-earlier : (files : Files) (name : Text) (before mid now : ℕ) (is_open : Bool) (left : Option Text) → before ≤ mid
     → IsUnopened files name mid now is_open left → IsUnopened files name before now is_open left

@@ -25,26 +25,6 @@ front-whole left mid now v none came last nothing end few bytes is =
     let split = told bytes left now v is all in
     record { behind = split.0; parts = split.2; rest = split.1; few = few; whole = λ short. subst IsAtEnd split.1 end }
 
--- reading failed after these bytes
-pub front-broken : (left mid now : Option Text) (v : Text) → Consumes left mid v → now ≡ mid → length v ≤ 4194305 → (bytes : Text) → left ≡ Some bytes → TookAtMost 4194305 bytes now
-front-broken left mid now v came same few bytes is =
-    let split = told bytes left mid v is came in record { taken = v; behind = split.0; parts = split.2; rest = same ∙ split.1; few = few }
-
--- reading an opened file failed
-pub file-broken : (files : Files) (name : Text) (before mid now : ℕ) (is_open : Bool) (left left' : Option Text) → FileHas files name (λ bytes. left ≡ Some bytes) → before ≤ mid → Rose mid now
-    → is_open ≡ true → ((bytes : Text) → left ≡ Some bytes → TookAtMost 4194305 bytes left') → IsUnread files name before now is_open left'
-file-broken files name before mid now is_open left left' found less rose opened took = inr (record {
-  cause = Rose-earlier before mid now less rose;
-  opened = opened;
-  took = FileHas-weaker files name (λ bytes. left ≡ Some bytes) (λ bytes. TookAtMost 4194305 bytes left') took found;
-})
-
--- the front of an opened file
-pub file-front : {V E : Type 0} (files : Files) (name : Text) (left : Option Text) (P : Text → V → Type 0) (r : Result V E) → FileHas files name (λ bytes. left ≡ Some bytes)
-    → IfOk r (λ v. (bytes : Text) → left ≡ Some bytes → P bytes v) → IfOk r (λ v. FileHas files name (λ bytes. P bytes v))
-file-front files name left P (Ok v) found front = FileHas-weaker files name (λ bytes. left ≡ Some bytes) (λ bytes. P bytes v) front found
-file-front files name left P (Err e) found front = tt
-
 module _ (bytes v : Text) (left : Option Text) (front : IsFront bytes v left) where
   -- it is as long as a book may be and one byte more, where the file is so long
   pub front-is : v ≡ take 4194305 bytes

@@ -57,14 +57,3 @@ module _ (files : Files) (name : Text) (b : Book) (left : Option Text) (loads : 
   unprepared before now is_open outcomes.Usage never = absurd never
   unprepared before now is_open (outcomes.RecordRefused f) never = absurd never
   unprepared before now is_open outcomes.WriteFault never = absurd never
-
--- without a book no replay is ready
-pub unready : (files : Files) (name : Text) (before now : ℕ) (is_open : Bool) (left : Option Text) (outcome : Outcome) → Loads files name before now is_open left (Err outcome) → Readies files name before now is_open left (Err outcome)
-unready files name before now is_open left (outcomes.BookRefused f) is = FileHas-weaker files name (λ bytes. HasFault bytes f left) (λ bytes. replay_fault bytes ≡ Some f)
-    (λ bytes faulty. fault-told bytes f faulty.fault_is) is
-unready files name before now is_open left outcomes.ReadFault unread = unread
-unready files name before now is_open left outcomes.NoMemory loads = tt
-unready files name before now is_open left outcomes.Done loads = absurd loads
-unready files name before now is_open left outcomes.Usage loads = absurd loads
-unready files name before now is_open left (outcomes.RecordRefused f) loads = absurd loads
-unready files name before now is_open left outcomes.WriteFault loads = absurd loads

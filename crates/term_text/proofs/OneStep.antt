@@ -34,16 +34,6 @@ module _ (names : TermNames) (text : Text) where
       let is : f ∷ forms ≡ after = cc in
       subst (λ (fs : List Form). StandFor names text (p ∷ ps) fs) is (h, k)
 
-  -- a step that makes one condition of the one on top
-  made_of_one : (make : Form → Form) (p popped : Part) (ps rest : List Part) (f : Form) (older after : List Form) → Pops ps popped rest → (JudgesForm names text popped f → JudgesForm names text p (make f))
-      → Some (make f ∷ older) ≡ Some after → StandFor names text ps (f ∷ older) → StandFor names text (p ∷ rest) after
-  made_of_one make p popped ps rest f older after pops made e h =
-      let top = top_of names text ps f older h in
-      let is = pops top.part top.rest top.is in
-      put p rest (make f) older after e
-      (made (subst (λ (x : Part). JudgesForm names text x f) (sym is.0) top.judged))
-      (subst (λ (xs : List Part). StandFor names text xs older) (sym is.1) top.stand)
-
   module _ {E : Type 0} (r : Result Part E) where
     -- the same, where memory may run out
     tried_of_one : (make : Form → Form) (popped : Part) (ps rest : List Part) (f : Form) (older after : List Form) → Pops ps popped rest → (JudgesForm names text popped f → IfOk r (λ p. JudgesForm names text p (make f)))

@@ -56,9 +56,6 @@ joined at p q rest ts us first second =
     ∙ ap (λ (x : List Token). ts ++ x) (second ∙ ap (λ (i : ℕ). us ++ words_at i rest) e)
     ∙ sym (append_assoc ts us (words_at (at + length (p ++ q)) rest))
 
-pub always_always : (at : ℕ) (p q : Text) (ts us : List Token) → Always at p ts → Always (at + length p) q us → Always at (p ++ q) (ts ++ us)
-always_always at p q ts us f g = λ rest. joined at p q rest ts us (f (q ++ rest)) (g rest)
-
 pub always_then_ended : (at : ℕ) (p q : Text) (ts us : List Token) → Always at p ts → Ended (at + length p) q us → Ended at (p ++ q) (ts ++ us)
 always_then_ended at p q ts us f g = λ rest end. joined at p q rest ts us (f (q ++ rest)) (g rest end)
 
