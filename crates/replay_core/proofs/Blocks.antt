@@ -1,11 +1,12 @@
 -- The lines of a block, row by row.
-use Rattle.std.proofs.Common.{◌≡◌, ℕ, ◌+◌, ◌<◌, ◌≤◌, Bool, true, false, List, [], ◌∷◌, ◌++◌, length, get_or, drop, leb, refl, ap, add-one, drop-cons, append_assoc}
+use Rattle.std.proofs.Common.{◌≡◌, ℕ, ◌+◌, ◌<◌, ◌≤◌, Bool, true, false, List, [], ◌∷◌, ◌++◌, length, get_or, drop, leb, ◌&&◌, ◌∙◌, refl, ap, add-one, drop-cons, append_assoc}
 use Rattle.std.specs.Prelude.{decimal, if◌then◌else◌}
 use Rattle.std.proofs.lemmas.Bool.{leb-true}
 use Rattle.std.proofs.lemmas.List.Folds.{list_all_at}
+use Rattle.std.proofs.lemmas.Slice.Eq.{bytes_eq-Decides}
 use Rattle.std.proofs.Math.ListN.{drop_of_length-le}
 use Rattle.ecam_spec.specs.Book.{Text}
-use Rattle.ecam_spec.specs.Picture.{Row, same_row, same_picture}
+use Rattle.ecam_spec.specs.Picture.{Row, colour_letter, same_text, same_row, same_picture}
 use Rattle.ecam_spec.specs.Output.{row_names, row_line, changed_lines, block, line}
 use Rattle.ecam_kinds.specs.declared.picture.Row as code
 use Rattle.ecam_kinds.specs.Shown.{row_of, rows_of}
@@ -56,6 +57,20 @@ lines_step olds news i o n name before after whole h k l is_o is_n is_name is_af
 pub block_same : (t : ℕ) (old new : List Row) → same_picture old new ≡ true → block t old new ≡ []
 unfolding block
 block_same t old new same = rw same refl
+
+-- a row and a picture are the same as themselves
+row_itself : (r : Row) → same_row r r ≡ true
+row_itself r =
+    let letter = colour_letter r.colour in
+    ap (λ b. b && same_text r.text r.text) ((bytes_eq-Decides letter letter).1 refl) ∙ (bytes_eq-Decides r.text r.text).1 refl
+
+picture_itself : (p : List Row) → same_picture p p ≡ true
+picture_itself [] = refl
+picture_itself (r ∷ p) = ap (λ b. b && same_picture p p) (row_itself r) ∙ picture_itself p
+
+-- a Tick whose picture stays writes nothing
+pub block_itself : (t : ℕ) (p : List Row) → block t p p ≡ []
+block_itself t p = block_same t p p (picture_itself p)
 
 pub block_other : (t : ℕ) (old new : List Row) → same_picture old new ≡ false → block t old new ≡ line (64 ∷ decimal t) ++ changed_lines row_names old new
 unfolding block

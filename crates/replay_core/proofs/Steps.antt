@@ -1,5 +1,5 @@
 -- The running state of a replay of titles, over one more event.
-use Rattle.std.proofs.Common.{◌≡◌, ℕ, zero, suc, ◌+◌, ◌<◌, ◌≤◌, Bool, false, List, [], ◌∷◌, ◌++◌, map, length, get_or, filter, cond, None, take, drop, length-take, length-append, length-drop, refl, sym, ap, ◌∙◌, subst, arith}
+use Rattle.std.proofs.Common.{◌≡◌, ℕ, zero, suc, ◌+◌, ◌<◌, ◌≤◌, Bool, true, false, ◌||◌, List, [], ◌∷◌, ◌++◌, map, length, get_or, filter, cond, None, take, drop, append-nil, refl, sym, ap, ◌∙◌, subst, arith}
 use Rattle.std.specs.Prelude.{All}
 use Rattle.std.proofs.lemmas.List.Elements.{filter-append}
 use Rattle.ecam_spec.specs.declared.kinds.Event.{Event}
@@ -13,6 +13,9 @@ use Rattle.ecam_spec.specs.Screen.{alert_numbers}
 use Rattle.ecam_spec.specs.History.{era, era_with, flags_after, changes_computers}
 use Rattle.ecam_spec.specs.Titles.{IsTitleBook, IsTitleEvent, titles_in, is_titled, title_picture}
 use Rattle.ecam_spec.specs.Replay.{moment_of, is_tick, picture_at}
+use Rattle.ecam_spec.specs.Picture.{blank, zone}
+use Rattle.ecam_spec.specs.StatusPage.{flags, flags_row}
+use Rattle.ecam_spec.proofs.Nowhere.{filter-none}
 use Rattle.ecam_spec.proofs.HistoryLaws.{era_goes_on}
 use Rattle.ecam_spec.proofs.MomentSteps.{begins_none, moments_kept, length_tick}
 use Rattle.ecam_spec.proofs.SignalSteps.{words_word, words_before, words_tick, words_begun}
@@ -22,12 +25,14 @@ use Rattle.book_model.specs.declared.draft.Alert as code
 use Rattle.book_model.specs.declared.draft.Draft.{Draft}
 use Rattle.book_model.specs.View.{alert_of, parameter_of, draft_of, tree_in}
 use Rattle.book_model.specs.Sealed.{the_book}
-use Rattle.replay_core.specs.Standing.{AreShown, Fits, Stands, is_one, ones}
+use Rattle.replay_core.specs.Standing.{AreShown, Fits, Stands, those_shown, is_one, ones}
 use Rattle.param_table.specs.Standing.{ParamsStand, WordComes}
 use Rattle.param_table.proofs.Agree.{ParamsStand-below}
 use Rattle.replay_core.specs.declared.replay.Replay.{Replay}
 use Rattle.ecam_kinds.specs.Shown.{picture_of}
-use Rattle.std.proofs.lemmas.List.{get_or_past, length-map}
+use Rattle.std.proofs.lemmas.List.{get_or_past, length-map, set-get_or}
+use Rattle.std.proofs.Math.ListN.{drop_of_length-le}
+use Rattle.std.proofs.Math.Seq.{take-length}
 use Rattle.std.proofs.Common.{get_or-set_other, get_or-set_same, below_more, set, ◌≢◌}
 
 -- tests that agree below n filter the numbers below n alike
@@ -61,6 +66,15 @@ shown-picture b titles h events = sym (title_tick b titles h events)
 pub noted : (b : Book) (words : ℕ → List BusWord) (k : ℕ) (shown : List Bool) → AreShown b words k shown → filter (λ a. get_or shown a false) (alert_numbers b) ≡ ones b words k
 noted b words k shown are = filter-below (λ a. get_or shown a false) (λ a. is_one b words k (alert_at b a).when) (length b.alerts) are.each
 
+-- where no alert is shown the picture is blank
+no-titles : (b : Book) → title_picture b [] ≡ blank
+unfolding title_picture zone flags flags_row blank
+no-titles b = refl
+
+pub none-shown : (b : Book) (shown : List Bool) → ((a : ℕ) → a < length b.alerts → get_or shown a false ≡ false) → blank ≡ title_picture b (those_shown b shown)
+none-shown b shown none =
+    sym (ap (title_picture b) (filter-below (λ a. get_or shown a false) (λ a. false) (length b.alerts) none ∙ filter-none (λ a. false) (λ a. refl) (alert_numbers b)) ∙ no-titles b)
+
 -- one more alert was looked at
 pub looked : (shown : List Bool) (i : ℕ) (v : Bool) (p : ℕ → Bool) → i < length shown → ((a : ℕ) → a < i → get_or shown a false ≡ p a) → v ≡ p i
     → (a : ℕ) → a < i + 1 → get_or (set shown i v) a false ≡ p a
@@ -68,6 +82,13 @@ looked shown i v p within before now =
     below_more _ _
     (λ a h. let other : a ≢ i = omega arith in get_or-set_other shown i a v false other ∙ before a h)
     (get_or-set_same shown i v false within ∙ now)
+
+-- where no flag changed so far and this one doesn't, all are as they were
+pub unchanged : (first shown : List Bool) (i : ℕ) (now new : Bool) (changed one : Bool) → new ≡ now → (one ≡ false → get_or shown i false ≡ now)
+    → (changed ≡ false → shown ≡ first) → (changed || one) ≡ false → set shown i new ≡ first
+unchanged first shown i now new true one noted this before none = absurd (let w : ⊥ = cc in w)
+unchanged first shown i now new false one noted this before none =
+    ap (set shown i) (noted ∙ sym (this none)) ∙ set-get_or shown i false ∙ before refl
 
 -- a parameter that the book doesn't have has no value
 pub no-value : (b : Book) (p : ℕ) (words : ℕ → List BusWord) (k : ℕ) → length b.parameters ≤ p → value (parameter_at b p) words k ≡ None
@@ -123,10 +144,11 @@ module _ (b : Book) (h : List Event) (old new : Replay) (stands : Stands b h old
         ticks = one_more ∙ ap suc stands.ticks ∙ sym (tick_count_tick h);
       }
 
--- a list keeps its length where its first part is written
-pub refilled : (n : ℕ) (xs items : List Bool) → length xs ≡ length items → n ≡ length items → length (take n (xs ++ drop (length xs) items)) ≡ length items
-refilled n xs items same whole =
-    omega (arith, length-take n (xs ++ drop (length xs) items), length-append xs (drop (length xs) items), length-drop (length xs) items)
+-- a list that is written whole is what was written
+pub rewritten : (n : ℕ) (xs items : List Bool) → length xs ≡ length items → n ≡ length items → take n (xs ++ drop (length xs) items) ≡ xs
+rewritten n xs items same whole =
+    let none : drop (length xs) items ≡ [] = drop_of_length-le items (omega (arith, same)) in
+    ap (λ rest. take n (xs ++ rest)) none ∙ ap (take n) (append-nil xs) ∙ ap (λ m. take m xs) (whole ∙ sym same) ∙ take-length xs
 
 -- a key that nothing watches goes down or up
 module _ (b : Book) (h : List Event) (replay : Replay) (stands : Stands b h replay) (e : Event) (still : is_tick e ≡ false) (same_computers : changes_computers e ≡ false)

@@ -4,7 +4,7 @@ use Rattle.ecam_spec.specs.declared.kinds.Event.{Event}
 use Rattle.ecam_spec.specs.Book.{Book, Tree}
 use Rattle.ecam_spec.specs.History.{era}
 use Rattle.ecam_spec.specs.Situation.{words_in}
-use Rattle.ecam_spec.specs.Titles.{discrete_of}
+use Rattle.ecam_spec.specs.Titles.{discrete_of, title_picture}
 use Rattle.ecam_spec.specs.Term.{is_so}
 use Rattle.ecam_spec.specs.Value.{BusWord, value}
 use Rattle.ecam_spec.specs.Situation.{parameter_at, alert_at}
@@ -16,10 +16,15 @@ use Rattle.ecam_kinds.specs.Shown.{picture_of}
 use Rattle.param_table.specs.Standing.{ParamsFit, ParamsStand}
 use Rattle.replay_core.specs.declared.replay.Replay.{Replay}
 
--- it was made for the book
+-- these alerts are shown, by their numbers, where `shown` tells of each whether it is
+abbrev pub those_shown : Book → List Bool → List ℕ
+those_shown b shown = filter (λ a. get_or shown a false) (alert_numbers b)
+
+-- it was made for the book, and its picture is that of the alerts that it shows
 pub record Fits (b : Book) (r : Replay) : Type 0 where
   pub params : ParamsFit b r.params
   pub shown : length r.shown.items ≡ length b.alerts
+  pub picture : picture_of r.picture ≡ title_picture b (those_shown b r.shown.items)
 
 -- it knows the words of the era so far, and the picture of the last Tick
 pub record Stands (b : Book) (h : List Event) (r : Replay) : Type 0 where

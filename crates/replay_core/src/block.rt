@@ -144,15 +144,15 @@ fn put_changes(out: &mut Block, old: &[Row], new: &[Row])
     }
 }
 
-// The block of Tick number `tick`, whose picture is `new` where that of the Tick before was `old`. Its cost is a
-// comparison of each row, and where one changed, a copy of each that did.
-pub(crate) fn block(tick: u64, old: &Picture, new: &Picture) -> Block
-    ensures { result.items ≡ output.block tick (picture_of old.now) (picture_of new.now) }
+// Appends the block of Tick number `tick`, whose picture is `new` where that of the Tick before was `old`. Its cost is
+// a comparison of each row, and a copy of each that changed.
+pub(crate) fn put_block(out: &mut Block, tick: u64, old: &Picture, new: &Picture)
+    requires { length out.old.items + 42 + 47 * ROWS ≤ BLOCK }
+    ensures { out.new.items ≡ out.old.items ++ output.block tick (picture_of old.now) (picture_of new.now) }
 {
-    let mut out = ArrayVec::new();
-    if !are_same(&old.rows, &new.rows) {
-        put_number(&mut out, tick);
-        put_changes(&mut out, &old.rows, &new.rows);
+    if are_same(&old.rows, &new.rows) {
+        return;
     }
-    out
+    put_number(out, tick);
+    put_changes(out, &old.rows, &new.rows);
 }

@@ -1,5 +1,5 @@
 // The running state of a replay of titles: what the words said last, and the picture of the last Tick.
-ghost use Rattle.std.specs.Prelude.{◌≡◌, ℕ, ◌<◌, ◌^◌, ◌+◌, ◌++◌, ◌∷◌, [], List, length, All, IfOk};
+ghost use Rattle.std.specs.Prelude.{◌≡◌, ℕ, ◌<◌, ◌^◌, ◌+◌, ◌++◌, ◌∷◌, ◌↔◌, [], false, List, length, All, IfOk};
 ghost use Rattle.ecam_spec.specs.declared.kinds.Event.{Event};
 ghost use Rattle.ecam_spec.specs.declared.kinds.Event.TheVariants.{Word, Tick};
 ghost use Rattle.ecam_spec.specs.Output as output;
@@ -16,7 +16,7 @@ ghost use Rattle.book_model.specs.View.{tree_in};
 ghost use Rattle.ecam_kinds.specs.Shown.{picture_of};
 ghost use Rattle.replay_core.specs.Standing.{Fits, Stands, AreShown, is_one, ones};
 
-use crate::block::{Block, block};
+use crate::block::{Block, put_block};
 use crate::titles::draw_titles;
 use book_model::{Alert, Book};
 use ecam_kinds::Picture;
@@ -34,6 +34,8 @@ pub(crate) struct Replay {
     // The picture of the last Tick, and how many Ticks there were.
     picture: Picture,
     ticks: u64,
+    // What the last Tick writes. It is kept here, so that a Tick makes no block anew.
+    block: Block,
 }
 
 impl Replay {
@@ -49,6 +51,7 @@ impl Replay {
             shown,
             picture: Picture::blank(),
             ticks: 0,
+            block: Block::new(),
         })
     }
 
@@ -69,46 +72,74 @@ impl Replay {
         self.params.take(book, bus, bits);
     }
 
-    // The moment ends. Answers the block of what changed.
-    pub(crate) fn tick(&mut self, book: &Book) -> Block
+    // The block of the last Tick.
+    pub(crate) fn block(&self) -> &[u8]
+        ensures { result.now ≡ self.now.block.items }
+    {
+        self.block.as_slice()
+    }
+
+    // The moment ends, and leaves the block of what changed. Where no alert comes or goes it costs a look at each
+    // alert, and no picture is drawn.
+    pub(crate) fn tick(&mut self, book: &Book)
         requires fits { Fits (the_book book.now) self.old }
         requires titles { IsTitleBook (the_book book.now) }
         ensures fits { Fits (the_book book.now) self.new }
         ensures block { (h : List Event) → All IsTitleEvent h → Stands (the_book book.now) h self.old
-            → result.items ≡ output.block (tick_count h) (last_picture (the_book book.now) h) (picture_at (the_book book.now) (h ++ Tick ∷ [])) }
+            → self.new.block.items ≡ output.block (tick_count h) (last_picture (the_book book.now) h) (picture_at (the_book book.now) (h ++ Tick ∷ [])) }
         ensures stands { (h : List Event) → All IsTitleEvent h → tick_count h < 2 ^ 63 → Stands (the_book book.now) h self.old
             → Stands (the_book book.now) (h ++ Tick ∷ []) self.new }
     {
-        let picture = show(&mut self.shown, &self.params, book);
-        let block = block(self.ticks, &self.picture, &picture);
-        self.picture = picture;
+        self.show(book);
         self.ticks = self.ticks.saturating_add(1);
         self.params.tick(book);
-        block
+    }
+
+    // Brings the picture and the block to the moment that hasn't ended. While the same alerts are shown the picture
+    // stays as it is.
+    fn show(&mut self, book: &Book)
+        requires { Fits (the_book book.now) self.old }
+        ensures fits { Fits (the_book book.now) self.new }
+        ensures params { self.new.params ≡ self.old.params }
+        ensures ticks { self.new.ticks ≡ self.old.ticks }
+        ensures picture { (words : ℕ → List BusWord) (k : ℕ) → ParamsStand (the_book book.now) words k self.old.params
+            → picture_of self.new.picture ≡ title_picture (the_book book.now) (ones (the_book book.now) words k) }
+        ensures block { self.new.block.items ≡ output.block self.old.ticks (picture_of self.old.picture) (picture_of self.new.picture) }
+    {
+        let changed = look(&mut self.shown, &self.params, book);
+        self.block.clear();
+        if !changed {
+            return;
+        }
+        let picture = draw_titles(book, &self.shown);
+        put_block(&mut self.block, self.ticks, &self.picture, &picture);
+        self.picture = picture;
     }
 }
 
-// The picture of the moment that hasn't ended.
-fn show(shown: &mut [bool], params: &Params, book: &Book) -> Picture
+// Notes which alerts are shown in the moment that hasn't ended, and answers whether that changed for any.
+fn look(shown: &mut [bool], params: &Params, book: &Book) -> bool
     requires fits { ParamsFit (the_book book.now) params.now }
     requires long { length shown.old ≡ length (the_book book.now).alerts }
-    ensures { (words : ℕ → List BusWord) (k : ℕ) → ParamsStand (the_book book.now) words k params.now
-        → picture_of result ≡ title_picture (the_book book.now) (ones (the_book book.now) words k) }
-{
-    look(shown, params, book);
-    draw_titles(book, shown)
-}
-
-// Notes which alerts are shown in it.
-fn look(shown: &mut [bool], params: &Params, book: &Book)
-    requires fits { ParamsFit (the_book book.now) params.now }
-    requires long { length shown.old ≡ length (the_book book.now).alerts }
-    ensures { (words : ℕ → List BusWord) (k : ℕ) → ParamsStand (the_book book.now) words k params.now → AreShown (the_book book.now) words k shown.new }
+    ensures shown { (words : ℕ → List BusWord) (k : ℕ) → ParamsStand (the_book book.now) words k params.now → AreShown (the_book book.now) words k shown.new }
+    ensures same { result ≡ false → shown.new ≡ shown.old }
 {
     let alerts = book.alerts();
+    let mut changed = false;
     for i in 0..alerts.len() {
-        shown[i] = is_shown(params, book, &alerts[i]);
+        changed |= note(&mut shown[i], is_shown(params, book, &alerts[i]));
     }
+    changed
+}
+
+// Notes whether an alert is shown, and answers whether that changed.
+fn note(shown: &mut bool, now: bool) -> bool
+    ensures now { shown.new ≡ now }
+    ensures same { result ≡ false ↔ shown.old ≡ now }
+{
+    let changed = *shown != now;
+    *shown = now;
+    changed
 }
 
 // Whether the discrete of an alert is one.

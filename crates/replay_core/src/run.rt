@@ -99,8 +99,8 @@ fn feed<O: Sink>(
             Ok(())
         }
         Event::Tick => {
-            let block = replay.tick(book);
-            match put_all(out, block.as_slice()) {
+            replay.tick(book);
+            match put_all(out, replay.block()) {
                 Ok(()) => Ok(()),
                 Err(Failed) => Err(RunError::Write),
             }

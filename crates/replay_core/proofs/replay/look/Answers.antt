@@ -1,18 +1,18 @@
-use Rattle.std.proofs.Common.{◌≡◌, arith, length, ap, sym, ◌∙◌, length-set, get_or}
+use Rattle.std.proofs.Common.{◌≡◌, arith, length, ap, sym, ◌∙◌, get_or}
 use Rattle.ecam_spec.specs.Situation.{alert_at}
 use Rattle.book_model.specs.Sealed.{the_book}
 use Rattle.book_model.specs.View.{tree_in}
 use Rattle.book_model.specs.declared.draft.Alert.{Alert}
 use Rattle.replay_core.specs.Standing.{is_one}
-use Rattle.replay_core.proofs.Steps.{many_alerts, book_when, looked}
+use Rattle.replay_core.proofs.Steps.{many_alerts, book_when, looked, unchanged}
 use Rattle.replay_core.proofs.replay.look.Goals as goal
-use Rattle.replay_core.proofs.replay.look.Goals.{After-is_shown}
+use Rattle.replay_core.proofs.replay.look.Goals.{After-note-changed}
 
 pub bounds-shown-i : goal.bounds-shown-i
-bounds-shown-i c = omega (arith, c.loop-i.invariant.long, many_alerts c.args.book.now, ap length c.alerts-alerts.ensures.value)
+bounds-shown-i c = omega (arith, c.loop-i.auto.shown, c.requires.long, many_alerts c.args.book.now, ap length c.alerts-alerts.ensures.value)
 
 -- the condition of the alert that is looked at
-condition : (c : After-is_shown) → tree_in c.index-alerts-i.result.when ≡ (alert_at (the_book c.args.book.now) c.loop-i.i).when
+condition : (c : After-note-changed) → tree_in c.index-alerts-i.result.when ≡ (alert_at (the_book c.args.book.now) c.loop-i.i).when
 condition c =
     let x = c.index-alerts-i.result in
     ap (λ (y : Alert). tree_in y.when) (c.index-alerts-i.is ∙ ap (λ alerts. get_or alerts c.loop-i.i x) c.alerts-alerts.ensures.value)
@@ -21,17 +21,19 @@ condition c =
 pub loop-i-preserved : goal.loop-i-preserved
 loop-i-preserved c =
     let b = the_book c.args.book.now in
+    let noted = c.note-changed.ensures in
     record {
-      long = length-set c.loop-i.shown c.loop-i.i c.is_shown.result ∙ c.loop-i.invariant.long;
       each = λ words k stands.
-          looked c.loop-i.shown c.loop-i.i c.is_shown.result (λ a. is_one b words k (alert_at b a).when)
-          (omega (arith, c.loop-i.invariant.long, many_alerts c.args.book.now, ap length c.alerts-alerts.ensures.value))
+          looked c.loop-i.shown c.loop-i.i c.note-changed.new.shown (λ a. is_one b words k (alert_at b a).when)
+          (omega (arith, c.loop-i.auto.shown, c.requires.long, many_alerts c.args.book.now, ap length c.alerts-alerts.ensures.value))
           (c.loop-i.invariant.each words k stands)
-          (c.is_shown.ensures words k stands ∙ ap (is_one b words k) (condition c));
+          (noted.now ∙ c.is_shown.ensures words k stands ∙ ap (is_one b words k) (condition c));
+      same = unchanged c.args.shown.now c.loop-i.shown c.loop-i.i c.is_shown.result c.note-changed.new.shown c.loop-i.changed c.note-changed.result
+          noted.now noted.same.0 c.loop-i.invariant.same;
     }
 
-pub returns : goal.returns
-returns c = λ words k stands. record {
-  long = c.loop-i.invariant.long;
+pub returns-clause-shown : goal.returns-clause-shown
+returns-clause-shown c = λ words k stands. record {
+  long = c.loop-i.auto.shown ∙ c.requires.long;
   each = λ a h. c.loop-i.invariant.each words k stands a (omega (arith, many_alerts c.args.book.now, ap length c.alerts-alerts.ensures.value));
 }

@@ -17,17 +17,17 @@ pub returns-in-Ok-clause-feeds : goal.returns-in-Ok-clause-feeds
 returns-in-Ok-clause-feeds g c = λ h titles few stands.
     let b = the_book c.args.book.now in
     let agrees = g.O.Sink.agrees in
-    subst (λ e. HasFed b agrees c.args.out.now c.put_all.new.out h e c.tick-block.new.self) (sym c.in-Tick.is)
-    (fed-tick b agrees h c.args.out.now c.put_all.new.out c.as_slice.result.now c.tick-block.new.self
-    (c.as_slice.ensures.value ∙ c.tick-block.ensures.block h titles stands) c.in-Ok.ensures.all (c.tick-block.ensures.stands h titles few stands))
+    subst (λ e. HasFed b agrees c.args.out.now c.put_all.new.out h e c.tick.new.self) (sym c.in-Tick.is)
+    (fed-tick b agrees h c.args.out.now c.put_all.new.out c.block.result.now c.tick.new.self
+    (c.block.ensures ∙ c.tick.ensures.block h titles stands) c.in-Ok.ensures.all (c.tick.ensures.stands h titles few stands))
 
 pub returns-in-Err-clause-feeds : goal.returns-in-Err-clause-feeds
 returns-in-Err-clause-feeds g c = λ h titles few stands.
     let b = the_book c.args.book.now in
     let agrees = g.O.Sink.agrees in
     subst (HasBegun b agrees c.args.out.now c.put_all.new.out h) (sym c.in-Tick.is)
-    (begun-tick b agrees h c.args.out.now c.put_all.new.out c.as_slice.result.now
-    (c.as_slice.ensures.value ∙ c.tick-block.ensures.block h titles stands) c.in-Err.ensures.prefix)
+    (begun-tick b agrees h c.args.out.now c.put_all.new.out c.block.result.now
+    (c.block.ensures ∙ c.tick.ensures.block h titles stands) c.in-Err.ensures.prefix)
 
 pub returns-in-Press-clause-feeds : goal.returns-in-Press-clause-feeds
 returns-in-Press-clause-feeds g c = λ h titles few stands.
