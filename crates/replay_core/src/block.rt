@@ -10,7 +10,7 @@ use ecam_kinds::{Colour, Picture, ROWS, Row};
 use itoa::Buffer;
 
 // A block's line of its number, and a line for each row of at most 47 bytes, take fewer bytes.
-const BLOCK: usize = 2048;
+pub(crate) const BLOCK: usize = 2048;
 
 pub(crate) type Block = ArrayVec<u8, BLOCK>;
 

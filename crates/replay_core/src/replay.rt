@@ -1,5 +1,5 @@
 // The running state of a replay of titles: what the words said last, and the picture of the last Tick.
-ghost use Rattle.std.specs.Prelude.{◌≡◌, ℕ, ◌<◌, ◌^◌, ◌+◌, ◌++◌, ◌∷◌, ◌↔◌, [], false, List, length, All, IfOk};
+ghost use Rattle.std.specs.Prelude.{◌≡◌, ℕ, ◌<◌, ◌≤◌, ◌^◌, ◌+◌, ◌*◌, ◌++◌, ◌∷◌, ◌↔◌, [], false, List, length, All, IfOk};
 ghost use Rattle.ecam_spec.specs.declared.kinds.Event.{Event};
 ghost use Rattle.ecam_spec.specs.declared.kinds.Event.TheVariants.{Word, Tick};
 ghost use Rattle.ecam_spec.specs.Output as output;
@@ -14,12 +14,12 @@ ghost use Rattle.ecam_spec.specs.Value.{BusWord, value};
 ghost use Rattle.ecam_spec.specs.Situation.{parameter_at};
 ghost use Rattle.book_model.specs.View.{tree_in};
 ghost use Rattle.ecam_kinds.specs.Shown.{picture_of};
-ghost use Rattle.replay_core.specs.Standing.{Fits, Stands, AreShown, is_one, ones};
+ghost use Rattle.replay_core.specs.Standing.{Fits, Stands, AreShown, those_shown, is_one, ones};
 
-use crate::block::{Block, put_block};
+use crate::block::{BLOCK, Block, put_block};
 use crate::titles::draw_titles;
 use book_model::{Alert, Book};
-use ecam_kinds::Picture;
+use ecam_kinds::{Picture, ROWS};
 use param_table::Params;
 use std::alloc::{AllocError, Global};
 use std::mem;
@@ -108,13 +108,29 @@ impl Replay {
     {
         let changed = look(&mut self.shown, &self.params, book);
         self.block.clear();
-        if !changed {
-            return;
+        if changed {
+            redraw(
+                &mut self.picture,
+                &mut self.block,
+                self.ticks,
+                book,
+                &self.shown,
+            );
         }
-        let picture = draw_titles(book, &self.shown);
-        put_block(&mut self.block, self.ticks, &self.picture, &picture);
-        self.picture = picture;
     }
+}
+
+// Draws the picture of these alerts, and puts the block of Tick number `tick` behind what stands in `block`. It is a
+// function of its own, since a picture among a function's variables costs 2016 bytes of zeros at each call.
+fn redraw(picture: &mut Picture, block: &mut Block, tick: u64, book: &Book, shown: &[bool])
+    requires shown { length shown.now ≡ length book.now.alerts.items }
+    requires room { length block.old.items + 42 + 47 * ROWS ≤ BLOCK }
+    ensures picture { picture_of picture.new ≡ title_picture (the_book book.now) (those_shown (the_book book.now) shown.now) }
+    ensures block { block.new.items ≡ block.old.items ++ output.block tick (picture_of picture.old) (picture_of picture.new) }
+{
+    let drawn = draw_titles(book, shown);
+    put_block(block, tick, picture, &drawn);
+    *picture = drawn;
 }
 
 // Notes which alerts are shown in the moment that hasn't ended, and answers whether that changed for any.
