@@ -3,6 +3,7 @@ mod Limits
 mod Forms
 mod TitleRows
 mod Files
+mod Flags
 mod Steps
 mod Counts
 mod Alone

@@ -1,5 +1,5 @@
 -- The running state of a replay of titles, over one more event.
-use Rattle.std.proofs.Common.{◌≡◌, ℕ, zero, suc, ◌+◌, ◌<◌, ◌≤◌, Bool, true, false, ◌||◌, List, [], ◌∷◌, ◌++◌, map, length, get_or, filter, cond, None, take, drop, append-nil, refl, sym, ap, ◌∙◌, subst, arith}
+use Rattle.std.proofs.Common.{◌≡◌, ℕ, zero, suc, ◌+◌, ◌<◌, ◌≤◌, Bool, false, List, [], ◌∷◌, ◌++◌, map, length, get_or, filter, cond, None, take, drop, append-nil, refl, sym, ap, ◌∙◌, subst, arith}
 use Rattle.std.specs.Prelude.{All}
 use Rattle.std.proofs.lemmas.List.Elements.{filter-append}
 use Rattle.ecam_spec.specs.declared.kinds.Event.{Event}
@@ -30,7 +30,7 @@ use Rattle.param_table.specs.Standing.{ParamsStand, WordComes}
 use Rattle.param_table.proofs.Agree.{ParamsStand-below}
 use Rattle.replay_core.specs.declared.replay.Replay.{Replay}
 use Rattle.ecam_kinds.specs.Shown.{picture_of}
-use Rattle.std.proofs.lemmas.List.{get_or_past, length-map, set-get_or}
+use Rattle.std.proofs.lemmas.List.{get_or_past, length-map}
 use Rattle.std.proofs.Math.ListN.{drop_of_length-le}
 use Rattle.std.proofs.Math.Seq.{take-length}
 use Rattle.std.proofs.Common.{get_or-set_other, get_or-set_same, below_more, set, ◌≢◌}
@@ -82,13 +82,6 @@ looked shown i v p within before now =
     below_more _ _
     (λ a h. let other : a ≢ i = omega arith in get_or-set_other shown i a v false other ∙ before a h)
     (get_or-set_same shown i v false within ∙ now)
-
--- where no flag changed so far and this one doesn't, all are as they were
-pub unchanged : (first shown : List Bool) (i : ℕ) (now new : Bool) (changed one : Bool) → new ≡ now → (one ≡ false → get_or shown i false ≡ now)
-    → (changed ≡ false → shown ≡ first) → (changed || one) ≡ false → set shown i new ≡ first
-unchanged first shown i now new true one noted this before none = absurd (let w : ⊥ = cc in w)
-unchanged first shown i now new false one noted this before none =
-    ap (set shown i) (noted ∙ sym (this none)) ∙ set-get_or shown i false ∙ before refl
 
 -- a parameter that the book doesn't have has no value
 pub no-value : (b : Book) (p : ℕ) (words : ℕ → List BusWord) (k : ℕ) → length b.parameters ≤ p → value (parameter_at b p) words k ≡ None

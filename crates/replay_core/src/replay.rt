@@ -138,7 +138,7 @@ fn look(shown: &mut [bool], params: &Params, book: &Book) -> bool
     requires fits { ParamsFit (the_book book.now) params.now }
     requires long { length shown.old ≡ length (the_book book.now).alerts }
     ensures shown { (words : ℕ → List BusWord) (k : ℕ) → ParamsStand (the_book book.now) words k params.now → AreShown (the_book book.now) words k shown.new }
-    ensures same { result ≡ false → shown.new ≡ shown.old }
+    ensures same { result ≡ false ↔ shown.new ≡ shown.old }
 {
     let alerts = book.alerts();
     let mut changed = false;

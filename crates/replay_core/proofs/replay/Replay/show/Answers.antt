@@ -12,7 +12,7 @@ pub returns-else-changed-clause-picture : goal.returns-else-changed-clause-pictu
 returns-else-changed-clause-picture c = λ words k stands.
     let b = the_book c.args.book.now in
     c.requires.picture
-    ∙ ap (λ shown. title_picture b (those_shown b shown)) (sym (c.if-changed.ensures.same refl ∙ c.deref_mut.ensures.value))
+    ∙ ap (λ shown. title_picture b (those_shown b shown)) (sym (c.if-changed.ensures.same.0 refl ∙ c.deref_mut.ensures.value))
     ∙ ap (title_picture b) (noted b words k c.look-changed.new.shown (c.look-changed.ensures.shown words k stands))
 
 pub returns-else-changed-clause-block : goal.returns-else-changed-clause-block
