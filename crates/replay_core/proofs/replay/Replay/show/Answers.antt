@@ -1,5 +1,4 @@
-use Rattle.std.proofs.Common.{sym, ap, ◌++◌, ◌∙◌, arith, length, refl}
-use Rattle.ecam_spec.specs.Output as output
+use Rattle.std.proofs.Common.{sym, ap, ◌∙◌, arith, length, refl}
 use Rattle.ecam_spec.specs.Titles.{title_picture}
 use Rattle.book_model.specs.Sealed.{the_book}
 use Rattle.ecam_kinds.specs.Shown.{picture_of}
