@@ -1,6 +1,5 @@
 -- The atoms of the conditions of a list and of the lines of a procedure, one by one.
-use Rattle.std.proofs.Common.{◌≡◌, ℕ, ◌+◌, ◌<◌, ◌≤◌, Bool, false, ◌||◌, List, length, map, get_or, drop, refl, sym, ◌∙◌, ap}
-use Rattle.std.proofs.lemmas.List.{drop_more, drop_all}
+use Rattle.std.proofs.Common.{◌≡◌, ℕ, ◌+◌, ◌<◌, ◌≤◌, Bool, false, ◌||◌, List, length, map, get_or, drop, ap}
 use Rattle.std.specs.List.{list_any}
 use Rattle.ecam_spec.specs.Book.{Tree}
 use Rattle.ecam_spec.specs.BookTerms.{line_terms}
@@ -8,7 +7,7 @@ use Rattle.ecam_spec.specs.DraftFaults.{has_atom, have_atom}
 use Rattle.term_tree.specs.declared.cond.Cond.{Cond}
 use Rattle.term_tree.specs.View.{tree_of, trees_of}
 use Rattle.term_tree.proofs.Members.{trees_of-end, trees_of-next}
-use Rattle.book_model.specs.View.{line_of, tree_in}
+use Rattle.book_model.specs.View.{line_of}
 use Rattle.book_model.specs.declared.draft.Line.{Line}
 
 module _ (is_so : Tree → Bool) (cs : List Cond) (i : ℕ) where

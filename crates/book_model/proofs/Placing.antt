@@ -3,7 +3,7 @@ use Rattle.std.proofs.Common.{◌≡◌, ℕ, ◌+◌, ◌<◌, ◌≤◌, List,
 use Rattle.std.proofs.lemmas.List.{take_more_set, drop_more, take_all, drop-set-lt, drop_all}
 use Rattle.std.proofs.lemmas.List.Concat.{flat_map-append}
 use Rattle.std.specs.List.{flat_map}
-use Rattle.ecam_spec.specs.Book.{Tree, more}
+use Rattle.ecam_spec.specs.Book.{Tree}
 use Rattle.ecam_spec.specs.BookTerms.{slots_in}
 use Rattle.ecam_spec.specs.TermSize.{Placed, slots, trees, placed}
 use Rattle.ecam_spec.specs.Book as book

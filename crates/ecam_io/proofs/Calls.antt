@@ -1,10 +1,9 @@
 -- What several calls in a row do to a source, a shelf or a sink.
-use Rattle.std.proofs.Common.{ℕ, ◌+◌, ◌≤◌, List, [], ◌++◌, Option, None, Some, IsSomeAnd, length, take, drop, refl, sym, ◌∙◌, ap, subst, inl, inr, ◌^◌, ◌-◌, arith, append_assoc, append-nil, length-take, length-append}
+use Rattle.std.proofs.Common.{ℕ, ◌+◌, ◌≤◌, List, [], ◌++◌, Option, None, Some, IsSomeAnd, length, take, drop, sym, ◌∙◌, ap, subst, ◌-◌, arith, append_assoc, append-nil, length-take, length-append}
 use Rattle.std.proofs.lemmas.List.{take_all, take-append-le}
-use Rattle.std.proofs.lemmas.Bool.{cases_eq}
 use Rattle.std.proofs.Math.Seq.{take-add, take-append-add}
 use Rattle.std.specs.Io.{StartsWith}
-use Rattle.ecam_io.specs.Outside.{raised, Rose, file_named, FileHas, LacksFile, Appended, IsKept, AppendedPrefix}
+use Rattle.ecam_io.specs.Outside.{Rose, file_named, FileHas, Appended, IsKept, AppendedPrefix}
 
 -- a count that rose in a call rose from any earlier moment on
 pub Rose-earlier : (before mid now : ℕ) → before ≤ mid → Rose mid now → Rose before now

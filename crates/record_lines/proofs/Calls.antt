@@ -1,9 +1,7 @@
 -- The steps of one call, one after another.
-use Rattle.std.proofs.Common.{◌≡◌, ℕ, false, List, [], ◌++◌, length, Option, Result, sym, ap, subst, arith, length-take, append-nil, append_assoc}
-use Rattle.ecam_spec.specs.declared.kinds.Event.{Event}
-use Rattle.record_lines.specs.declared.outcome.LineError.{LineError}
+use Rattle.std.proofs.Common.{◌≡◌, ℕ, false, List, [], ◌++◌, length, Option, sym, ap, subst, arith, length-take, append-nil, append_assoc}
 use Rattle.record_lines.specs.Reader.{ReaderState, room, filled}
-use Rattle.record_lines.specs.Reads.{Reads, TellsAfter, Tells, Goes, Advances, Takes}
+use Rattle.record_lines.specs.Reads.{Reads, Goes, Advances, Takes}
 use Rattle.std.proofs.KnownBytes.{Consumes-trans}
 use Rattle.record_lines.proofs.Progress.{goes_filled}
 

@@ -2,7 +2,7 @@
 use Rattle.std.proofs.Common.{◌≡◌, ℕ, ◌+◌, ◌-◌, ◌≤◌, List, [], length, take, drop, Option, Some, None, sym, ◌∙◌, ap, arith, length-take, length-drop}
 use Rattle.std.proofs.lemmas.List.{drop-take, drop-drop}
 use Rattle.std.specs.Prelude.{slice_range}
-use Rattle.std.specs.Io.KnownBytes.{Consumes, IsAtEnd}
+use Rattle.std.specs.Io.KnownBytes.{IsAtEnd}
 use Rattle.record_lines.specs.Reads.{IsSpent}
 
 -- past the first bytes of a part of a list

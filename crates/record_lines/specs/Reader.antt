@@ -1,5 +1,5 @@
 -- What callers see of a reader.
-use Rattle.std.specs.Prelude.{if◌then◌else◌, ◌==◌, ◌&&◌, not, ℕ, ◌+◌, ◌-◌, ◌*◌, Bool, nat_lt, List, [], ◌++◌, length, take, drop, Option, None, Some, Result, Ok, Err}
+use Rattle.std.specs.Prelude.{if◌then◌else◌, ◌==◌, ◌&&◌, not, ℕ, ◌+◌, ◌-◌, ◌*◌, Bool, nat_lt, List, [], ◌++◌, length, take, Option, None, Some, Result, Ok, Err}
 use Rattle.ecam_spec.specs.declared.kinds.Event.{Event}
 use Rattle.ecam_spec.specs.declared.kinds.Event.TheVariants.{End}
 use Rattle.ecam_spec.specs.declared.kinds.FaultKind.{FaultKind}

@@ -1,5 +1,5 @@
 -- How the commands end, from how their steps do.
-use Rattle.std.proofs.Common.{◌≡◌, ℕ, ◌≤◌, Bool, true, [], Option, Some, None, Err, IsSomeAnd, sym, ap, ◌∙◌, subst, inl, inr, arith}
+use Rattle.std.proofs.Common.{◌≡◌, ℕ, ◌≤◌, Bool, true, Option, Some, None, Err, IsSomeAnd, sym, ap, ◌∙◌, subst, inl, inr, arith}
 use Rattle.ecam_io.specs.Outside.{raised, Rose, FileHas, MayRefuse, AppendedPrefix, IsKept}
 use Rattle.ecam_io.proofs.Calls.{Rose-earlier, FileHas-weaker}
 use Rattle.ecam_spec.specs.Book.{Text, Book}
@@ -10,8 +10,8 @@ use Rattle.replay_core.specs.Runs.{Runs}
 use Rattle.replay_core.specs.declared.run.RunError.TheVariants as ends
 use Rattle.replay_core.proofs.Endings.{told}
 use Rattle.replay_core.specs.Replayed.{replayed}
-use Rattle.replay_core.specs.Loading.{Files, BookHas, ReplayedHas, IsUnopened, HasLoaded, Loads, Readies}
-use Rattle.replay_core.specs.Answers.{Checks, RepliesWhole, RepliesTo, RepliesInPart, Plays, Replays}
+use Rattle.replay_core.specs.Loading.{Files, ReplayedHas, IsUnopened, HasLoaded, Readies}
+use Rattle.replay_core.specs.Answers.{RepliesWhole, RepliesTo, RepliesInPart, Plays, Replays}
 use Rattle.replay_core.specs.declared.outcome.Outcome.{Outcome}
 use Rattle.replay_core.specs.declared.outcome.Outcome.TheVariants as outcomes
 use Rattle.replay_core.specs.declared.load.Loaded.{Loaded}

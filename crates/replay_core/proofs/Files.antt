@@ -1,14 +1,11 @@
 -- The first bytes of a file.
-use Rattle.std.proofs.Common.{◌≡◌, ℕ, ◌≤◌, ◌<◌, Bool, true, [], ◌++◌, Option, Some, Result, Ok, Err, length, take, sym, ap, ◌∙◌, subst, inl, inr, arith, append-nil}
-use Rattle.std.specs.Prelude.{IfOk}
+use Rattle.std.proofs.Common.{◌≡◌, ◌≤◌, ◌<◌, [], ◌++◌, Option, Some, length, take, sym, ap, ◌∙◌, subst, inl, inr, arith, append-nil}
 use Rattle.std.specs.Io.KnownBytes.{Consumes, IsAtEnd}
 use Rattle.std.proofs.KnownBytes.{Consumes-trans}
 use Rattle.std.proofs.lemmas.List.{take_all, take-append-le}
 use Rattle.std.proofs.lemmas.Bool.Decides.{leb_tells}
-use Rattle.ecam_io.specs.Outside.{Rose, FileHas}
-use Rattle.ecam_io.proofs.Calls.{Rose-earlier, FileHas-weaker}
 use Rattle.ecam_spec.specs.Book.{Text}
-use Rattle.replay_core.specs.Loading.{Files, IsFront, TookAtMost, IsUnread}
+use Rattle.replay_core.specs.Loading.{IsFront, TookAtMost}
 use Rattle.replay_core.proofs.Endings.{told}
 
 -- enough bytes came

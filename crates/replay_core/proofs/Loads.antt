@@ -9,10 +9,10 @@ use Rattle.ecam_spec.specs.DraftFaults.{draft_fault}
 use Rattle.ecam_spec.specs.Titles.{is_title_book}
 use Rattle.book_spec.specs.BookBytes.{draft_of_bytes, book_fault, book}
 use Rattle.replay_core.specs.Replayed.{unbuilt, replayed, replay_fault}
-use Rattle.replay_core.specs.Loading.{Files, BookHas, ReplayedHas, IsFront, HasFault, Loads, Prepares, Readies}
+use Rattle.replay_core.specs.Loading.{Files, BookHas, ReplayedHas, IsFront, HasFault, Prepares, Readies}
 use Rattle.replay_core.specs.declared.outcome.Outcome.{Outcome}
 use Rattle.replay_core.specs.declared.outcome.Outcome.TheVariants as outcomes
-use Rattle.replay_core.proofs.BookFacts.{draft-short, book-front, book_fault-front, seals, replayed-titles, unbuilt-told, fault-told}
+use Rattle.replay_core.proofs.BookFacts.{draft-short, book-front, book_fault-front, seals, replayed-titles, unbuilt-told}
 use Rattle.replay_core.proofs.Files.{front-is, front-took, front-spent}
 
 -- ---- a book's file is read as far as a book may go, and that tells what the whole file is
