@@ -1,5 +1,6 @@
 ghost use Rattle.std.specs.Prelude.{◌≡◌, ◌≤◌, ◌<◌, ◌+◌, ◌-◌, ◌^◌, pos, neg_ℤ, ◌≤ℤ◌, ◌*ℤ◌, IfSome, IsTrue};
 ghost use Rattle.std.specs.Int.{int_div_euclid};
+ghost use Rattle.ecam_spec.specs.declared.limits.TheConstants.{NUMBER};
 
 use std::marker::Model;
 
@@ -100,7 +101,7 @@ impl Word {
         requires lowest { 11 ≤ low }
         requires highest { low ≤ 28 }
         requires some { 1 ≤ range }
-        requires at_most { range ≤ 1000000 }
+        requires at_most { range ≤ NUMBER }
         ensures value { result ≡ binary low range self.now }
         ensures least { IfSome result (λ v. neg_ℤ (pos range) ≤ℤ v) }
         ensures greatest { IfSome result (λ v. v ≤ℤ pos range) }
@@ -183,7 +184,7 @@ impl Word {
 fn scaled(steps: i64, range: u32, bits: u8) -> i64
     requires least { neg_ℤ (pos (2 ^ bits)) ≤ℤ steps }
     requires greatest { steps ≤ℤ pos (2 ^ bits) }
-    requires range { range ≤ 1000000 }
+    requires range { range ≤ NUMBER }
     requires bits { bits ≤ 18 }
     ensures value { result ≡ int_div_euclid (steps *ℤ pos range) (pos (2 ^ bits)) }
     ensures least { neg_ℤ (pos range) ≤ℤ result }

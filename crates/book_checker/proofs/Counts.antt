@@ -1,7 +1,7 @@
 -- How many items a sound draft has at most.
 use Rattle.std.proofs.Common.{◌<◌, ◌^◌, length, arith}
 use Rattle.std.proofs.lemmas.List.{length-map}
-use Rattle.ecam_spec.specs.Sound.{IsSound}
+use Rattle.ecam_spec.specs.KeepsLimits.{IsSound}
 use Rattle.book_model.specs.View.{draft_of, alert_of, memo_of}
 use Rattle.book_model.specs.declared.draft.Draft.{Draft}
 

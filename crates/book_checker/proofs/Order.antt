@@ -11,8 +11,9 @@ use Rattle.ecam_spec.specs.BookTerms.{phase_terms, line_terms}
 use Rattle.ecam_spec.specs.Draft.{alert_names}
 use Rattle.ecam_spec.specs.Draft as plain
 use Rattle.ecam_spec.specs.DraftFaults.{has_atom, asks_phase_or_alert, asks_alert_from, misreads, one_misreads, may_sound, is_unknown, stands_early, all_phases, at_alert, draft_fault, kinds_of}
-use Rattle.ecam_spec.specs.Faults.{first_of, first_item, fault_at, whole}
-use Rattle.book_model.specs.AlertPlaces.{Places}
+use Rattle.ecam_spec.specs.Faults.{first_item, fault_at, whole}
+use Rattle.ecam_spec.specs.Places.{first_of}
+use Rattle.book_model.specs.NamePlaces.{Numbers}
 use Rattle.book_model.specs.View.{draft_of, name_of, alert_of, memo_of, phase_of, parameter_of}
 use Rattle.book_model.specs.declared.draft.Alert.{Alert}
 use Rattle.book_model.specs.declared.draft.Draft.{Draft}
@@ -79,7 +80,7 @@ module _ (p : plain.Draft) where
   by_parts-own names kinds names_are kinds_are =
       ap (λ ns. first_of (by_parts ns kinds)) names_are ∙ ap (λ ks. first_of (by_parts (alert_names p.alerts) ks)) kinds_are
 
-module _ (d : Draft) (params : Bor (List Param)) (places : Bor Places) where
+module _ (d : Draft) (params : Bor (List Param)) (places : Bor Numbers) where
   -- what the searches of a draft find, to which the map of places and the parameters are lent
   abbrev pub all_found : List (Option BookFault)
   all_found =

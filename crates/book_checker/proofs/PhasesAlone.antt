@@ -5,7 +5,7 @@ use Rattle.ecam_spec.specs.TermSize.{nodes, depth}
 use Rattle.ecam_spec.specs.TermNames.{IsWithin}
 use Rattle.ecam_spec.specs.Draft as plain
 use Rattle.ecam_spec.specs.Book as book
-use Rattle.ecam_spec.specs.Sound.{IsSound, IsSoundTerm, IsSoundPhase, IsInRange}
+use Rattle.ecam_spec.specs.KeepsLimits.{IsSound, IsSoundTerm, IsSoundPhase, IsInRange}
 use Rattle.ecam_kinds.specs.declared.phase.PhaseSet.{PhaseSet}
 use Rattle.term_tree.specs.declared.cond.Cond.TheVariants.{Const, InPhase}
 use Rattle.term_tree.specs.View.{tree_of}

@@ -4,9 +4,9 @@ use Rattle.std.proofs.lemmas.Bool.{cases_Bool}
 use Rattle.std.specs.Prelude.{is_none}
 use Rattle.std.specs.List.{list_any, position_from}
 use Rattle.ecam_spec.specs.Book.{Text}
-use Rattle.ecam_spec.specs.BookText.{same_text}
+use Rattle.ecam_spec.specs.Bytes.{same_text}
 use Rattle.ecam_spec.specs.DraftFaults.{is_unknown, stands_early, is_at_most}
-use Rattle.book_model.specs.AlertPlaces.{Places, place_by, FindsPlaces}
+use Rattle.book_model.specs.NamePlaces.{Numbers, number_by, FindsPlaces}
 
 -- what is asked of each text that is seen, asked of the texts
 seen : {X : Type 0} (is_so : X → Bool) (asked : Text → Bool) (view : X → Text) → ((x : X) → is_so x ≡ asked (view x))
@@ -20,12 +20,12 @@ no_place : {X : Type 0} (is_so : X → Bool) (n : ℕ) (xs : List X) → is_none
 no_place is_so n [] = refl
 no_place is_so n (x ∷ xs) = elim (cases_Bool (is_so x)) [ inl here ↦ rw here refl | inr other ↦ rw other (no_place is_so (n + 1) xs) ]
 
-module _ (names : List Text) (m : Places) (finds : FindsPlaces names m) {X : Type 0} (view : X → Text) (xs : List X) where
-  pub unknown_by : list_any (λ x. is_none (place_by m (view x))) xs ≡ list_any (is_unknown names) (map view xs)
+module _ (names : List Text) (m : Numbers) (finds : FindsPlaces names m) {X : Type 0} (view : X → Text) (xs : List X) where
+  pub unknown_by : list_any (λ x. is_none (number_by m (view x))) xs ≡ list_any (is_unknown names) (map view xs)
   unknown_by =
-      seen (λ x. is_none (place_by m (view x))) (is_unknown names) view
+      seen (λ x. is_none (number_by m (view x))) (is_unknown names) view
       (λ x. ap is_none (finds (view x)) ∙ no_place (same_text (view x)) 0 names) xs
 
-  pub early_by : (i : ℕ) → list_any (λ x. is_at_most i (place_by m (view x))) xs ≡ list_any (stands_early names i) (map view xs)
+  pub early_by : (i : ℕ) → list_any (λ x. is_at_most i (number_by m (view x))) xs ≡ list_any (stands_early names i) (map view xs)
   early_by i =
-      seen (λ x. is_at_most i (place_by m (view x))) (stands_early names i) view (λ x. ap (is_at_most i) (finds (view x))) xs
+      seen (λ x. is_at_most i (number_by m (view x))) (stands_early names i) view (λ x. ap (is_at_most i) (finds (view x))) xs

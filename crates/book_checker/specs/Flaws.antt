@@ -6,7 +6,7 @@ use Rattle.ecam_spec.specs.Book.{Text, Tree}
 use Rattle.ecam_spec.specs.BookTerms.{line_terms}
 use Rattle.ecam_spec.specs.Draft.{DraftAlert}
 use Rattle.ecam_spec.specs.DraftFaults.{has_atom, asks_phase_or_alert, asks_alert_from, misreads, one_misreads, may_sound, is_unknown, stands_early, all_phases}
-use Rattle.book_model.specs.AlertPlaces.{FindsPlaces}
+use Rattle.book_model.specs.NamePlaces.{FindsPlaces}
 use Rattle.book_model.specs.declared.draft.Param.{Param}
 use Rattle.book_checker.specs.declared.atoms.AtomFlaw.{AtomFlaw}
 use Rattle.book_checker.specs.declared.atoms.AtomFlaw.TheVariants.{PhaseOrAlert, AlertFrom, Misread}

@@ -4,17 +4,18 @@ ghost use Rattle.std.specs.List.{list_any};
 ghost use Rattle.ecam_spec.specs.Book.{Text};
 ghost use Rattle.ecam_spec.specs.BookTerms.{line_terms};
 ghost use Rattle.ecam_spec.specs.DraftFaults.{has_atom, one_misreads, may_sound, is_unknown, stands_early, is_at_most};
-ghost use Rattle.book_model.specs.AlertPlaces.{FindsPlaces};
+ghost use Rattle.book_model.specs.NamePlaces.{FindsPlaces};
 ghost use Rattle.book_model.specs.View.{bytes_of, line_of, alert_of};
 ghost use Rattle.book_checker.specs.Flaws.{has_flaw, is_flawed, kinds_in, Knows};
 
 use crate::atoms::{AtomFlaw, has_atom};
 use bitflags::Flags;
-use book_model::{Alert, AlertPlaces, Line, Name, Param, place_of};
+use book_model::{Alert, Line, Name, NamePlaces, Param, place_of};
 use ecam_kinds::{Level, Sound};
+use ecam_spec::limits;
 
 /// All ten flight phases, as the bits of a set.
-const ALL_PHASES: u16 = 1023;
+const ALL_PHASES: u16 = limits::PHASE_SETS - 1;
 
 /// What may be wrong with an alert.
 #[derive(Drop)]
@@ -26,9 +27,9 @@ pub(crate) enum AlertFlaw<'a, 'n> {
     /// Its level doesn't have its sound.
     HasWrongSound,
     /// A secondary is no alert's name.
-    HasUnknownSecondary(&'a AlertPlaces<'n>),
+    HasUnknownSecondary(&'a NamePlaces<'n>),
     /// A secondary doesn't stand later in the book than the alert.
-    HasEarlySecondary(&'a AlertPlaces<'n>),
+    HasEarlySecondary(&'a NamePlaces<'n>),
     /// It is inhibited in all phases.
     IsAlwaysInhibited,
 }
@@ -81,7 +82,7 @@ fn may_sound(level: Level, sound: Sound) -> bool
     }
 }
 
-fn has_unknown(secondaries: &[Name], places: &AlertPlaces<'_>) -> bool
+fn has_unknown(secondaries: &[Name], places: &NamePlaces<'_>) -> bool
     ensures { (names : List Text) → FindsPlaces names places.now → result ≡ list_any (is_unknown names) (map bytes_of secondaries.now) }
 {
     secondaries
@@ -89,7 +90,7 @@ fn has_unknown(secondaries: &[Name], places: &AlertPlaces<'_>) -> bool
         .any(|name| place_of(places, name.as_str()).is_none())
 }
 
-fn has_early(secondaries: &[Name], primary: usize, places: &AlertPlaces<'_>) -> bool
+fn has_early(secondaries: &[Name], primary: usize, places: &NamePlaces<'_>) -> bool
     ensures { (names : List Text) → FindsPlaces names places.now → result ≡ list_any (stands_early names primary) (map bytes_of secondaries.now) }
 {
     secondaries.iter().any(|name| stands_early(primary, place_of(places, name.as_str())))

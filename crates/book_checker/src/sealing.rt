@@ -1,9 +1,9 @@
 // Sealing a draft: its first fault, or the book.
 ghost use Rattle.std.specs.Prelude.{◌≡◌, ◌<◌, ◌^◌, None, IfOk, IfErr, length, map};
 ghost use Rattle.ecam_spec.specs.Draft.{book_of};
-ghost use Rattle.ecam_spec.specs.Sound.{IsSound};
+ghost use Rattle.ecam_spec.specs.KeepsLimits.{IsSound};
 ghost use Rattle.ecam_spec.specs.DraftFaults.{draft_fault};
-ghost use Rattle.book_model.specs.AlertPlaces.{FindsPlaces};
+ghost use Rattle.book_model.specs.NamePlaces.{FindsPlaces};
 ghost use Rattle.book_model.specs.View.{draft_of, name_of};
 ghost use Rattle.book_model.specs.Sealed.{IsSealed, the_book};
 ghost use Rattle.book_checker.specs.Sealing.{Refuses};
@@ -11,7 +11,7 @@ ghost use Rattle.book_checker.specs.Sealing.{Refuses};
 use crate::alerts::AlertFlaw;
 use crate::atoms::AtomFlaw;
 use crate::searches::{alert_fault, memo_fault, phase_fault};
-use book_model::{AlertPlaces, Book, BookFault, Draft, LoadError, alert_places};
+use book_model::{Book, BookFault, Draft, LoadError, NamePlaces, alert_places};
 use std::alloc::{AllocError, Global};
 
 /// Seals a draft. A fault is the first by its code, 20 to 26, among these by its section, and among these by its
@@ -47,7 +47,7 @@ pub(crate) fn first_fault(alloc: Global, draft: &Draft) -> Result<Option<BookFau
     Ok(fault_by(draft, &places))
 }
 
-fn fault_by(draft: &Draft, places: &AlertPlaces<'_>) -> Option<BookFault>
+fn fault_by(draft: &Draft, places: &NamePlaces<'_>) -> Option<BookFault>
     requires alerts { length draft.now.alerts.items < 2 ^ 32 }
     requires memos { length draft.now.memos.items < 2 ^ 32 }
     requires places { FindsPlaces (map name_of draft.now.alerts.items) places.now }

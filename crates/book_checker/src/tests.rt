@@ -1,7 +1,7 @@
 // Faults of a draft, one above the other. The expected values follow from the rule: the least code, then the
 // section, then the item.
 ghost use Rattle.std.specs.Prelude.{◌≡◌};
-ghost use Rattle.ecam_spec.specs.Sound.{IsSound, IsSoundTerm};
+ghost use Rattle.ecam_spec.specs.KeepsLimits.{IsSound, IsSoundTerm};
 ghost use Rattle.term_tree.specs.View.{tree_of};
 ghost use Rattle.book_model.specs.View.{draft_of};
 

@@ -3,7 +3,8 @@ use Rattle.std.proofs.Common.{◌≡◌, ℕ, List, [], ◌∷◌, ◌++◌, map
 use Rattle.std.specs.Option.{option_or}
 use Rattle.std.specs.Prelude.{codes}
 use Rattle.toml.specs.Data.{Members, get_member}
-use Rattle.ecam_spec.specs.Faults.{first_of, fault_at, whole}
+use Rattle.ecam_spec.specs.Faults.{fault_at, whole}
+use Rattle.ecam_spec.specs.Places.{first_of}
 use Rattle.ecam_spec.specs.declared.kinds.Section.TheVariants as section
 use Rattle.book_spec.specs.Fields.{has_only}
 use Rattle.book_spec.specs.Schema.{top_keys}

@@ -6,7 +6,8 @@ use Rattle.ecam_spec.specs.declared.kinds.Section.{Section}
 use Rattle.ecam_spec.specs.declared.kinds.Section.TheVariants as section
 use Rattle.ecam_spec.specs.declared.kinds.BookFault.{BookFault}
 use Rattle.ecam_spec.specs.Book.{Text}
-use Rattle.ecam_spec.specs.Faults.{first_of, fault_at, whole}
+use Rattle.ecam_spec.specs.Faults.{fault_at, whole}
+use Rattle.ecam_spec.specs.Places.{first_of}
 use Rattle.book_spec.specs.Fields.{has_only}
 use Rattle.book_spec.specs.Schema.{top_keys}
 use Rattle.book_spec.specs.Rules.{leaf_breaks}
@@ -19,7 +20,7 @@ use Rattle.book_spec.specs.declared.schema.Rule.{Rule}
 use Rattle.book_spec.specs.declared.schema.Rule.TheVariants as rules
 use Rattle.book_faults.specs.declared.rules.Asked.{Asked}
 use Rattle.book_faults.specs.declared.rules.Asked.TheVariants.{One}
-use Rattle.book_faults.specs.declared.sections.Listed.{Listed}
+use Rattle.book_faults.specs.declared.sections.ItemList.{ItemList}
 use Rattle.book_faults.specs.Asked.{item_fails, place_in_list}
 
 -- the codes that are searched for before names that stand twice, and those after, with their rules
@@ -42,7 +43,7 @@ module _ (top : Members) where
   abbrev pub items_fault : ℕ → Asked → Section → Text → ℕ → Item → Option BookFault
   items_fault code asked section key most item = at_section top code section key (place_in_list asked most (λ rule. item_breaks (names_of top) rule item))
 
-  abbrev pub listed_fault : ℕ → Asked → Listed → Option BookFault
+  abbrev pub listed_fault : ℕ → Asked → ItemList → Option BookFault
   listed_fault code asked listed = items_fault code asked listed.section listed.key.now listed.most listed.item
 
   -- where the table of the flight phase does

@@ -1,9 +1,5 @@
 -- For which rule the text of a condition is refused.
-use Rattle.std.specs.Prelude.{Bool, true, false, Option}
-use Rattle.toml.specs.Data.{Data, as_str}
-use Rattle.ecam_spec.specs.Book.{Text}
-use Rattle.ecam_spec.specs.BookText.{is_term_text}
-use Rattle.book_spec.specs.Fields.{◌>>=◌, passing}
+use Rattle.std.specs.Prelude.{Bool, true, false}
 use Rattle.ecam_spec.specs.TermText.{Outcome, means}
 use Rattle.book_spec.specs.Rules.{is_misspelled, has_unknown, is_too_much, has_wrong_number}
 use Rattle.book_spec.specs.declared.schema.Rule.{Rule}
@@ -20,7 +16,3 @@ refused_by _ outcome = false
 abbrev pub refuses : Outcome → Bool
 refuses (means tree) = false
 refuses _ = true
-
--- the text of a condition that a value is, if it has the form of one
-abbrev pub written : Data → Option Text
-written value = as_str value >>= passing is_term_text

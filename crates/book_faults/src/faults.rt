@@ -13,19 +13,20 @@ ghost use Rattle.book_faults.specs.FaultParts.{system_fault, listed_fault, phase
 
 use crate::rules::Asked;
 use crate::searches::{first_repeated, place_among_items, place_among_leaves};
-use crate::sections::{ALERTS, Listed, MEMOS, PAGES, PARAMS};
+use crate::sections::{ALERTS, ItemList, MEMOS, PAGES, PARAMS};
 use crate::tables::item_breaks;
 use book_model::{BookFault, Section};
 use book_spec::{Item, Leaf, Rule};
 use book_tables::Catalogue;
 use book_tables::fields::{find, has_only, list_in, names_in, texts_in};
+use ecam_spec::limits;
 use std::alloc::{AllocError, Global};
 use toml::Table;
 
 /// The most systems of a book, and the most bytes of each.
-const MOST_SYSTEMS: usize = 64;
+const MOST_SYSTEMS: usize = limits::SYSTEMS;
 
-const SYSTEM_BYTES: usize = 16;
+const SYSTEM_BYTES: usize = limits::SYSTEM_TEXT;
 
 /// The rules that are searched before names that stand twice, with their codes, and those after.
 const BEFORE_NAMES: [(u8, Rule); 7] = [
@@ -92,7 +93,7 @@ fn listed_fault(
     names: &Catalogue<'_>,
     code: u8,
     asked: Asked,
-    listed: &Listed,
+    listed: &ItemList,
 ) -> Result<Option<BookFault>, AllocError>
     requires { length (list_in listed.now.key.now (table_in names.now)) < 2 ^ 32 }
     ensures { IfOk result (λ r. r ≡ listed_fault (table_in names.now) code asked listed.now) }

@@ -8,7 +8,7 @@ ghost use Rattle.book_faults.specs.Keys.{keys_of};
 use book_spec::{Inner, Leaf, Shape, Words};
 use book_tables::fields::string_at;
 use book_tables::words::kind_of;
-use ecam_spec::Kind;
+use ecam_spec::{Kind, limits};
 use toml::Table;
 
 /// A key, whether it has to be there, and what it may hold.
@@ -45,9 +45,9 @@ pub(crate) fn value_row_keys() -> [Key<Leaf>; 3]
     ensures { keys_of result ≡ spec.row_keys true }
 {
     [
-        needs("text", Leaf::Text(24)),
+        needs("text", Leaf::Text(limits::VALUE_ROW_TEXT)),
         may_have("show", Leaf::Parameter),
-        may_have("unit", Leaf::Text(6)),
+        may_have("unit", Leaf::Text(limits::UNIT)),
     ]
 }
 
@@ -57,7 +57,7 @@ pub(crate) fn text_row_keys() -> [Key<Leaf>; 2]
     ensures { keys_of result ≡ spec.row_keys false }
 {
     [
-        needs("text", Leaf::Text(36)),
+        needs("text", Leaf::Text(limits::TEXT)),
         may_have("colour", Leaf::Word(Words::Colour)),
     ]
 }
@@ -85,7 +85,7 @@ pub(crate) fn bnr_keys() -> [Key<Leaf>; 5]
         needs("label", Leaf::Label),
         may_have("sdi", Leaf::Number(0, 3)),
         needs("low", Leaf::Number(11, 28)),
-        needs("range", Leaf::Number(1, 1000000)),
+        needs("range", Leaf::Number(1, limits::NUMBER)),
     ]
 }
 
@@ -112,7 +112,7 @@ pub(crate) fn any_source_keys() -> [Key<Leaf>; 6]
         may_have("sdi", Leaf::Number(0, 3)),
         may_have("bit", Leaf::Number(11, 29)),
         may_have("low", Leaf::Number(11, 28)),
-        may_have("range", Leaf::Number(1, 1000000)),
+        may_have("range", Leaf::Number(1, limits::NUMBER)),
     ]
 }
 
@@ -122,7 +122,7 @@ pub(crate) fn line_keys() -> [Key<Leaf>; 4]
     ensures { keys_of result ≡ spec.line_keys }
 {
     [
-        needs("text", Leaf::Text(36)),
+        needs("text", Leaf::Text(limits::TEXT)),
         may_have("colour", Leaf::Word(Words::Colour)),
         may_have("when", Leaf::Term),
         may_have("done", Leaf::Term),
@@ -136,7 +136,7 @@ pub(crate) fn status_keys() -> [Key<Leaf>; 2]
 {
     [
         needs("section", Leaf::Word(Words::Section)),
-        needs("text", Leaf::Text(36)),
+        needs("text", Leaf::Text(limits::TEXT)),
     ]
 }
 
@@ -147,9 +147,9 @@ pub(crate) fn page_keys() -> [Key<Shape>; 4]
 {
     [
         needs("name", Shape::Leaf(Leaf::Name)),
-        needs("title", Shape::Leaf(Leaf::Text(36))),
+        needs("title", Shape::Leaf(Leaf::Text(limits::TEXT))),
         may_have("phases", Shape::Leaf(Leaf::Phases)),
-        may_have("row", Shape::Tables(Inner::Row, 0, 17)),
+        may_have("row", Shape::Tables(Inner::Row, 0, limits::PAGE_ROWS)),
     ]
 }
 
@@ -161,8 +161,11 @@ pub(crate) fn param_keys(kind: Option<Kind>) -> [Key<Shape>; 4]
     [
         needs("name", Shape::Leaf(Leaf::Name)),
         needs("kind", Shape::Leaf(Leaf::Word(Words::Kind))),
-        needs("stale", Shape::Leaf(Leaf::Number(1, 600))),
-        needs("source", Shape::Tables(Inner::Source(kind), 1, 3)),
+        needs("stale", Shape::Leaf(Leaf::Number(1, limits::STALE))),
+        needs(
+            "source",
+            Shape::Tables(Inner::Source(kind), 1, limits::SOURCES),
+        ),
     ]
 }
 
@@ -188,17 +191,20 @@ pub(crate) fn alert_keys() -> [Key<Shape>; 12]
 {
     [
         needs("name", Shape::Leaf(Leaf::Name)),
-        needs("title", Shape::Leaf(Leaf::Text(36))),
+        needs("title", Shape::Leaf(Leaf::Text(limits::TEXT))),
         needs("system", Shape::Leaf(Leaf::System)),
         needs("level", Shape::Leaf(Leaf::Number(1, 3))),
         needs("when", Shape::Leaf(Leaf::Term)),
         may_have("page", Shape::Leaf(Leaf::Page)),
-        may_have("confirm", Shape::Leaf(Leaf::Number(0, 36000))),
+        may_have("confirm", Shape::Leaf(Leaf::Number(0, limits::WAIT))),
         may_have("sound", Shape::Leaf(Leaf::Word(Words::Sound))),
         may_have("inhibit", Shape::Leaf(Leaf::Phases)),
         may_have("secondary", Shape::Leaf(Leaf::Alerts)),
-        may_have("line", Shape::Tables(Inner::Line, 0, 16)),
-        may_have("status", Shape::Tables(Inner::Status, 0, 8)),
+        may_have("line", Shape::Tables(Inner::Line, 0, limits::LINES)),
+        may_have(
+            "status",
+            Shape::Tables(Inner::Status, 0, limits::STATUS_LINES),
+        ),
     ]
 }
 
@@ -209,7 +215,7 @@ pub(crate) fn memo_keys() -> [Key<Shape>; 5]
 {
     [
         needs("name", Shape::Leaf(Leaf::Name)),
-        needs("text", Shape::Leaf(Leaf::Text(36))),
+        needs("text", Shape::Leaf(Leaf::Text(limits::TEXT))),
         needs("zone", Shape::Leaf(Leaf::Word(Words::Zone))),
         needs("when", Shape::Leaf(Leaf::Term)),
         may_have("colour", Shape::Leaf(Leaf::Word(Words::Colour))),

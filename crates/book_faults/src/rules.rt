@@ -3,22 +3,24 @@ ghost use Rattle.std.specs.Prelude.{◌≡◌, ◌≤◌, not, is_some, length, 
 ghost use Rattle.std.specs.List.{list_any};
 ghost use Rattle.toml.specs.Data.{as_array};
 ghost use Rattle.toml.specs.View.{view};
-ghost use Rattle.ecam_spec.specs.TermReading.{verdict};
+ghost use Rattle.book_spec.specs.Verdict.{verdict};
 ghost use Rattle.book_spec.specs.Schema.{is_word};
 ghost use Rattle.book_spec.specs.Rules as spec;
 ghost use Rattle.book_faults.specs.Asked.{leaf_fails, unread_rules, read_rules};
 ghost use Rattle.book_tables.specs.Catalogue.{names_in};
-ghost use Rattle.book_faults.specs.Refused.{refused_by, refuses, written};
+ghost use Rattle.book_faults.specs.Refused.{refused_by, refuses};
 ghost use Rattle.book_tables.specs.Reading.{views};
 ghost use Rattle.book_faults.specs.declared.rules.Asked.TheVariants.{Every};
 
 use book_spec::{Leaf, Rule, Words};
 use book_tables::Catalogue;
-use book_tables::fields::members_of;
+use book_tables::conditions::read_condition;
+use book_tables::fields::{members_of, term_text_in};
 use book_tables::texts::{is_name, is_term_text, is_text, label_from};
 use book_tables::words::{colour_of, kind_of, section_of, sound_of, zone_of};
+use ecam_spec::limits::{self, TERM_TEXT};
 use std::alloc::{AllocError, Global};
-use term_text::{TermError, read_term_by};
+use term_text::TermError;
 use toml::Value;
 
 /// The rules that are asked for: one, or every one.
@@ -143,8 +145,8 @@ fn is_too_long(leaf: Leaf, value: &Value) -> bool
     ensures { result ≡ spec.is_too_long leaf (view value.now) }
 {
     match leaf {
-        Leaf::Phases => has_wrong_count(0, 10, value),
-        Leaf::Alerts => has_wrong_count(0, 16, value),
+        Leaf::Phases => has_wrong_count(0, limits::PHASES, value),
+        Leaf::Alerts => has_wrong_count(0, limits::SECONDARIES, value),
         _ => false,
     }
 }
@@ -217,10 +219,10 @@ fn is_refused(
     names: &Catalogue<'_>,
     text: &str,
 ) -> Result<bool, AllocError>
-    requires { length text.now ≤ 2048 }
+    requires { length text.now ≤ TERM_TEXT }
     ensures { IfOk result (λ b. b ≡ refused_by rule (verdict (names_in names.now).of_terms text.now)) }
 {
-    match read_term_by(alloc, text, names) {
+    match read_condition(alloc, text, names) {
         Ok(_) => Ok(false),
         Err(TermError::Syntax { .. }) => Ok(matches!(rule, Rule::Spelled)),
         Err(TermError::UnknownName { .. }) => Ok(matches!(rule, Rule::Found)),
@@ -229,14 +231,6 @@ fn is_refused(
         Err(TermError::Number { .. }) => Ok(matches!(rule, Rule::Measured)),
         Err(TermError::Memory) => Err(AllocError),
     }
-}
-
-fn written(value: &Value) -> Option<&str>
-    ensures text { option_copied result ≡ written (view value.now) }
-    ensures short { IfSome result (λ t. length t.now ≤ 2048) }
-{
-    let text = value.as_str()?;
-    if is_term_text(text) { Some(text) } else { None }
 }
 
 /// Whether a condition is refused for this rule.
@@ -250,7 +244,7 @@ fn term_fails(
 ) -> Result<bool, AllocError>
     ensures { IfOk result (λ b. b ≡ spec.term_fails (names_in names.now) (refused_by rule) leaf (view value.now)) }
 {
-    match (leaf, written(value)) {
+    match (leaf, term_text_in(value)) {
         (Leaf::Term, Some(text)) => is_refused(alloc, rule, names, text),
         _ => Ok(false),
     }
@@ -291,10 +285,10 @@ fn one_rule_breaks(
 
 /// Whether a condition's text is refused, for whichever rule.
 fn is_unreadable(alloc: Global, names: &Catalogue<'_>, text: &str) -> Result<bool, AllocError>
-    requires { length text.now ≤ 2048 }
+    requires { length text.now ≤ TERM_TEXT }
     ensures { IfOk result (λ b. b ≡ refuses (verdict (names_in names.now).of_terms text.now)) }
 {
-    match read_term_by(alloc, text, names) {
+    match read_condition(alloc, text, names) {
         Ok(_) => Ok(false),
         Err(TermError::Memory) => Err(AllocError),
         Err(_) => Ok(true),
@@ -327,7 +321,7 @@ fn read_breaks(
 ) -> Result<bool, AllocError>
     ensures { IfOk result (λ b. b ≡ list_any (λ rule. spec.leaf_breaks (names_in names.now) rule leaf (view value.now)) read_rules) }
 {
-    match (leaf, written(value)) {
+    match (leaf, term_text_in(value)) {
         (Leaf::Term, Some(text)) => is_unreadable(alloc, names, text),
         _ => Ok(parameter_fails(names, leaf, value)),
     }

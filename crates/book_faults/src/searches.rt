@@ -2,7 +2,7 @@
 ghost use Rattle.std.specs.Prelude.{◌≡◌, ◌<◌, ◌^◌, length, IfOk};
 ghost use Rattle.toml.specs.View.{view};
 ghost use Rattle.ecam_spec.specs.Faults.{first_item};
-ghost use Rattle.ecam_spec.specs.Sound.{is_repeated};
+ghost use Rattle.ecam_spec.specs.KeepsLimits.{is_repeated};
 ghost use Rattle.book_spec.specs.Rules.{leaf_breaks, members_of};
 ghost use Rattle.book_spec.specs.TableRules.{item_breaks};
 ghost use Rattle.book_faults.specs.Asked.{leaf_fails, item_fails, place_in_list};

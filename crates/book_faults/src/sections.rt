@@ -1,39 +1,40 @@
 // The sections that are lists of items.
 use book_model::Section;
 use book_spec::Item;
+use ecam_spec::limits;
 
 /// A section that is a list of items: its key, what its items are, and how many it may have.
-pub(crate) struct Listed {
+pub(crate) struct ItemList {
     pub(crate) section: Section,
     pub(crate) key: &'static str,
     pub(crate) item: Item,
     pub(crate) most: usize,
 }
 
-pub(crate) const PAGES: Listed = Listed {
+pub(crate) const PAGES: ItemList = ItemList {
     section: Section::Page,
     key: "page",
     item: Item::Page,
-    most: 16,
+    most: limits::PAGES,
 };
 
-pub(crate) const PARAMS: Listed = Listed {
+pub(crate) const PARAMS: ItemList = ItemList {
     section: Section::Param,
     key: "param",
     item: Item::Param,
-    most: 1024,
+    most: limits::PARAMETERS,
 };
 
-pub(crate) const ALERTS: Listed = Listed {
+pub(crate) const ALERTS: ItemList = ItemList {
     section: Section::Alert,
     key: "alert",
     item: Item::Alert,
-    most: 1024,
+    most: limits::ALERTS,
 };
 
-pub(crate) const MEMOS: Listed = Listed {
+pub(crate) const MEMOS: ItemList = ItemList {
     section: Section::Memo,
     key: "memo",
     item: Item::Memo,
-    most: 128,
+    most: limits::MEMOS,
 };

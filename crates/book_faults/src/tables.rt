@@ -3,7 +3,7 @@ ghost use Rattle.std.specs.Prelude.{◌≡◌, ◌&&◌, map, is_none, IfOk};
 ghost use Rattle.std.specs.List.{list_any};
 ghost use Rattle.toml.specs.Data.{get_member};
 ghost use Rattle.toml.specs.View.{view, table_view};
-ghost use Rattle.ecam_spec.specs.BookText.{same_text};
+ghost use Rattle.ecam_spec.specs.Bytes.{same_text};
 ghost use Rattle.book_spec.specs.Fields.{has_only};
 ghost use Rattle.book_spec.specs.Schema as schema;
 ghost use Rattle.book_spec.specs.Rules.{leaf_breaks};

@@ -1,6 +1,7 @@
 -- What a book keeps beside its draft is what its book of plain data says.
-use Rattle.std.proofs.Common.{◌≡◌, ℕ, zero, suc, ◌≤◌, Bool, cond, List, [], ◌∷◌, map, length, get_or, filter, All, None, refl, ap, ◌∙◌, sym, arith, length-append}
+use Rattle.std.proofs.Common.{◌≡◌, ℕ, zero, suc, ◌≤◌, List, [], ◌∷◌, map, length, get_or, filter, All, None, refl, ap, ◌∙◌, sym, arith, length-append}
 use Rattle.std.proofs.lemmas.List.{length-map, get_or-map}
+use Rattle.std.proofs.lemmas.List.Elements.{filter_agree}
 use Rattle.ecam_spec.specs.declared.kinds.Level.{Level}
 use Rattle.ecam_spec.specs.declared.kinds.Level.TheVariants.{One, Two, Three}
 use Rattle.ecam_spec.specs.Places.{below}
@@ -10,7 +11,7 @@ use Rattle.ecam_spec.specs.Screen.{order}
 use Rattle.ecam_spec.specs.Situation.{no_alert}
 use Rattle.ecam_spec.specs.TermSize.{trees, placed}
 use Rattle.ecam_spec.specs.Draft.{book_of, resolved, alert_names}
-use Rattle.ecam_spec.specs.Sound.{IsSound}
+use Rattle.ecam_spec.specs.KeepsLimits.{IsSound}
 use Rattle.ecam_spec.specs.DraftFaults.{draft_fault}
 use Rattle.book_model.specs.View.{alert_of, name_of, draft_of, line_of}
 use Rattle.book_model.specs.Parts.{order_by, level_places, has_level, is_level, secondaries_by, line_counts, total}
@@ -29,10 +30,6 @@ levels-resolved : (names : List Text) (xs : List Alert) → map (λ (a : AlertPl
 levels-resolved names [] = refl
 levels-resolved names (x ∷ xs) = ap (λ ls. x.level ∷ ls) (levels-resolved names xs)
 
-filter-same : (p q : ℕ → Bool) → ((i : ℕ) → p i ≡ q i) → (xs : List ℕ) → filter p xs ≡ filter q xs
-filter-same p q same [] = refl
-filter-same p q same (x ∷ xs) = ap (λ ys. cond (p x) (x ∷ ys) ys) (filter-same p q same xs) ∙ ap (λ b. cond b (x ∷ filter q xs) (filter q xs)) (same x)
-
 level-same : (names : List Text) (xs : List Alert) (wanted : Level) (i : ℕ)
     → has_level xs wanted i ≡ is_level wanted (get_or (map (resolved names) (map alert_of xs)) i no_alert).level
 level-same names xs wanted i =
@@ -42,7 +39,7 @@ places-same : (names : List Text) (xs : List Alert) (wanted : Level)
     → level_places xs wanted ≡ filter (λ i. is_level wanted (get_or (map (resolved names) (map alert_of xs)) i no_alert).level) (below (length (map (resolved names) (map alert_of xs))))
 places-same names xs wanted =
     let long : length (map (resolved names) (map alert_of xs)) ≡ length xs = length-map (map alert_of xs) (resolved names) ∙ length-map xs alert_of in
-    rw long (filter-same _ _ (level-same names xs wanted) (below (length xs)))
+    rw long (filter_agree _ _ (level-same names xs wanted) (below (length xs)))
 
 secondaries-view : (names : List Text) (xs : List Alert) → map (secondaries_by names) xs ≡ map (λ (a : AlertPlain). a.secondary) (map (resolved names) (map alert_of xs))
 secondaries-view names [] = refl

@@ -6,7 +6,7 @@ use Rattle.ecam_spec.specs.Book.{Text, Tree, Trees, constant, discrete, valid, c
 use Rattle.ecam_spec.specs.BookTerms.{slots_in, phase_terms, line_terms, lines_of, terms_of}
 use Rattle.ecam_spec.specs.TermSize.{slots, slots_of, nodes, nodes_of}
 use Rattle.ecam_spec.specs.Draft.{DraftAlert, Draft as PlainDraft, book_of, resolved, alert_names}
-use Rattle.ecam_spec.specs.Sound.{IsSoundTerm, IsSoundPhase, IsSoundLine, IsSoundMemo, IsSoundAlert, IsSound}
+use Rattle.ecam_spec.specs.KeepsLimits.{IsSoundTerm, IsSoundPhase, IsSoundLine, IsSoundMemo, IsSoundAlert, IsSound}
 use Rattle.book_model.specs.View.{line_of, alert_of, memo_of, draft_of}
 use Rattle.book_model.specs.Slots.{line_trees, lines_trees, when_tree, memo_tree, draft_trees}
 use Rattle.book_model.specs.declared.draft.Line.{Line}

@@ -1,6 +1,9 @@
 pub mod View
 pub mod Sealed
+pub mod Sizes
+pub mod Conditions
+pub mod Told
 pub mod Parts
 pub mod Slots
 pub mod Inside
-pub mod AlertPlaces
+pub mod NamePlaces

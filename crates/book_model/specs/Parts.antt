@@ -6,7 +6,7 @@ use Rattle.ecam_spec.specs.declared.kinds.Level.TheVariants.{One, Two, Three}
 use Rattle.ecam_spec.specs.Places.{below}
 use Rattle.ecam_spec.specs.Levels.{is_one, is_two, is_three}
 use Rattle.ecam_spec.specs.Book.{Text}
-use Rattle.ecam_spec.specs.Draft.{place_of}
+use Rattle.ecam_spec.specs.Bytes.{place_of}
 use Rattle.book_model.specs.View.{bytes_of}
 use Rattle.book_model.specs.declared.draft.Alert.{Alert}
 

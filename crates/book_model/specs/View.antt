@@ -7,7 +7,7 @@ use Rattle.ecam_spec.specs.Draft as plain
 use Rattle.ecam_spec.specs.TermSize.{Placed}
 use Rattle.term_tree.specs.View.{tree_of}
 use Rattle.book_model.specs.declared.draft.Term.{Term}
-use Rattle.book_model.specs.declared.draft.From.{From}
+use Rattle.book_model.specs.declared.draft.WordSource.{WordSource}
 use Rattle.book_model.specs.declared.draft.Param.{Param}
 use Rattle.book_model.specs.declared.draft.PhaseTerms.{PhaseTerms}
 use Rattle.book_model.specs.declared.draft.Line.{Line}
@@ -27,7 +27,7 @@ name_of a = a.name.bytes
 abbrev pub tree_in : Term → book.Tree
 tree_in t = tree_of t.cond
 
-abbrev pub source_of : From → book.Source
+abbrev pub source_of : WordSource → book.Source
 source_of s = record { bus = s.bus; label = s.label; sdi = s.sdi; bit = s.bit; low = s.low; range = s.range }
 
 abbrev pub parameter_of : Param → book.Parameter

@@ -38,8 +38,8 @@ impl Model for Book {
 }
 
 impl Book {
-    ghost use Rattle.std.specs.Prelude.{◌≡◌, ◌<◌, length, map, take, slice_get, Some, None, IfOk};
-    ghost use Rattle.ecam_spec.specs.Sound.{IsSound};
+    ghost use Rattle.std.specs.Prelude.{◌≡◌, ◌<◌, length, map, take, slice_get, Some, None, All, IfOk};
+    ghost use Rattle.ecam_spec.specs.KeepsLimits.{IsSound};
     ghost use Rattle.ecam_spec.specs.DraftFaults.{draft_fault};
     ghost use Rattle.book_model.specs.View.{draft_of};
     ghost use Rattle.book_model.specs.Sealed.{IsSealed, the_book};
@@ -65,6 +65,13 @@ impl Book {
             line_count,
             slots,
         })
+    }
+
+    /// Each book is sealed. This does nothing, and serves a function that reads no part of the book.
+    pub fn sealed(&self)
+        ensures { IsSealed self.now }
+    {
+        let _ = &self.draft;
     }
 
     /// The systems, in the book's order.
@@ -119,6 +126,8 @@ impl Book {
     /// level as in the book.
     pub fn order(&self) -> &[u32]
         ensures value { result.now ≡ order (the_book self.now) }
+        ensures within { All (λ a. a < length self.now.alerts.items) result.now }
+        ensures count { length result.now ≡ length self.now.alerts.items }
         ensures sealed { IsSealed self.now }
     {
         self.order.as_slice()
@@ -128,6 +137,7 @@ impl Book {
     pub fn secondaries(&self, alert: usize) -> &[u32]
         requires { alert < length self.now.alerts.items }
         ensures value { slice_get (map (λ a. a.secondary) (the_book self.now).alerts) alert ≡ Some result.now }
+        ensures within { All (λ a. a < length self.now.alerts.items) result.now }
         ensures sealed { IsSealed self.now }
     {
         self.secondaries[alert].as_slice()

@@ -2,13 +2,14 @@
 use arrayvec::ArrayString;
 use ecam_kinds::{Colour, Level, PhaseSet, Sound};
 use ecam_spec::Kind;
+use ecam_spec::limits::{NAME, TEXT};
 use term_tree::Cond;
 
 /// A name: 1 to 24 bytes, small letters, digits and `_`, with a letter first.
-pub type Name = ArrayString<24>;
+pub type Name = ArrayString<NAME>;
 
 /// A text of a display: 1 to 36 bytes of printable ASCII, with no blank at either end.
-pub type Text = ArrayString<36>;
+pub type Text = ArrayString<TEXT>;
 
 /// A condition, and the first of its slots among those of the whole book. In a draft that was read it is 0.
 #[derive(Debug, PartialEq, Eq, Drop)]
@@ -55,14 +56,14 @@ pub struct Param {
     pub name: Name,
     pub kind: Kind,
     pub stale: u32,
-    pub sources: Vec<From>,
+    pub sources: Vec<WordSource>,
 }
 
 /// A source of a parameter's words: the bus (0 to 15), the label, and the SDI if it names one. A discrete is
 /// read from bit 11 to 29, a number in two's complement from the bits `low` to 29 with this range. What the
 /// parameter's kind doesn't use is 11, 11 and 1.
 #[derive(Clone, Copy, Debug, PartialEq, Eq)]
-pub struct From {
+pub struct WordSource {
     pub bus: u8,
     pub label: u8,
     pub sdi: Option<u8>,

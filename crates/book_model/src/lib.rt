@@ -12,9 +12,13 @@ mod slots;
 
 pub use book::Book;
 pub use draft::{
-    Alert, Draft, From, Line, Memo, Name, Page, PageRow, Param, PhaseTerms, StatusLine, Term, Text,
+    Alert, Draft, Line, Memo, Name, Page, PageRow, Param, PhaseTerms, StatusLine, Term, Text,
+    WordSource,
 };
 pub use ecam_spec::{BookFault, Kind, Section};
 pub use error::LoadError;
-pub use laws::conditions_have_slots_of_their_own;
-pub use names::{AlertPlaces, alert_places, place_of};
+pub use laws::{
+    conditions_have_slots_of_their_own, conditions_name_what_is_known,
+    each_condition_has_its_number, one_world_serves_a_book,
+};
+pub use names::{NamePlaces, alert_places, note_place, place_in, place_of};

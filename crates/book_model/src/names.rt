@@ -1,28 +1,33 @@
-// Alerts by name: a map from the names of a book's alerts to their places.
+// Names and their places: a map from the names of a book's items to their places, and that of its alerts.
 ghost use Rattle.std.specs.Prelude.{◌≡◌, ◌<◌, ◌^◌, length, map, IfOk, OnOk};
 ghost use Rattle.book_model.specs.View.{name_of};
-ghost use Rattle.book_model.specs.AlertPlaces.{FindsPlaces, NotesPlace, place_by};
+ghost use Rattle.book_model.specs.NamePlaces.{FindsPlaces, NotesPlace, number_by};
 
 use crate::draft::Alert;
 use std::alloc::{AllocError, Global};
 use std::collections::BTreeMap;
 
-/// Places of alerts by name.
-pub type AlertPlaces<'a> = BTreeMap<&'a str, u32>;
+/// Places of names, from 0.
+pub type NamePlaces<'a> = BTreeMap<&'a [u8], u32>;
 
 /// The places of these alerts by name, from 0. Of two equal names the first counts.
-pub fn alert_places<'a>(alloc: Global, alerts: &'a [Alert]) -> Result<AlertPlaces<'a>, AllocError>
+pub fn alert_places<'a>(alloc: Global, alerts: &'a [Alert]) -> Result<NamePlaces<'a>, AllocError>
     requires { length alerts.now < 2 ^ 32 }
     ensures { IfOk result (FindsPlaces (map name_of alerts.now)) }
 {
     let mut places = BTreeMap::new(alloc);
     for (i, alert) in alerts.iter().enumerate() {
-        note_place(&mut places, alert.name.as_str(), i as u32)?;
+        note_place(&mut places, alert.name.as_str().as_bytes(), i as u32)?;
     }
     Ok(places)
 }
 
-fn note_place<'a>(places: &mut AlertPlaces<'a>, name: &'a str, place: u32) -> Result<(), AllocError>
+/// Notes the place of a name, unless one is noted. It costs log n where n names are noted. An error is want of memory.
+pub fn note_place<'a>(
+    places: &mut NamePlaces<'a>,
+    name: &'a [u8],
+    place: u32,
+) -> Result<(), AllocError>
     ensures { OnOk result (NotesPlace places.old places.new name.now place) }
 {
     if !places.contains_key(name) {
@@ -31,9 +36,16 @@ fn note_place<'a>(places: &mut AlertPlaces<'a>, name: &'a str, place: u32) -> Re
     Ok(())
 }
 
-/// The place of the first alert of this name, if there is one.
-pub fn place_of(places: &AlertPlaces<'_>, name: &str) -> Option<u32>
-    ensures { result ≡ place_by places.now name.now }
+/// The place that is noted of a name, if one is.
+pub fn place_in(places: &NamePlaces<'_>, name: &[u8]) -> Option<u32>
+    ensures { result ≡ number_by places.now name.now }
 {
     places.get(name).copied()
+}
+
+/// The same of a name as a text.
+pub fn place_of(places: &NamePlaces<'_>, name: &str) -> Option<u32>
+    ensures { result ≡ number_by places.now name.now }
+{
+    place_in(places, name.as_bytes())
 }

@@ -3,11 +3,11 @@
 ghost use Rattle.std.specs.Prelude.{◌≡◌, ◌<◌, ◌≤◌, ◌+◌, ◌^◌, ◌++◌, map, length, All, OnOk, IfOk};
 ghost use Rattle.std.specs.List.{filter_map};
 ghost use Rattle.book_model.specs.View.{name_of, bytes_of};
-ghost use Rattle.book_model.specs.AlertPlaces.{place_by};
+ghost use Rattle.book_model.specs.NamePlaces.{number_by};
 ghost use Rattle.book_model.specs.Parts.{starts, total, line_counts, order_by, level_places, secondaries_by, is_level};
 
 use crate::draft::{Alert, Name};
-use crate::names::{AlertPlaces, alert_places, place_of};
+use crate::names::{NamePlaces, alert_places, place_of};
 use ecam_kinds::Level;
 use std::alloc::{AllocError, Global};
 
@@ -61,12 +61,8 @@ pub fn secondaries_of(alloc: Global, alerts: &[Alert]) -> Result<Vec<Vec<u32>>, 
 }
 
 // The places of those of these names that alerts have.
-fn places_of(
-    alloc: Global,
-    places: &AlertPlaces<'_>,
-    names: &[Name],
-) -> Result<Vec<u32>, AllocError>
-    ensures { IfOk result (λ v. v.items ≡ filter_map (place_by places.now) (map bytes_of names.now)) }
+fn places_of(alloc: Global, places: &NamePlaces<'_>, names: &[Name]) -> Result<Vec<u32>, AllocError>
+    ensures { IfOk result (λ v. v.items ≡ filter_map (number_by places.now) (map bytes_of names.now)) }
 {
     let mut found = Vec::new(alloc);
     for name in names {

@@ -7,8 +7,8 @@ use Rattle.std.specs.List.{fold, filter_map}
 use Rattle.toml.specs.Data.{Data}
 use Rattle.toml.specs.View.{view}
 use Rattle.toml.specs.declared.value.Value.{Value}
-use Rattle.ecam_spec.specs.TermText.{one_phase}
-use Rattle.book_spec.specs.DraftOf.{phase_from}
+use Rattle.ecam_spec.specs.TermNumber.{one_phase}
+use Rattle.book_spec.specs.Defaults.{phase_from}
 use Rattle.book_reader.specs.Drafting.{set_of}
 
 one_some : (ds : List Data) (d : Data) (p : ℕ) → phase_from d ≡ Some p → set_of (ds ++ d ∷ []) ≡ bit_or (set_of ds) (one_phase p)

@@ -1,25 +1,17 @@
 -- Parts of the draft's definitions, as the reader's functions answer them.
 use Rattle.std.specs.Prelude.{ℕ, List, fold, bit_or, codes, unwrap_or, Option}
 use Rattle.std.specs.List.{filter_map}
-use Rattle.toml.specs.Data.{Data, Members, no_members, as_str, as_table, get_member}
+use Rattle.toml.specs.Data.{Data, Members, no_members, as_table, get_member}
 use Rattle.ecam_spec.specs.Book.{Text}
-use Rattle.ecam_spec.specs.BookText.{is_term_text}
-use Rattle.ecam_spec.specs.TermText.{one_phase}
-use Rattle.ecam_spec.specs.Draft.{place_of}
-use Rattle.book_spec.specs.Fields.{◌>>=◌, passing, string_at}
+use Rattle.ecam_spec.specs.TermNumber.{one_phase}
+use Rattle.ecam_spec.specs.Bytes.{place_of}
+use Rattle.book_spec.specs.Fields.{◌>>=◌, string_at}
 use Rattle.book_spec.specs.Rules.{Names}
-use Rattle.book_spec.specs.DraftOf.{phase_from}
+use Rattle.book_spec.specs.Defaults.{phase_from}
 
 -- the set of the phases among some values
 abbrev pub set_of : List Data → ℕ
 set_of values = fold (λ set p. bit_or set (one_phase p)) 0 (filter_map phase_from values)
-
--- the text that a value is, if it has the form of a condition's
-abbrev pub condition_text : Data → Option Text
-condition_text value = as_str value >>= passing is_term_text
-
-abbrev pub condition_text_at : Text → Members → Option Text
-condition_text_at key table = get_member key table >>= condition_text
 
 -- the places that the names at keys have
 abbrev pub parameter_at : Names → Text → Members → Option ℕ

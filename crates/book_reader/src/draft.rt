@@ -19,13 +19,14 @@ use book_model::{Draft, Memo, PhaseTerms, Text};
 use book_tables::Catalogue;
 use book_tables::fields::{find, list_in, text_in};
 use ecam_kinds::Colour;
+use ecam_spec::limits;
 use std::alloc::{AllocError, Global};
 use toml::{Table, Value};
 
 /// The most bytes of a system's text, and of a memo's.
-const SYSTEM_TEXT: usize = 16;
+const SYSTEM_TEXT: usize = limits::SYSTEM_TEXT;
 
-const MEMO_TEXT: usize = 36;
+const MEMO_TEXT: usize = limits::TEXT;
 
 fn system_in(value: &Value) -> Text
     ensures { result.bytes ≡ spec.system_in (view value.now) }

@@ -2,6 +2,7 @@
 ghost use Rattle.std.specs.Prelude.{◌≡◌, map, codes, unwrap_or, IfOk, All};
 ghost use Rattle.toml.specs.View.{view, table_view};
 ghost use Rattle.book_model.specs.View.{bytes_of, line_of, status_of, alert_of};
+ghost use Rattle.book_spec.specs.Defaults as defaults;
 ghost use Rattle.book_spec.specs.DraftOf as spec;
 ghost use Rattle.book_tables.specs.Reading.{views};
 ghost use Rattle.book_tables.specs.Catalogue.{names_in};
@@ -17,13 +18,14 @@ use book_model::{Alert, Line, Name, StatusLine};
 use book_tables::Catalogue;
 use book_tables::fields::{list_in, string_at};
 use ecam_kinds::{Colour, Level, Sound};
+use ecam_spec::limits;
 use std::alloc::{AllocError, Global};
 use toml::{Table, Value};
 
 /// The most bytes of a line, and of a title.
-const LINE: usize = 36;
+const LINE: usize = limits::TEXT;
 
-const TITLE: usize = 36;
+const TITLE: usize = limits::TEXT;
 
 #[tactic(auto, unfolding(book_spec::specs::DraftOf::line_in))]
 fn line_in(alloc: Global, names: &Catalogue<'_>, value: &Value) -> Result<Line, AllocError>
@@ -75,7 +77,7 @@ fn statuses_in(alloc: Global, items: &[Value]) -> Result<Vec<StatusLine>, AllocE
 
 // A secondary's name. One of more than 24 bytes is no alert's.
 fn short_name(value: &Value) -> Name
-    ensures { result.bytes ≡ spec.short_name (view value.now) }
+    ensures { result.bytes ≡ defaults.short_name (view value.now) }
 {
     match value.as_str() {
         Some(text) => Name::from(text).unwrap_or(Name::new()),
@@ -84,7 +86,7 @@ fn short_name(value: &Value) -> Name
 }
 
 fn secondaries_in(alloc: Global, items: &[Value]) -> Result<Vec<Name>, AllocError>
-    ensures { IfOk result (λ v. map bytes_of v.items ≡ map spec.short_name (views items.now)) }
+    ensures { IfOk result (λ v. map bytes_of v.items ≡ map defaults.short_name (views items.now)) }
 {
     let mut names = Vec::new(alloc);
     for item in items {
@@ -94,7 +96,7 @@ fn secondaries_in(alloc: Global, items: &[Value]) -> Result<Vec<Name>, AllocErro
 }
 
 fn level_at(table: &Table) -> Level
-    ensures { result ≡ spec.level_of (spec.number_or_least 1 3 (codes "level") (table_view table.now)) }
+    ensures { result ≡ defaults.level_of (defaults.number_or_least 1 3 (codes "level") (table_view table.now)) }
 {
     let level = number_or_least(table, 1, 3, "level");
     if level <= 1 {
@@ -108,7 +110,7 @@ fn level_at(table: &Table) -> Level
 
 // The sound of an alert that names none.
 fn usual_sound(level: Level) -> Sound
-    ensures { result ≡ spec.sound_of level }
+    ensures { result ≡ defaults.sound_of level }
 {
     match level {
         Level::One => Sound::Quiet,

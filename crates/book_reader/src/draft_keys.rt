@@ -2,11 +2,11 @@
 ghost use Rattle.std.specs.Prelude.{◌≡◌, ◌≤◌, codes, bit_or, option_map, unwrap_or, true, IfSome};
 ghost use Rattle.toml.specs.Data.{no_members};
 ghost use Rattle.toml.specs.View.{view, table_view};
-ghost use Rattle.ecam_spec.specs.TermText.{one_phase};
+ghost use Rattle.ecam_spec.specs.TermNumber.{one_phase};
 ghost use Rattle.book_spec.specs.Fields.{label_at};
 ghost use Rattle.book_spec.specs.Schema.{colour_words, sound_words, section_words, zone_words, kind_at};
 ghost use Rattle.ecam_spec.specs.declared.kinds.Kind.TheVariants.{Disc};
-ghost use Rattle.book_spec.specs.DraftOf as spec;
+ghost use Rattle.book_spec.specs.Defaults as defaults;
 ghost use Rattle.book_tables.specs.Reading.{views};
 ghost use Rattle.book_reader.specs.Drafting.{set_of};
 
@@ -21,7 +21,7 @@ use toml::{Table, Value};
 /// The table that a value is, or an empty one.
 pub(crate) fn table_or<'a>(value: &'a Value, empty: &'a Table) -> &'a Table
     requires { table_view empty.now ≡ no_members }
-    ensures { table_view result.now ≡ spec.table_in (view value.now) }
+    ensures { table_view result.now ≡ defaults.table_in (view value.now) }
 {
     match value.as_table() {
         Some(table) => table,
@@ -31,7 +31,7 @@ pub(crate) fn table_or<'a>(value: &'a Value, empty: &'a Table) -> &'a Table
 
 /// The name at the key `name`, or the empty one.
 pub(crate) fn name_or_none(table: &Table) -> Name
-    ensures { result.bytes ≡ spec.name_or_none (table_view table.now) }
+    ensures { result.bytes ≡ defaults.name_or_none (table_view table.now) }
 {
     match name_at(table, "name") {
         Some(name) => name,
@@ -42,7 +42,7 @@ pub(crate) fn name_or_none(table: &Table) -> Name
 /// The text of at most `most` bytes at a key, or the empty one.
 pub(crate) fn text_or_none(table: &Table, most: usize, key: &str) -> Text
     requires { most ≤ 36 }
-    ensures { result.bytes ≡ spec.text_or_none most key.now (table_view table.now) }
+    ensures { result.bytes ≡ defaults.text_or_none most key.now (table_view table.now) }
 {
     match text_at(table, most, key) {
         Some(text) => text,
@@ -53,7 +53,7 @@ pub(crate) fn text_or_none(table: &Table, most: usize, key: &str) -> Text
 /// The whole number from `low` to `high` at a key, or `low`.
 pub(crate) fn number_or_least(table: &Table, low: u32, high: u32, key: &str) -> u32
     requires { low ≤ high }
-    ensures value { result ≡ spec.number_or_least low high key.now (table_view table.now) }
+    ensures value { result ≡ defaults.number_or_least low high key.now (table_view table.now) }
     ensures within { result ≤ high }
 {
     match number_at(table, low, high, key) {
@@ -82,7 +82,7 @@ pub(crate) fn kind_or_discrete(table: &Table) -> Kind
 
 /// The colour at the key `colour`, or this one.
 pub(crate) fn colour_or(table: &Table, default: Colour) -> Colour
-    ensures { result ≡ spec.word_or default colour_words (codes "colour") (table_view table.now) }
+    ensures { result ≡ defaults.word_or default colour_words (codes "colour") (table_view table.now) }
 {
     match string_at(table, "colour") {
         Some(word) => colour_of(word).unwrap_or(default),
@@ -92,7 +92,7 @@ pub(crate) fn colour_or(table: &Table, default: Colour) -> Colour
 
 /// The sound at the key `sound`, or this one.
 pub(crate) fn sound_or(table: &Table, default: Sound) -> Sound
-    ensures { result ≡ spec.word_or default sound_words (codes "sound") (table_view table.now) }
+    ensures { result ≡ defaults.word_or default sound_words (codes "sound") (table_view table.now) }
 {
     match string_at(table, "sound") {
         Some(word) => sound_of(word).unwrap_or(default),
@@ -102,7 +102,7 @@ pub(crate) fn sound_or(table: &Table, default: Sound) -> Sound
 
 /// The section of the status page at the key `section`, or the first.
 pub(crate) fn section_or_first(table: &Table) -> u8
-    ensures { result ≡ spec.word_or 0 section_words (codes "section") (table_view table.now) }
+    ensures { result ≡ defaults.word_or 0 section_words (codes "section") (table_view table.now) }
 {
     match string_at(table, "section") {
         Some(word) => section_of(word).unwrap_or(0),
@@ -112,7 +112,7 @@ pub(crate) fn section_or_first(table: &Table) -> u8
 
 /// Whether the zone at the key `zone` is the left one, as it is where there is none.
 pub(crate) fn is_left(table: &Table) -> bool
-    ensures { result ≡ spec.word_or true zone_words (codes "zone") (table_view table.now) }
+    ensures { result ≡ defaults.word_or true zone_words (codes "zone") (table_view table.now) }
 {
     match string_at(table, "zone") {
         Some(word) => zone_of(word).unwrap_or(true),
@@ -122,7 +122,7 @@ pub(crate) fn is_left(table: &Table) -> bool
 
 // The flight phase that a value is, 1 to 10.
 fn phase_from(value: &Value) -> Option<Phase>
-    ensures value { option_map (λ p. p.number) result ≡ spec.phase_from (view value.now) }
+    ensures value { option_map (λ p. p.number) result ≡ defaults.phase_from (view value.now) }
     ensures first { IfSome result (λ p. 1 ≤ p.number) }
     ensures last { IfSome result (λ p. p.number ≤ 10) }
 {
@@ -155,9 +155,9 @@ fn set_of(values: &[Value]) -> PhaseSet
 }
 
 /// The set of the flight phases in the list at a key. What is no phase doesn't count.
-#[tactic(auto, unfolding(book_spec::specs::DraftOf::phases_at))]
+#[tactic(auto, unfolding(book_spec::specs::Defaults::phases_at))]
 pub(crate) fn phases_at(table: &Table, key: &str) -> PhaseSet
-    ensures { result.0 ≡ spec.phases_at key.now (table_view table.now) }
+    ensures { result.0 ≡ defaults.phases_at key.now (table_view table.now) }
 {
     set_of(list_in(table, key))
 }

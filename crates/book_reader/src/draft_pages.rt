@@ -1,7 +1,7 @@
 // The pages of a book, and their rows.
 ghost use Rattle.std.specs.Prelude.{◌≡◌, ◌≤◌, map, codes, option_map, IfOk};
 ghost use Rattle.toml.specs.View.{view, table_view};
-ghost use Rattle.ecam_spec.specs.Sound.{row_text_limit};
+ghost use Rattle.ecam_spec.specs.KeepsLimits.{row_text_limit};
 ghost use Rattle.book_model.specs.View.{bytes_of, row_of, page_of};
 ghost use Rattle.book_spec.specs.Fields.{text_at};
 ghost use Rattle.book_spec.specs.DraftOf as spec;
@@ -14,18 +14,19 @@ use book_model::{Page, PageRow};
 use book_tables::Catalogue;
 use book_tables::fields::{list_in, string_at, text_at};
 use ecam_kinds::Colour;
+use ecam_spec::limits;
 use std::alloc::{AllocError, Global};
 use toml::{Table, Value};
 
 /// The most bytes of a row's text, and of that of a row that shows a value.
-const ROW_TEXT: usize = 36;
+const ROW_TEXT: usize = limits::TEXT;
 
-const VALUE_TEXT: usize = 24;
+const VALUE_TEXT: usize = limits::VALUE_ROW_TEXT;
 
 /// The most bytes of a unit, and of a title.
-const UNIT: usize = 6;
+const UNIT: usize = limits::UNIT;
 
-const TITLE: usize = 36;
+const TITLE: usize = limits::TEXT;
 
 // The place of the parameter that a row shows.
 fn shown(names: &Catalogue<'_>, table: &Table) -> Option<u32>

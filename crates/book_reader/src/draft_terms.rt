@@ -1,23 +1,26 @@
 // The conditions of a book's tables.
 ghost use Rattle.std.specs.Prelude.{◌≡◌, ◌≤◌, Some, length, option_copied, IfSome, IfOk};
-ghost use Rattle.toml.specs.View.{view, table_view};
+ghost use Rattle.std.specs.Option.{option_and_then};
+ghost use Rattle.toml.specs.Data.{get_member};
+ghost use Rattle.toml.specs.View.{table_view};
 ghost use Rattle.ecam_spec.specs.Book.{constant};
-ghost use Rattle.ecam_spec.specs.TermReading.{verdict};
+ghost use Rattle.book_spec.specs.Verdict.{verdict};
 ghost use Rattle.term_tree.specs.View.{tree_of};
 ghost use Rattle.book_model.specs.View.{tree_in};
-ghost use Rattle.book_spec.specs.DraftOf as spec;
+ghost use Rattle.book_spec.specs.Fields.{term_text_in};
+ghost use Rattle.book_spec.specs.Defaults as defaults;
 ghost use Rattle.book_tables.specs.Catalogue.{names_in, term_names_in};
-ghost use Rattle.book_reader.specs.Drafting.{condition_text, condition_text_at};
 ghost use Rattle.book_reader.specs.Unplaced.{IsUnplacedTerm};
 
 use book_model::Term;
 use book_tables::Catalogue;
-use book_tables::fields::find;
-use book_tables::texts::is_term_text;
+use book_tables::conditions::read_condition;
+use book_tables::fields::{find, term_text_in};
+use ecam_spec::limits::TERM_TEXT;
 use std::alloc::{AllocError, Global};
-use term_text::{TermError, read_term_by};
+use term_text::TermError;
 use term_tree::Cond;
-use toml::{Table, Value};
+use toml::Table;
 
 fn constant(holds: bool) -> Term
     ensures value { tree_in result ≡ constant holds }
@@ -29,20 +32,11 @@ fn constant(holds: bool) -> Term
     }
 }
 
-// The text that a value is, if it has the form of a condition's.
-fn condition_text(value: &Value) -> Option<&str>
-    ensures value { option_copied result ≡ condition_text (view value.now) }
-    ensures short { IfSome result (λ t. length t.now ≤ 2048) }
+fn term_text_at<'a>(table: &'a Table, key: &str) -> Option<&'a str>
+    ensures value { option_copied result ≡ option_and_then term_text_in (get_member key.now (table_view table.now)) }
+    ensures short { IfSome result (λ t. length t.now ≤ TERM_TEXT) }
 {
-    let text = value.as_str()?;
-    if is_term_text(text) { Some(text) } else { None }
-}
-
-fn condition_text_at<'a>(table: &'a Table, key: &str) -> Option<&'a str>
-    ensures value { option_copied result ≡ condition_text_at key.now (table_view table.now) }
-    ensures short { IfSome result (λ t. length t.now ≤ 2048) }
-{
-    condition_text(find(table, key)?)
+    term_text_in(find(table, key)?)
 }
 
 // The condition that a text means, or the constant.
@@ -52,11 +46,11 @@ fn meaning_or(
     text: &str,
     default: bool,
 ) -> Result<Term, AllocError>
-    requires { length text.now ≤ 2048 }
-    ensures value { IfOk result (λ t. tree_in t ≡ spec.tree_or (constant default) (Some (verdict (term_names_in names.now) text.now))) }
+    requires { length text.now ≤ TERM_TEXT }
+    ensures value { IfOk result (λ t. tree_in t ≡ defaults.tree_or (constant default) (Some (verdict (term_names_in names.now) text.now))) }
     ensures unplaced { IfOk result IsUnplacedTerm }
 {
-    match read_term_by(alloc, text, names) {
+    match read_condition(alloc, text, names) {
         Ok(cond) => Ok(Term { cond, at: 0 }),
         Err(TermError::Memory) => Err(AllocError),
         Err(_) => Ok(constant(default)),
@@ -64,7 +58,7 @@ fn meaning_or(
 }
 
 /// The condition at a key, or this constant where there is none or its text is refused.
-#[tactic(auto, unfolding(book_spec::specs::DraftOf::term_or, book_spec::specs::Rules::outcome_in))]
+#[tactic(auto, unfolding(book_spec::specs::Defaults::term_or, book_spec::specs::Rules::outcome_in))]
 pub(crate) fn term_or(
     alloc: Global,
     names: &Catalogue<'_>,
@@ -72,10 +66,10 @@ pub(crate) fn term_or(
     key: &str,
     default: bool,
 ) -> Result<Term, AllocError>
-    ensures value { IfOk result (λ t. tree_in t ≡ spec.term_or default (names_in names.now) key.now (table_view table.now)) }
+    ensures value { IfOk result (λ t. tree_in t ≡ defaults.term_or default (names_in names.now) key.now (table_view table.now)) }
     ensures unplaced { IfOk result IsUnplacedTerm }
 {
-    match condition_text_at(table, key) {
+    match term_text_at(table, key) {
         Some(text) => meaning_or(alloc, names, text, default),
         None => Ok(constant(default)),
     }

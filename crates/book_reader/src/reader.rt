@@ -2,7 +2,7 @@
 ghost use Rattle.std.specs.Prelude.{◌≡◌, ◌<◌, ◌^◌, true, length, Some, None, IfOk, Err};
 ghost use Rattle.toml.specs.View.{table_view};
 ghost use Rattle.ecam_spec.specs.declared.kinds.BookFault.{BookFault};
-ghost use Rattle.ecam_spec.specs.Sound.{IsSound};
+ghost use Rattle.ecam_spec.specs.KeepsLimits.{IsSound};
 ghost use Rattle.book_model.specs.View.{draft_of};
 ghost use Rattle.book_model.specs.declared.error.LoadError.TheVariants.{Fault};
 ghost use Rattle.book_spec.specs.BookBytes as spec;
@@ -16,11 +16,12 @@ use book_faults::table_fault;
 use book_model::{BookFault, Draft, LoadError, Section};
 use book_tables::Catalogue;
 use book_tables::fields::list_in;
+use ecam_spec::limits;
 use std::alloc::Global;
 use toml::Table;
 
 /// The most bytes of a book. A caller need read no more than one byte beyond them.
-pub const LONGEST: usize = 4_194_304;
+pub const LONGEST: usize = limits::BOOK_BYTES;
 
 fn top_fault(code: u8) -> LoadError
     ensures { result ≡ Fault (spec.top_fault code) }

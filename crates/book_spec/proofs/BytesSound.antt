@@ -1,14 +1,15 @@
 -- The draft that the bytes of a book are keeps its limits.
 use Rattle.std.proofs.Common.{◌≡◌, Bool, true, false, length, Option, Some, None, refl, subst}
 use Rattle.std.specs.Prelude.{nat_le, is_none, if◌then◌else◌}
+use Rattle.ecam_spec.specs.declared.limits.TheConstants.{BOOK_BYTES}
 use Rattle.toml.specs.Data.{Members}
 use Rattle.ecam_spec.specs.declared.kinds.BookFault.{BookFault}
 use Rattle.ecam_spec.specs.Book.{Text}
 use Rattle.ecam_spec.specs.Draft.{Draft}
-use Rattle.ecam_spec.specs.Sound.{IsSound}
+use Rattle.ecam_spec.specs.KeepsLimits.{IsSound}
 use Rattle.book_spec.specs.Document.{table_fault}
 use Rattle.book_spec.specs.DraftOf.{draft_of}
-use Rattle.book_spec.specs.BookBytes.{longest, table_of_text, draft_in, draft_of_bytes}
+use Rattle.book_spec.specs.BookBytes.{table_of_text, draft_in, draft_of_bytes}
 use Rattle.book_spec.proofs.DocumentSound.{document_sound}
 
 -- a draft is there only where the table shows no fault
@@ -26,4 +27,4 @@ short_draft false table d h = absurd (cc)
 
 pub draft_of_bytes_sound : (bytes : Text) (d : Draft) → draft_of_bytes bytes ≡ Some d → IsSound d
 unfolding draft_of_bytes
-draft_of_bytes_sound bytes d h = short_draft (nat_le (length bytes) longest) (table_of_text bytes) d h
+draft_of_bytes_sound bytes d h = short_draft (nat_le (length bytes) BOOK_BYTES) (table_of_text bytes) d h

@@ -8,7 +8,7 @@ use Rattle.toml.specs.Data.{Data, Members, no_members, get_member, as_table}
 use Rattle.ecam_spec.specs.Book.{Text, Page, Parameter, Memo}
 use Rattle.ecam_spec.specs.BookText.{is_text}
 use Rattle.ecam_spec.specs.Draft.{DraftAlert}
-use Rattle.ecam_spec.specs.Sound.{NoneRepeated, IsSoundPage, IsSoundParameter, IsSoundPhase, IsSoundAlert, IsSoundMemo, IsSound}
+use Rattle.ecam_spec.specs.KeepsLimits.{NoneRepeated, IsSoundPage, IsSoundParameter, IsSoundPhase, IsSoundAlert, IsSoundMemo, IsSound}
 use Rattle.book_spec.specs.Fields.{◌>>=◌}
 use Rattle.book_spec.specs.Document.{list_in, text_of, name_of, names_of, table_fault}
 use Rattle.book_spec.specs.DraftOf.{page_in, parameter_in, alert_in, memo_in, system_in, draft_of}

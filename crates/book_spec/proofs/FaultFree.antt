@@ -9,8 +9,9 @@ use Rattle.ecam_spec.specs.declared.kinds.Section.{Section}
 use Rattle.ecam_spec.specs.declared.kinds.Section.TheVariants as section
 use Rattle.ecam_spec.specs.declared.kinds.BookFault.{BookFault}
 use Rattle.ecam_spec.specs.Book.{Text}
-use Rattle.ecam_spec.specs.Faults.{first_of, first_from, first_item, fault_at, whole}
-use Rattle.ecam_spec.specs.Sound.{is_repeated, NoneRepeated}
+use Rattle.ecam_spec.specs.Faults.{first_from, first_item, fault_at, whole}
+use Rattle.ecam_spec.specs.Places.{first_of}
+use Rattle.ecam_spec.specs.KeepsLimits.{is_repeated, NoneRepeated}
 use Rattle.book_spec.specs.Fields.{◌>>=◌, has_only}
 use Rattle.book_spec.specs.Schema.{top_keys}
 use Rattle.book_spec.specs.Rules.{members_of, leaf_breaks}

@@ -5,8 +5,8 @@ use Rattle.std.proofs.lemmas.Bool.{cases_Bool, leb-true, and_parts}
 use Rattle.std.proofs.lemmas.Option.{option_and_then_some}
 use Rattle.toml.specs.Data.{Data, Members, get_member, as_str, as_integer}
 use Rattle.ecam_spec.specs.Book.{Text}
-use Rattle.ecam_spec.specs.BookText.{is_between, is_name, is_text, same_text}
-use Rattle.ecam_spec.specs.Draft.{place_of}
+use Rattle.ecam_spec.specs.BookText.{is_name, is_text}
+use Rattle.ecam_spec.specs.Bytes.{is_between, same_text, place_of}
 use Rattle.book_spec.specs.Fields.{◌>>=◌, passing, string_at, name_at, text_in, text_at, number_from, number_at, label_from, label_at, is_octal}
 
 pub passed : {A : Type 0} (test : A → Bool) (x y : A) → passing test x ≡ Some y → test y ≡ true

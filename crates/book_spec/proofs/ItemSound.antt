@@ -7,13 +7,14 @@ use Rattle.std.proofs.lemmas.List.Elements.{recursion_from_All, All-map, All-wea
 use Rattle.toml.specs.Data.{Data, Members, as_table}
 use Rattle.ecam_spec.specs.declared.kinds.Colour.TheVariants.{Green}
 use Rattle.ecam_spec.specs.Draft.{DraftAlert}
-use Rattle.ecam_spec.specs.Sound.{IsSoundRow, IsSoundSource, IsSoundLine, IsSoundStatus, IsSoundPage, IsSoundParameter, IsSoundPhase, IsSoundAlert, IsSoundMemo}
+use Rattle.ecam_spec.specs.KeepsLimits.{IsSoundRow, IsSoundSource, IsSoundLine, IsSoundStatus, IsSoundPage, IsSoundParameter, IsSoundPhase, IsSoundAlert, IsSoundMemo}
 use Rattle.book_spec.specs.Fields.{◌>>=◌, string_at}
 use Rattle.book_spec.specs.Schema.{Key, needs, kind_at, page_keys, param_keys, alert_keys, memo_keys, item_keys}
 use Rattle.book_spec.specs.Rules.{Names}
 use Rattle.book_spec.specs.TableRules.{table_breaks, shape_breaks, item_breaks}
 use Rattle.book_spec.specs.Document.{list_in, name_of}
-use Rattle.book_spec.specs.DraftOf.{table_in, name_or_none, short_name, row_in, source_in, line_in, status_in, page_in, parameter_in, phase_in, alert_in, memo_in}
+use Rattle.book_spec.specs.DraftOf.{row_in, source_in, line_in, status_in, page_in, parameter_in, phase_in, alert_in, memo_in}
+use Rattle.book_spec.specs.Defaults.{table_in, name_or_none, short_name}
 use Rattle.book_spec.specs.declared.schema.Leaf.TheVariants.{Name, System, Alerts}
 use Rattle.book_spec.specs.declared.schema.Leaf.TheVariants as leaves
 use Rattle.book_spec.specs.declared.schema.Inner.TheVariants as inner

@@ -5,14 +5,14 @@ use Rattle.std.specs.List.{list_any, position_from}
 use Rattle.std.proofs.lemmas.Bool.{or_parts, and_parts, and_from, le-leb, not-false}
 use Rattle.toml.specs.Data.{Data, string, Members, get_member, as_str, as_array}
 use Rattle.ecam_spec.specs.Book.{Text}
-use Rattle.ecam_spec.specs.BookText.{same_text, is_between, is_name, is_text}
-use Rattle.ecam_spec.specs.Draft.{place_of}
+use Rattle.ecam_spec.specs.BookText.{is_name, is_text}
+use Rattle.ecam_spec.specs.Bytes.{same_text, is_between, place_of}
 use Rattle.book_spec.specs.Fields.{◌>>=◌, passing, string_at, name_at, text_in, text_at}
 use Rattle.book_spec.specs.Schema.{Key, needs, may_have}
 use Rattle.book_spec.specs.Rules.{Names, members_of, string_fails, is_string, is_among, has_wrong_type, leaf_breaks}
 use Rattle.book_spec.specs.TableRules.{shape_breaks}
 use Rattle.book_spec.specs.Document.{list_in}
-use Rattle.book_spec.specs.DraftOf.{name_or_none, text_or_none}
+use Rattle.book_spec.specs.Defaults.{name_or_none, text_or_none}
 use Rattle.book_spec.specs.declared.schema.Leaf.{Leaf}
 use Rattle.book_spec.specs.declared.schema.Leaf.TheVariants.{Name, System, Alerts}
 use Rattle.book_spec.specs.declared.schema.Leaf.TheVariants as leaves

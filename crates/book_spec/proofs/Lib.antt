@@ -11,3 +11,4 @@ pub mod ItemSound
 pub mod FaultFree
 pub mod DocumentSound
 pub mod BytesSound
+pub mod Verdicts

@@ -6,13 +6,14 @@ use Rattle.std.proofs.lemmas.List.Elements.{recursion_from_All}
 use Rattle.toml.specs.Data.{Data, Members, get_member, as_str}
 use Rattle.ecam_spec.specs.declared.kinds.Colour.TheVariants.{White, Cyan}
 use Rattle.ecam_spec.specs.BookText.{is_text}
-use Rattle.ecam_spec.specs.Draft.{place_of}
-use Rattle.ecam_spec.specs.Sound.{row_text_limit, IsSoundRow, IsSoundSource, IsSoundLine, IsSoundStatus}
+use Rattle.ecam_spec.specs.Bytes.{place_of}
+use Rattle.ecam_spec.specs.KeepsLimits.{row_text_limit, IsSoundRow, IsSoundSource, IsSoundLine, IsSoundStatus}
 use Rattle.book_spec.specs.Fields.{◌>>=◌, string_at}
 use Rattle.book_spec.specs.Schema.{row_keys, line_keys, status_keys, inner_keys}
 use Rattle.book_spec.specs.Rules.{Names, leaf_breaks}
 use Rattle.book_spec.specs.TableRules.{table_breaks, inner_breaks}
-use Rattle.book_spec.specs.DraftOf.{table_in, text_or_none, row_in, source_in, line_in, status_in}
+use Rattle.book_spec.specs.DraftOf.{row_in, source_in, line_in, status_in}
+use Rattle.book_spec.specs.Defaults.{table_in, text_or_none}
 use Rattle.book_spec.specs.declared.schema.Inner.{Inner}
 use Rattle.book_spec.specs.declared.schema.Inner.TheVariants as inner
 use Rattle.book_spec.proofs.TermSound.{term_sound}

@@ -13,11 +13,11 @@ use Rattle.ecam_spec.specs.declared.terms.Token.{Token}
 use Rattle.ecam_spec.specs.declared.terms.Token.TheVariants.{KeyWord, Number, Sign, Open, Comma, Close, Stray}
 use Rattle.ecam_spec.specs.Book.{Text}
 use Rattle.ecam_spec.specs.Keys.{IsKey}
-use Rattle.ecam_spec.specs.Picture.{same_text}
+use Rattle.ecam_spec.specs.Bytes.{same_text, is_letter, is_digit, is_name_byte}
 use Rattle.ecam_spec.specs.Places.{below}
 use Rattle.ecam_spec.specs.RecordLine.{key_words, key_of}
-use Rattle.ecam_spec.specs.Token.{tokens, tokens_from, token_at, word_token, word_of_kind, sign_token, reserved_of, is_letter, is_digit, more_bytes, Placed, is_name_byte}
-use Rattle.ecam_spec.specs.TermText.{words_of}
+use Rattle.ecam_spec.specs.Token.{tokens, tokens_from, token_at, word_token, word_of_kind, sign_token, reserved_of, more_bytes, Placed}
+use Rattle.ecam_spec.specs.TermVerdict.{words_of}
 
 -- a token that names a key names one that is there
 abbrev pub NamesKey : Token → Type 0

@@ -10,10 +10,11 @@ use Rattle.std.proofs.Math.Pow.{pow_mono}
 use Rattle.ecam_spec.specs.declared.terms.Span.{Span}
 use Rattle.ecam_spec.specs.Book.{Text}
 use Rattle.ecam_spec.specs.Grammar.{Form, Forms, truth, name_of, compare_of, valid_of, phase_of, alert_of, press_of, fwc_of, not_of, rise_of, all_of, any_of, at_least_of, conf_of, hold_of, latch_of, no_more, and_then, how_many}
-use Rattle.ecam_spec.specs.Sound.{IsInRange, AreInRange, count_of}
+use Rattle.ecam_spec.specs.KeepsLimits.{IsInRange, AreInRange, count_of}
 use Rattle.ecam_spec.specs.Token.{bytes_of}
 use Rattle.book_spec.proofs.FieldFacts.{between}
-use Rattle.ecam_spec.specs.TermText.{TermNames, Flaw, out_of_range, earliest, magnitude, value, is_within, one_phase, flaws, flaws_of_all, name_flaw, number_flaw, phase_flaw, moments_flaw, compared_flaw, tree_of_form, trees_of_forms, amount, is_negative}
+use Rattle.ecam_spec.specs.TermText.{TermNames, Flaw, out_of_range, earliest, flaws, flaws_of_all, name_flaw, number_flaw, phase_flaw, moments_flaw, compared_flaw, tree_of_form, trees_of_forms, amount}
+use Rattle.ecam_spec.specs.TermNumber.{magnitude, value, is_within, one_phase, is_negative}
 
 -- ---- no flaws
 

@@ -4,19 +4,19 @@ use Rattle.std.specs.Prelude.{nat_lt, option_map}
 use Rattle.std.specs.List.{All}
 use Rattle.std.proofs.lemmas.Bool.{ltb-false}
 use Rattle.std.proofs.lemmas.List.Elements.{recursion_from_All}
-use Rattle.toml.specs.Data.{Data, Members, get_member, as_str}
-use Rattle.ecam_spec.specs.BookText.{is_term_text}
+use Rattle.toml.specs.Data.{Data, Members, get_member}
 use Rattle.ecam_spec.specs.Book.{Text, Tree, constant}
 use Rattle.ecam_spec.specs.Grammar.{spelling}
-use Rattle.ecam_spec.specs.Sound.{IsInRange, IsSoundTerm}
+use Rattle.ecam_spec.specs.KeepsLimits.{IsInRange, IsSoundTerm}
 use Rattle.ecam_spec.specs.TermNames.{IsWithin}
-use Rattle.ecam_spec.specs.TermReading.{verdict}
+use Rattle.book_spec.specs.Verdict.{verdict}
 use Rattle.ecam_spec.specs.TermSize.{nodes, depth}
-use Rattle.ecam_spec.specs.TermText.{TermNames, Flaw, unknown_name, out_of_range, earliest, flaws, tree_of_form, judged, judged_tree, Outcome, syntax_error, unknown, number_error, too_deep, too_large, means, IsVerdict}
-use Rattle.ecam_spec.proofs.TermVerdict.{verdict_told}
+use Rattle.ecam_spec.specs.TermText.{TermNames, Flaw, unknown_name, out_of_range, earliest, flaws, tree_of_form, judged, judged_tree, Outcome, syntax_error, unknown, number_error, too_deep, too_large, means}
+use Rattle.ecam_spec.specs.TermVerdict.{IsVerdict}
+use Rattle.book_spec.proofs.Verdicts.{verdict_told}
 use Rattle.book_spec.specs.Rules.{Names, outcome_in}
-use Rattle.book_spec.specs.DraftOf.{tree_or, term_or}
-use Rattle.book_spec.specs.Fields.{◌>>=◌, passing}
+use Rattle.book_spec.specs.Defaults.{tree_or, term_or}
+use Rattle.book_spec.specs.Fields.{◌>>=◌, term_text_in}
 use Rattle.book_spec.proofs.TermKeys.{NamesKey, text_names}
 use Rattle.book_spec.proofs.TermRanges.{no_flaws, form_in_range}
 use Rattle.book_spec.proofs.TermPlaces.{form_within}
@@ -79,7 +79,7 @@ module _ (names : Names) where
   answered : (value : Option Data) (outcome : Outcome) → (value >>= outcome_in names) ≡ Some outcome → (text : Text) × (verdict names.of_terms text ≡ outcome)
   unfolding outcome_in
   answered None outcome h = absurd (cc)
-  answered (Some value) outcome h = mapped (verdict names.of_terms) (as_str value >>= passing is_term_text) outcome h
+  answered (Some value) outcome h = mapped (verdict names.of_terms) (term_text_in value) outcome h
 
   outcome_sound : (b : Bool) (o : Option Outcome) → ((outcome : Outcome) → o ≡ Some outcome → (text : Text) × (verdict names.of_terms text ≡ outcome)) → Sound (tree_or (constant b) o)
   outcome_sound b None asked = constant_sound _ _ b

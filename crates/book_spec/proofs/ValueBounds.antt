@@ -11,13 +11,13 @@ use Rattle.toml.specs.Data.{Data, Members, as_str, as_integer}
 use Rattle.ecam_spec.specs.declared.kinds.Colour.{Colour}
 use Rattle.ecam_spec.specs.declared.kinds.Colour.TheVariants.{Blank}
 use Rattle.ecam_spec.specs.Book.{Text}
-use Rattle.ecam_spec.specs.BookText.{same_text, is_text}
-use Rattle.ecam_spec.specs.Draft.{place_of}
-use Rattle.ecam_spec.specs.TermText.{one_phase}
+use Rattle.ecam_spec.specs.BookText.{is_text}
+use Rattle.ecam_spec.specs.Bytes.{same_text, place_of}
+use Rattle.ecam_spec.specs.TermNumber.{one_phase}
 use Rattle.book_spec.specs.Fields.{◌>>=◌, string_at, text_at, number_at, number_from, label_at}
 use Rattle.book_spec.specs.Schema.{meaning, colour_words, section_words}
 use Rattle.book_spec.specs.Document.{list_in}
-use Rattle.book_spec.specs.DraftOf.{number_or_least, word_or, phase_from, phases_at, short_name}
+use Rattle.book_spec.specs.Defaults.{number_or_least, word_or, phase_from, phases_at, short_name}
 use Rattle.book_spec.proofs.FieldFacts.{text_at_read, number_read, number_within, label_read, place_read}
 use Rattle.book_spec.proofs.TermKeys.{found_so}
 use Rattle.book_spec.proofs.TermRanges.{phase_below}

@@ -3,6 +3,7 @@ use Rattle.std.specs.Prelude.{ℕ, nat_le, length, Option, Some, None, is_none, 
 use Rattle.std.specs.Str.{is_utf8}
 use Rattle.toml.specs.Data.{Members}
 use Rattle.toml.specs.Parse.{parse_document}
+use Rattle.ecam_spec.specs.declared.limits.TheConstants.{BOOK_BYTES}
 use Rattle.ecam_spec.specs.declared.kinds.Section.TheVariants.{Top}
 use Rattle.ecam_spec.specs.declared.kinds.BookFault.{BookFault}
 use Rattle.ecam_spec.specs.Book.{Text, Book}
@@ -10,10 +11,6 @@ use Rattle.ecam_spec.specs.Draft.{Draft, book_of}
 use Rattle.ecam_spec.specs.DraftFaults.{draft_fault}
 use Rattle.book_spec.specs.Document.{table_fault}
 use Rattle.book_spec.specs.DraftOf.{draft_of}
-
--- the most bytes that a book may have
-abbrev pub longest : ℕ
-longest = 4194304
 
 -- the table of the document that a text is
 abbrev pub table_of_text : Text → Option Members
@@ -30,7 +27,7 @@ document_fault (Some table) = table_fault table
 
 -- the first fault of codes 1 to 19
 unfoldable pub text_fault : Text → Option BookFault
-text_fault bytes = if nat_le (length bytes) longest then document_fault (table_of_text bytes) else Some (top_fault 1)
+text_fault bytes = if nat_le (length bytes) BOOK_BYTES then document_fault (table_of_text bytes) else Some (top_fault 1)
 
 -- the draft that the bytes are, where they have none of these faults
 abbrev pub draft_in : Option Members → Option Draft
@@ -38,7 +35,7 @@ draft_in None = None
 draft_in (Some table) = if is_none (table_fault table) then Some (draft_of table) else None
 
 unfoldable pub draft_of_bytes : Text → Option Draft
-draft_of_bytes bytes = if nat_le (length bytes) longest then draft_in (table_of_text bytes) else None
+draft_of_bytes bytes = if nat_le (length bytes) BOOK_BYTES then draft_in (table_of_text bytes) else None
 
 -- the first fault of the bytes
 abbrev pub fault_after : Option Draft → Option BookFault → Option BookFault

@@ -3,12 +3,14 @@ use Rattle.std.specs.Prelude.{ℕ, pos, Bool, false, not, List, [], ◌∷◌, m
 use Rattle.std.specs.Option.{option_or}
 use Rattle.std.specs.Ordering.{int_eq}
 use Rattle.toml.specs.Data.{Data, integer, Members, get_member, as_str, as_table}
+use Rattle.ecam_spec.specs.declared.limits.TheConstants.{SYSTEMS, PAGES, PARAMETERS, ALERTS, MEMOS, SYSTEM_TEXT}
 use Rattle.ecam_spec.specs.declared.kinds.Section.{Section}
 use Rattle.ecam_spec.specs.declared.kinds.Section.TheVariants as section
 use Rattle.ecam_spec.specs.declared.kinds.BookFault.{BookFault}
 use Rattle.ecam_spec.specs.Book.{Text}
-use Rattle.ecam_spec.specs.Faults.{first_of, first_item, fault_at, whole}
-use Rattle.ecam_spec.specs.Sound.{is_repeated}
+use Rattle.ecam_spec.specs.Faults.{first_item, fault_at, whole}
+use Rattle.ecam_spec.specs.Places.{first_of}
+use Rattle.ecam_spec.specs.KeepsLimits.{is_repeated}
 use Rattle.book_spec.specs.Fields.{◌>>=◌, has_only, string_at}
 use Rattle.book_spec.specs.Schema.{top_keys}
 use Rattle.book_spec.specs.Rules.{Names, members_of, leaf_breaks}
@@ -63,12 +65,12 @@ module _ (top : Members) where
   -- the first section that breaks a rule, and its first item
   unfoldable pub rule_fault : ℕ → Rule → Option BookFault
   rule_fault code rule = first_of (
-      at_section code section.System (codes "systems") (in_list 64 (leaf_breaks (names_of top) rule (leaves.Text 16)) rule)
-      ∷ at_section code section.Page (codes "page") (in_list 16 (item_breaks (names_of top) rule items.Page) rule)
-      ∷ at_section code section.Param (codes "param") (in_list 1024 (item_breaks (names_of top) rule items.Param) rule)
+      at_section code section.System (codes "systems") (in_list SYSTEMS (leaf_breaks (names_of top) rule (leaves.Text SYSTEM_TEXT)) rule)
+      ∷ at_section code section.Page (codes "page") (in_list PAGES (item_breaks (names_of top) rule items.Page) rule)
+      ∷ at_section code section.Param (codes "param") (in_list PARAMETERS (item_breaks (names_of top) rule items.Param) rule)
       ∷ at_section code section.Phase (codes "phase") (λ value. whole (item_breaks (names_of top) rule items.Phase value))
-      ∷ at_section code section.Alert (codes "alert") (in_list 1024 (item_breaks (names_of top) rule items.Alert) rule)
-      ∷ at_section code section.Memo (codes "memo") (in_list 128 (item_breaks (names_of top) rule items.Memo) rule)
+      ∷ at_section code section.Alert (codes "alert") (in_list ALERTS (item_breaks (names_of top) rule items.Alert) rule)
+      ∷ at_section code section.Memo (codes "memo") (in_list MEMOS (item_breaks (names_of top) rule items.Memo) rule)
       ∷ [])
 
   -- the first item of a section whose name stands at another one too

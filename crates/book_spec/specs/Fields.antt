@@ -4,7 +4,8 @@ use Rattle.std.specs.Option.{option_and_then}
 use Rattle.std.specs.List.{list_any, list_all}
 use Rattle.toml.specs.Data.{Data, Members, no_members, member, get_member, as_str, as_integer}
 use Rattle.ecam_spec.specs.Book.{Text}
-use Rattle.ecam_spec.specs.BookText.{same_text, is_between, is_name, is_text}
+use Rattle.ecam_spec.specs.BookText.{is_name, is_text, is_term_text}
+use Rattle.ecam_spec.specs.Bytes.{same_text, is_between}
 
 -- what follows from a value that is there
 infixl 10 ◌>>=◌
@@ -36,7 +37,11 @@ name_at key table = string_at key table >>= passing is_name
 unfoldable pub text_in : ℕ → Data → Option Text
 text_in most value = as_str value >>= passing (is_text most)
 
--- such a text at a key
+-- the text of a condition
+abbrev pub term_text_in : Data → Option Text
+term_text_in value = as_str value >>= passing is_term_text
+
+-- a text of at most so many bytes at a key
 unfoldable pub text_at : ℕ → Text → Members → Option Text
 text_at most key table = get_member key table >>= text_in most
 

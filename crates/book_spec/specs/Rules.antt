@@ -3,11 +3,13 @@
 use Rattle.std.specs.Prelude.{Option, ℕ, pos, Bool, true, false, not, ◌&&◌, ◌||◌, List, [], ◌∷◌, length, Some, None, is_some, is_none, int_le, option_map}
 use Rattle.std.specs.List.{list_any}
 use Rattle.toml.specs.Data.{Data, Items, no_items, item, as_str, as_integer, as_array}
+use Rattle.ecam_spec.specs.declared.limits.TheConstants.{SECONDARIES, PHASES}
 use Rattle.ecam_spec.specs.Book.{Text}
-use Rattle.ecam_spec.specs.BookText.{same_text, is_between, is_name, is_text, is_term_text}
+use Rattle.ecam_spec.specs.BookText.{is_name, is_text, is_term_text}
+use Rattle.ecam_spec.specs.Bytes.{same_text, is_between}
 use Rattle.ecam_spec.specs.TermText.{TermNames, Outcome, syntax_error, unknown, number_error, too_deep, too_large}
-use Rattle.ecam_spec.specs.TermReading.{verdict}
-use Rattle.book_spec.specs.Fields.{◌>>=◌, passing, label_from}
+use Rattle.book_spec.specs.Verdict.{verdict}
+use Rattle.book_spec.specs.Fields.{label_from, term_text_in}
 use Rattle.book_spec.specs.Schema.{is_word}
 use Rattle.book_spec.specs.declared.schema.Leaf.{Leaf}
 use Rattle.book_spec.specs.declared.schema.Leaf.TheVariants.{Name, Term, Label, Word, Page, System, Parameter, Alerts, Phases, Number}
@@ -95,8 +97,8 @@ is_out_of_range Phases value = list_any (number_fails 1 10) (members_of value)
 is_out_of_range _ value = false
 
 abbrev pub is_too_long : Leaf → Data → Bool
-is_too_long Phases value = has_wrong_count 0 10 value
-is_too_long Alerts value = has_wrong_count 0 16 value
+is_too_long Phases value = has_wrong_count 0 PHASES value
+is_too_long Alerts value = has_wrong_count 0 SECONDARIES value
 is_too_long _ value = false
 
 abbrev pub is_no_word : Leaf → Data → Bool
@@ -115,7 +117,7 @@ label_fails _ value = false
 module _ (names : Names) where
   -- what a condition's text is answered with; what hasn't the form of such a text has no answer
   unfoldable pub outcome_in : Data → Option Outcome
-  outcome_in value = option_map (verdict names.of_terms) (as_str value >>= passing is_term_text)
+  outcome_in value = option_map (verdict names.of_terms) (term_text_in value)
 
   -- a condition's text is refused so
   abbrev pub term_fails : (Outcome → Bool) → Leaf → Data → Bool

@@ -2,6 +2,7 @@
 -- this project's own.
 use Rattle.std.specs.Prelude.{ℕ, Bool, true, false, List, [], ◌∷◌, codes, option_map, Option, Some, None, is_some, find}
 use Rattle.toml.specs.Data.{Members, get_member}
+use Rattle.ecam_spec.specs.declared.limits.TheConstants.{PAGE_ROWS, SOURCES, LINES, STATUS_LINES, TEXT, VALUE_ROW_TEXT, UNIT, NUMBER, WAIT, STALE}
 use Rattle.ecam_spec.specs.declared.kinds.Kind.{Kind}
 use Rattle.ecam_spec.specs.declared.kinds.Kind.TheVariants.{Disc, Bnr, Bcd}
 use Rattle.ecam_spec.specs.declared.kinds.Colour.{Colour}
@@ -9,7 +10,7 @@ use Rattle.ecam_spec.specs.declared.kinds.Colour.TheVariants as colours
 use Rattle.ecam_spec.specs.declared.kinds.Sound.{Sound}
 use Rattle.ecam_spec.specs.declared.kinds.Sound.TheVariants as sounds
 use Rattle.ecam_spec.specs.Book.{Text}
-use Rattle.ecam_spec.specs.BookText.{same_text}
+use Rattle.ecam_spec.specs.Bytes.{same_text}
 use Rattle.book_spec.specs.Fields.{◌>>=◌, string_at}
 use Rattle.book_spec.specs.declared.schema.Words.{Words}
 use Rattle.book_spec.specs.declared.schema.Words.TheVariants as words
@@ -83,16 +84,16 @@ top_keys =
 
 -- a row that shows a value has a unit, and a row that shows none has a colour
 unfoldable pub row_keys : Bool → List (Key Leaf)
-row_keys true = needs (codes "text") (leaves.Text 24) ∷ may_have (codes "show") Parameter ∷ may_have (codes "unit") (leaves.Text 6) ∷ []
-row_keys false = needs (codes "text") (leaves.Text 36) ∷ may_have (codes "colour") (Word words.Colour) ∷ []
+row_keys true = needs (codes "text") (leaves.Text VALUE_ROW_TEXT) ∷ may_have (codes "show") Parameter ∷ may_have (codes "unit") (leaves.Text UNIT) ∷ []
+row_keys false = needs (codes "text") (leaves.Text TEXT) ∷ may_have (codes "colour") (Word words.Colour) ∷ []
 
 -- what a source of a parameter of this kind has; without a kind it may have what any has
 unfoldable pub reading_keys : Option Kind → List (Key Leaf)
 reading_keys (Some Disc) = needs (codes "bit") (Number 11 29) ∷ []
-reading_keys (Some Bnr) = needs (codes "low") (Number 11 28) ∷ needs (codes "range") (Number 1 1000000) ∷ []
+reading_keys (Some Bnr) = needs (codes "low") (Number 11 28) ∷ needs (codes "range") (Number 1 NUMBER) ∷ []
 reading_keys (Some Bcd) = []
 reading_keys None =
-    may_have (codes "bit") (Number 11 29) ∷ may_have (codes "low") (Number 11 28) ∷ may_have (codes "range") (Number 1 1000000) ∷ []
+    may_have (codes "bit") (Number 11 29) ∷ may_have (codes "low") (Number 11 28) ∷ may_have (codes "range") (Number 1 NUMBER) ∷ []
 
 unfoldable pub source_keys : Option Kind → List (Key Leaf)
 source_keys kind =
@@ -100,11 +101,11 @@ source_keys kind =
 
 unfoldable pub line_keys : List (Key Leaf)
 line_keys =
-    needs (codes "text") (leaves.Text 36) ∷ may_have (codes "colour") (Word words.Colour)
+    needs (codes "text") (leaves.Text TEXT) ∷ may_have (codes "colour") (Word words.Colour)
     ∷ may_have (codes "when") Term ∷ may_have (codes "done") Term ∷ []
 
 unfoldable pub status_keys : List (Key Leaf)
-status_keys = needs (codes "section") (Word words.Section) ∷ needs (codes "text") (leaves.Text 36) ∷ []
+status_keys = needs (codes "section") (Word words.Section) ∷ needs (codes "text") (leaves.Text TEXT) ∷ []
 
 -- the keys of a table inside an item: those of a row go by whether it has the key `show`
 unfoldable pub inner_keys : Inner → Members → List (Key Leaf)
@@ -117,8 +118,8 @@ inner_keys inner.Status table = status_keys
 
 unfoldable pub page_keys : List (Key Shape)
 page_keys =
-    needs (codes "name") (shapes.Leaf Name) ∷ needs (codes "title") (shapes.Leaf (leaves.Text 36))
-    ∷ may_have (codes "phases") (shapes.Leaf Phases) ∷ may_have (codes "row") (Tables inner.Row 0 17) ∷ []
+    needs (codes "name") (shapes.Leaf Name) ∷ needs (codes "title") (shapes.Leaf (leaves.Text TEXT))
+    ∷ may_have (codes "phases") (shapes.Leaf Phases) ∷ may_have (codes "row") (Tables inner.Row 0 PAGE_ROWS) ∷ []
 
 -- the kind that a parameter's table tells, if it is one of the three
 unfoldable pub kind_at : Members → Option Kind
@@ -127,7 +128,7 @@ kind_at table = string_at (codes "kind") table >>= meaning kind_words
 unfoldable pub param_keys : Option Kind → List (Key Shape)
 param_keys kind =
     needs (codes "name") (shapes.Leaf Name) ∷ needs (codes "kind") (shapes.Leaf (Word words.Kind))
-    ∷ needs (codes "stale") (shapes.Leaf (Number 1 600)) ∷ needs (codes "source") (Tables (inner.Source kind) 1 3) ∷ []
+    ∷ needs (codes "stale") (shapes.Leaf (Number 1 STALE)) ∷ needs (codes "source") (Tables (inner.Source kind) 1 SOURCES) ∷ []
 
 unfoldable pub phase_keys : List (Key Shape)
 phase_keys =
@@ -136,16 +137,16 @@ phase_keys =
 
 unfoldable pub alert_keys : List (Key Shape)
 alert_keys =
-    needs (codes "name") (shapes.Leaf Name) ∷ needs (codes "title") (shapes.Leaf (leaves.Text 36))
+    needs (codes "name") (shapes.Leaf Name) ∷ needs (codes "title") (shapes.Leaf (leaves.Text TEXT))
     ∷ needs (codes "system") (shapes.Leaf System) ∷ needs (codes "level") (shapes.Leaf (Number 1 3))
     ∷ needs (codes "when") (shapes.Leaf Term) ∷ may_have (codes "page") (shapes.Leaf Page)
-    ∷ may_have (codes "confirm") (shapes.Leaf (Number 0 36000)) ∷ may_have (codes "sound") (shapes.Leaf (Word words.Sound))
+    ∷ may_have (codes "confirm") (shapes.Leaf (Number 0 WAIT)) ∷ may_have (codes "sound") (shapes.Leaf (Word words.Sound))
     ∷ may_have (codes "inhibit") (shapes.Leaf Phases) ∷ may_have (codes "secondary") (shapes.Leaf Alerts)
-    ∷ may_have (codes "line") (Tables inner.Line 0 16) ∷ may_have (codes "status") (Tables inner.Status 0 8) ∷ []
+    ∷ may_have (codes "line") (Tables inner.Line 0 LINES) ∷ may_have (codes "status") (Tables inner.Status 0 STATUS_LINES) ∷ []
 
 unfoldable pub memo_keys : List (Key Shape)
 memo_keys =
-    needs (codes "name") (shapes.Leaf Name) ∷ needs (codes "text") (shapes.Leaf (leaves.Text 36))
+    needs (codes "name") (shapes.Leaf Name) ∷ needs (codes "text") (shapes.Leaf (leaves.Text TEXT))
     ∷ needs (codes "zone") (shapes.Leaf (Word words.Zone)) ∷ needs (codes "when") (shapes.Leaf Term)
     ∷ may_have (codes "colour") (shapes.Leaf (Word words.Colour)) ∷ []
 

@@ -3,7 +3,7 @@ ghost use Rattle.std.specs.Prelude.{◌≡◌, Some, None};
 ghost use Rattle.toml.specs.Data.{Members};
 ghost use Rattle.ecam_spec.specs.Book.{Text};
 ghost use Rattle.ecam_spec.specs.Draft.{Draft};
-ghost use Rattle.ecam_spec.specs.Sound.{IsSound};
+ghost use Rattle.ecam_spec.specs.KeepsLimits.{IsSound};
 ghost use Rattle.book_spec.specs.Document.{table_fault};
 ghost use Rattle.book_spec.specs.DraftOf.{draft_of};
 ghost use Rattle.book_spec.specs.BookBytes.{draft_of_bytes};

@@ -7,7 +7,7 @@ use Rattle.toml.proofs.Views.{Entry}
 use Rattle.toml.specs.declared.value.Value.{Value}
 use Rattle.toml.specs.Data.{Data}
 use Rattle.toml.specs.View.{view, items_view, members_view}
-use Rattle.ecam_spec.specs.BookText.{same_text}
+use Rattle.ecam_spec.specs.Bytes.{same_text}
 use Rattle.book_spec.specs.Fields.{keys}
 use Rattle.book_spec.specs.Rules.{values}
 use Rattle.book_tables.specs.Reading.{texts_of, views}

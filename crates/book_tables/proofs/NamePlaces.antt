@@ -6,31 +6,13 @@ use Rattle.std.specs.Option.{option_or}
 use Rattle.std.specs.List.{position_from, count_by, list_any}
 use Rattle.std.proofs.lemmas.Bool.Decides.{nat_tests}
 use Rattle.std.proofs.lemmas.List.Sums.{sum_by-append}
-use Rattle.std.proofs.lemmas.Iterator.Adapters.{position_from-zero}
-use Rattle.ecam_spec.specs.TermText as short
+use Rattle.ecam_spec.specs.TermText.{name_place}
 use Rattle.std.specs.Borrow.{Bor}
 use Rattle.ecam_spec.specs.Book.{Text}
-use Rattle.ecam_spec.specs.BookText.{same_text}
-use Rattle.ecam_spec.specs.Draft.{place_of}
+use Rattle.ecam_spec.specs.Bytes.{same_text, place_of}
+use Rattle.book_model.proofs.NamesNoted.{position_from-push}
 use Rattle.book_spec.specs.Rules.{is_among}
 use Rattle.book_tables.specs.Reading.{texts_of}
-
--- the place after one more at the end
-position_from-push : {X : Type 0} (p : X → Bool) (n : ℕ) (xs : List X) (y : X)
-    → position_from p n (xs ++ y ∷ []) ≡ option_or (position_from p n xs) (cond (p y) (Some (n + length xs)) None)
-position_from-push p n [] y = elim (cases_Bool (p y)) [ inl same ↦ rw same (ap Some (omega arith)) | inr other ↦ rw other refl ]
-position_from-push p n (x ∷ xs) y =
-    elim (cases_Bool (p x)) [
-      | inl same ↦ rw same refl
-      | inr other ↦ rw other (position_from-push p (n + 1) xs y ∙ ap (λ k. option_or (position_from p (n + 1) xs) (cond (p y) (Some k) None)) (omega arith))
-    ]
-
--- a map's place at a name after another name, at which it had none, is noted
-pub noted : (o : Option ℕ) (same : Bool) (place : ℕ) → (same ≡ true → o ≡ None) → cond same (Some place) o ≡ option_or o (cond same (Some place) None)
-noted None true place h = refl
-noted None false place h = refl
-noted (Some x) true place h = absurd (let w : Some x ≡ None = h refl in cc)
-noted (Some x) false place h = refl
 
 module _ (names : List (Bor (List ℕ))) (i : ℕ) (d : Bor (List ℕ)) (within : i < length names) where
   pub texts_more : texts_of (take (i + 1) names) ≡ texts_of (take i names) ++ (get_or names i d).now ∷ []
@@ -55,13 +37,13 @@ counted o true n h = ap (λ k. k + 1) (sym (h refl))
 counted o false n h = omega arith
 
 -- a name that isn't too long has the same place either way
-pub short_name_place : (names : List Text) (name : Text) → length name ≤ 24 → short.place_of names name ≡ place_of names name
-unfolding short.place_of
-short_name_place names name h = let fits : leb (length name) 24 ≡ true = grind (arith, nat_tests) in rw (fits, short.place_of) (position_from-zero (same_text name) names)
+pub short_name_place : (names : List Text) (name : Text) → length name ≤ 24 → name_place names name ≡ place_of names name
+unfolding name_place
+short_name_place names name h = let fits : leb (length name) 24 ≡ true = grind (arith, nat_tests) in rw (fits, name_place) refl
 
-pub long_name_place : (names : List Text) (name : Text) → 24 < length name → short.place_of names name ≡ None
-unfolding short.place_of
-long_name_place names name h = let long : leb (length name) 24 ≡ false = grind (arith, nat_tests) in rw (long, short.place_of) refl
+pub long_name_place : (names : List Text) (name : Text) → 24 < length name → name_place names name ≡ None
+unfolding name_place
+long_name_place names name h = let long : leb (length name) 24 ≡ false = grind (arith, nat_tests) in rw (long, name_place) refl
 
 -- a name has no place exactly where it isn't among the names
 no_place_from : (t : Text → Bool) (n : ℕ) (names : List Text) → is_none (position_from t n names) ≡ not (list_any t names)

@@ -1,32 +1,10 @@
--- The places of names, and how often each stands, as maps keep them.
-use Rattle.std.specs.Prelude.{◌≡◌, ℕ, ◌+◌, ◌<◌, ◌^◌, List, length, codes, count_by, Option, Some, None, unwrap_or, if◌then◌else◌}
-use Rattle.std.specs.Option.{option_or}
-use Rattle.std.specs.Borrow.{Bor}
-use Rattle.std.specs.BTreeMap.{BTreeMap, get_by}
-use Rattle.std.specs.Cmp.Lexicographic.{slice_cmp}
-use Rattle.std.specs.Ordering.{nat_cmp}
+-- How often each of some names stands, as a map keeps it.
+use Rattle.std.specs.Prelude.{◌≡◌, ℕ, ◌+◌, ◌<◌, ◌^◌, List, length, codes, count_by, unwrap_or, if◌then◌else◌}
+use Rattle.ecam_spec.specs.Bytes.{same_text}
 use Rattle.ecam_spec.specs.Book.{Text}
-use Rattle.ecam_spec.specs.BookText.{same_text}
-use Rattle.ecam_spec.specs.Draft.{place_of}
+use Rattle.book_model.specs.NamePlaces.{Numbers, number_by}
 use Rattle.toml.specs.Data.{Members}
 use Rattle.book_spec.specs.Document.{list_in}
-
--- a map whose keys are texts
-abbrev pub Numbers : Type 0
-Numbers = BTreeMap (Bor (List ℕ)) ℕ
-
--- what the map has at a name
-abbrev pub number_by : Numbers → Text → Option ℕ
-number_by m name = get_by (λ k. slice_cmp nat_cmp name k.now) m
-
--- it has the place of each of these names, and no other
-abbrev pub FindsPlaces : List Text → Numbers → Type 0
-FindsPlaces names m = (name : Text) → number_by m name ≡ place_of names name
-
--- a name has a place from now on, where it had none
-abbrev pub NotesPlace : Numbers → Numbers → Text → ℕ → Type 0
-NotesPlace old new name place =
-    (q : Text) → number_by new q ≡ option_or (number_by old q) (if same_text q name then Some place else None)
 
 -- how often a name was counted
 abbrev pub times : Numbers → Text → ℕ

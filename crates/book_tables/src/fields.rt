@@ -1,5 +1,5 @@
 // What stands in a table of a document.
-ghost use Rattle.std.specs.Prelude.{◌≡◌, ◌≤◌, map, option_map, option_copied, IfSome, IfOk};
+ghost use Rattle.std.specs.Prelude.{◌≡◌, ◌≤◌, length, map, option_map, option_copied, IfSome, IfOk};
 ghost use Rattle.toml.specs.Data.{get_member};
 ghost use Rattle.toml.specs.View.{view, table_view};
 ghost use Rattle.book_model.specs.View.{bytes_of};
@@ -8,8 +8,9 @@ ghost use Rattle.book_spec.specs.Rules.{members_of};
 ghost use Rattle.book_spec.specs.Document.{list_in, text_of, name_of};
 ghost use Rattle.book_tables.specs.Reading.{texts_of, views, item_name};
 
-use crate::texts::{is_one_of, label_from, name_from, text_from};
+use crate::texts::{is_one_of, is_term_text, label_from, name_from, text_from};
 use book_model::{Name, Text};
+use ecam_spec::limits::{TERM_TEXT, TEXT};
 use std::alloc::{AllocError, Global};
 use toml::{Table, Value};
 
@@ -46,7 +47,7 @@ pub fn name_at(table: &Table, key: &str) -> Option<Name>
 /// The text of 1 to `most` bytes that a value is, if it is a string of a text's form.
 #[tactic(auto, unfolding(book_spec::specs::Fields::text_in))]
 pub fn text_in(value: &Value, most: usize) -> Option<Text>
-    requires { most ≤ 36 }
+    requires { most ≤ TEXT }
     ensures { option_map bytes_of result ≡ spec.text_in most (view value.now) }
 {
     text_from(value.as_str()?, most)
@@ -55,10 +56,19 @@ pub fn text_in(value: &Value, most: usize) -> Option<Text>
 /// The text of 1 to `most` bytes at a key, if a string of a text's form stands there.
 #[tactic(auto, unfolding(book_spec::specs::Fields::text_at))]
 pub fn text_at(table: &Table, most: usize, key: &str) -> Option<Text>
-    requires { most ≤ 36 }
+    requires { most ≤ TEXT }
     ensures { option_map bytes_of result ≡ spec.text_at most key.now (table_view table.now) }
 {
     text_in(find(table, key)?, most)
+}
+
+/// The text of a condition that a value is, if it has the form of one.
+pub fn term_text_in(value: &Value) -> Option<&str>
+    ensures text { option_copied result ≡ spec.term_text_in (view value.now) }
+    ensures short { IfSome result (λ t. length t.now ≤ TERM_TEXT) }
+{
+    let text = value.as_str()?;
+    if is_term_text(text) { Some(text) } else { None }
 }
 
 /// A whole number as one from `low` to `high`, if it is in that range.

@@ -1,6 +1,7 @@
 //! What stands in the tables of a book's document, and the places of its names.
 #![tactic(auto)]
 
+pub mod conditions;
 pub mod fields;
 mod names;
 pub mod places;

@@ -2,9 +2,10 @@
 ghost use Rattle.std.specs.Prelude.{◌<◌, ◌^◌, length, codes};
 ghost use Rattle.toml.specs.View.{table_view};
 ghost use Rattle.book_spec.specs.Document.{names_of, list_in};
-ghost use Rattle.book_tables.specs.Places.{FindsPlaces};
+ghost use Rattle.book_model.specs.NamePlaces.{FindsPlaces};
 
-use crate::places::{Places, name_places, place_in, short_place, system_places};
+use crate::places::{name_places, short_place, system_places};
+use book_model::{NamePlaces, place_in};
 use std::alloc::{AllocError, Global};
 use term_text::Dictionary;
 use toml::Table;
@@ -15,10 +16,10 @@ use toml::Table;
 pub struct Catalogue<'a> {
     /// The document's table.
     pub top: &'a Table,
-    systems: Places<'a>,
-    pages: Places<'a>,
-    params: Places<'a>,
-    alerts: Places<'a>,
+    systems: NamePlaces<'a>,
+    pages: NamePlaces<'a>,
+    params: NamePlaces<'a>,
+    alerts: NamePlaces<'a>,
     pub ghost few_systems: { length (names_of (table_view top.now)).systems < 2 ^ 32 },
     pub ghost few_pages: { length (names_of (table_view top.now)).pages < 2 ^ 32 },
     pub ghost few_params: { length (names_of (table_view top.now)).of_terms.parameters < 2 ^ 32 },
@@ -32,7 +33,7 @@ pub struct Catalogue<'a> {
 
 impl<'a> Catalogue<'a> {
     ghost use Rattle.std.specs.Prelude.{◌≡◌, IfOk, is_some};
-    ghost use Rattle.ecam_spec.specs.Draft.{place_of};
+    ghost use Rattle.ecam_spec.specs.Bytes.{place_of};
     ghost use Rattle.book_spec.specs.Rules.{is_among};
     ghost use Rattle.book_tables.specs.Places.{HasFewItems};
     ghost use Rattle.book_tables.specs.Catalogue.{table_in, names_in};

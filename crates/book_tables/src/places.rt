@@ -2,28 +2,28 @@
 ghost use Rattle.std.specs.Prelude.{◌≡◌, ◌<◌, ◌^◌, ◌+◌, List, length, IfOk, OnOk, Some};
 ghost use Rattle.std.specs.Str.{bytes_eq};
 ghost use Rattle.ecam_spec.specs.Book.{Text};
-ghost use Rattle.ecam_spec.specs.TermText.{place_of};
+ghost use Rattle.ecam_spec.specs.TermText.{name_place};
 ghost use Rattle.toml.specs.View.{table_view};
 ghost use Rattle.book_spec.specs.Document.{system_texts, names_in};
 ghost use Rattle.book_tables.specs.Reading.{texts_of};
-ghost use Rattle.book_tables.specs.Places.{number_by, times, FindsPlaces, NotesPlace, CountsNames, CountsOne};
+ghost use Rattle.book_model.specs.NamePlaces.{FindsPlaces};
+ghost use Rattle.book_tables.specs.Places.{times, CountsNames, CountsOne};
 
 use crate::fields::{list_in, names_in, texts_in};
+use book_model::{NamePlaces, note_place, place_in};
+use ecam_spec::limits;
 use std::alloc::{AllocError, Global};
 use std::collections::BTreeMap;
 use toml::Table;
 
 // The most bytes that a name has.
-const LONGEST_NAME: usize = 24;
-
-/// Places of names, from 0.
-pub(crate) type Places<'a> = BTreeMap<&'a [u8], u32>;
+const LONGEST_NAME: usize = limits::NAME;
 
 /// How often names stand.
 pub type Counts<'a> = BTreeMap<&'a [u8], usize>;
 
 /// The places of these names, from 0. Of two equal names the first counts.
-fn places_of<'a>(alloc: Global, names: &[&'a str]) -> Result<Places<'a>, AllocError>
+fn places_of<'a>(alloc: Global, names: &[&'a str]) -> Result<NamePlaces<'a>, AllocError>
     requires { length names.now < 2 ^ 32 }
     ensures { IfOk result (FindsPlaces (texts_of names.now)) }
 {
@@ -35,7 +35,7 @@ fn places_of<'a>(alloc: Global, names: &[&'a str]) -> Result<Places<'a>, AllocEr
 }
 
 /// The places of a document's systems.
-pub(crate) fn system_places<'a>(alloc: Global, top: &'a Table) -> Result<Places<'a>, AllocError>
+pub(crate) fn system_places<'a>(alloc: Global, top: &'a Table) -> Result<NamePlaces<'a>, AllocError>
     requires { length (system_texts (table_view top.now)) < 2 ^ 32 }
     ensures { IfOk result (FindsPlaces (system_texts (table_view top.now))) }
 {
@@ -48,7 +48,7 @@ pub(crate) fn name_places<'a>(
     alloc: Global,
     top: &'a Table,
     key: &str,
-) -> Result<Places<'a>, AllocError>
+) -> Result<NamePlaces<'a>, AllocError>
     requires { length (names_in key.now (table_view top.now)) < 2 ^ 32 }
     ensures { IfOk result (FindsPlaces (names_in key.now (table_view top.now))) }
 {
@@ -56,26 +56,10 @@ pub(crate) fn name_places<'a>(
     places_of(alloc, names.as_slice())
 }
 
-fn note_place<'a>(places: &mut Places<'a>, name: &'a [u8], place: u32) -> Result<(), AllocError>
-    ensures { OnOk result (NotesPlace places.old places.new name.now place) }
-{
-    if !places.contains_key(name) {
-        places.insert(name, place)?;
-    }
-    Ok(())
-}
-
-/// The place of a name.
-pub(crate) fn place_in(places: &Places<'_>, name: &[u8]) -> Option<u32>
-    ensures { result ≡ number_by places.now name.now }
-{
-    places.get(name).copied()
-}
-
-/// The place of a name of at most 24 bytes; a longer one is unknown.
-#[tactic(auto, unfolding(ecam_spec::specs::TermText::place_of))]
-pub(crate) fn short_place(places: &Places<'_>, name: &[u8]) -> Option<u32>
-    ensures { (names : List Text) → FindsPlaces names places.now → result ≡ place_of names name.now }
+/// The place of a name that is no longer than names may be; a longer one is unknown.
+#[tactic(auto, unfolding(ecam_spec::specs::TermText::name_place))]
+pub(crate) fn short_place(places: &NamePlaces<'_>, name: &[u8]) -> Option<u32>
+    ensures { (names : List Text) → FindsPlaces names places.now → result ≡ name_place names name.now }
 {
     if name.len() > LONGEST_NAME {
         return None;

@@ -1,7 +1,8 @@
 // What may stand as a name, as a text and as a label.
 ghost use Rattle.std.specs.Prelude.{◌≡◌, ◌≤◌, ◌<◌, ◌==◌, Bool, true, length, map, slice_index, option_map};
 ghost use Rattle.std.specs.List.{list_all, list_any};
-ghost use Rattle.ecam_spec.specs.BookText.{same_text, is_letter, is_name_byte, is_name, is_text, is_term_text, is_printable, reserved};
+ghost use Rattle.ecam_spec.specs.BookText.{is_name, is_text, is_term_text, is_printable, reserved};
+ghost use Rattle.ecam_spec.specs.Bytes.{same_text, is_small_letter, is_name_byte};
 ghost use Rattle.book_model.specs.View.{bytes_of};
 ghost use Rattle.book_spec.specs.Fields.{passing, label_from};
 ghost use Rattle.book_spec.specs.Fields.{is_octal};
@@ -9,6 +10,7 @@ ghost use Rattle.book_tables.specs.Reading.{texts_of};
 ghost use Rattle.book_tables.specs.Outcome.{has_no_blank_end, label_of};
 
 use book_model::{Name, Text};
+use ecam_spec::limits::{NAME, TERM_TEXT, TEXT};
 
 /// Whether a text is one of these.
 pub(crate) fn is_one_of(known: &[&str], text: &str) -> bool
@@ -23,7 +25,7 @@ pub(crate) fn is_one_of(known: &[&str], text: &str) -> bool
 }
 
 // Whether a word is one of those of conditions, which are no names.
-#[tactic(auto, unfolding(ecam_spec::specs::BookText::reserved))]
+#[tactic(auto, unfolding(ecam_spec::specs::BookText::reserved, ecam_spec::specs::Token::reserved_words))]
 fn is_reserved(word: &str) -> bool
     ensures { result ≡ list_any (same_text word.now) reserved }
 {
@@ -37,7 +39,7 @@ fn is_reserved(word: &str) -> bool
 }
 
 fn is_letter(byte: u8) -> bool
-    ensures { result ≡ is_letter byte }
+    ensures { result ≡ is_small_letter byte }
 {
     b'a' <= byte && byte <= b'z'
 }
@@ -71,7 +73,7 @@ fn is_printable(text: &[u8]) -> bool
 }
 
 fn begins_with_letter(text: &[u8]) -> bool
-    ensures { result ≡ is_letter (slice_index text.now 0) }
+    ensures { result ≡ is_small_letter (slice_index text.now 0) }
 {
     match text {
         [first, ..] => is_letter(*first),
@@ -92,11 +94,11 @@ fn has_no_blank_end(text: &[u8]) -> bool
 #[tactic(auto, unfolding(ecam_spec::specs::BookText::is_name))]
 pub fn is_name(text: &str) -> bool
     ensures value { result ≡ is_name text.now }
-    ensures short { result ≡ true → length text.now ≤ 24 }
+    ensures short { result ≡ true → length text.now ≤ NAME }
 {
     let bytes = text.as_bytes();
     1 <= bytes.len()
-        && bytes.len() <= 24
+        && bytes.len() <= NAME
         && begins_with_letter(bytes)
         && has_name_bytes(bytes)
         && !is_reserved(text)
@@ -116,10 +118,10 @@ pub fn is_text(text: &str, most: usize) -> bool
 #[tactic(auto, unfolding(ecam_spec::specs::BookText::is_term_text))]
 pub fn is_term_text(text: &str) -> bool
     ensures value { result ≡ is_term_text text.now }
-    ensures short { result ≡ true → length text.now ≤ 2048 }
+    ensures short { result ≡ true → length text.now ≤ TERM_TEXT }
 {
     let bytes = text.as_bytes();
-    1 <= bytes.len() && bytes.len() <= 2048 && is_printable(bytes)
+    1 <= bytes.len() && bytes.len() <= TERM_TEXT && is_printable(bytes)
 }
 
 /// The name that a text is, if it has a name's form.
@@ -137,7 +139,7 @@ pub(crate) fn name_from(text: &str) -> Option<Name>
 
 /// The text of at most `most` bytes that a string is, if it has a text's form.
 pub(crate) fn text_from(text: &str, most: usize) -> Option<Text>
-    requires { most ≤ 36 }
+    requires { most ≤ TEXT }
     ensures { option_map bytes_of result ≡ passing (is_text most) text.now }
 {
     if !is_text(text, most) {

@@ -1,3 +1,4 @@
 pub mod Outside
 pub mod MemoryShelf
 pub mod MemorySink
+pub mod Tally

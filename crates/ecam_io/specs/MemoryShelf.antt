@@ -1,5 +1,6 @@
 -- What callers see of a shelf in memory.
-use Rattle.std.specs.Prelude.{Option, ℕ, Bool, List, [], drop, map, Some, None, slice_index_or, string_bytes}
+use Rattle.std.specs.Prelude.{Option, ◌≡◌, ℕ, ◌+◌, ◌-◌, ◌^◌, ◌<◌, Bool, List, [], drop, map, length, Some, None, slice_index_or, string_bytes}
+use Rattle.ecam_io.specs.Outside.{ReadCall}
 use Rattle.ecam_io.specs.declared.memory_shelf.MemoryFile.{MemoryFile}
 
 -- Its files, each a name and what it holds; the numbers of the calls that fail, and the most bytes that a read
@@ -13,6 +14,10 @@ pub record ShelfState : Type 0 where
   pub calls : ℕ
   pub opens : ℕ
   pub faults : ℕ
+
+-- the calls of `read` were so many: what `open` doesn't account for, while the count of calls hasn't reached its end
+abbrev pub HasRead : ShelfState → List ReadCall → Type 0
+HasRead s reads = s.calls < 2 ^ 64 - 1 → length reads + s.opens ≡ s.calls
 
 -- the files as pairs of a name and what it holds
 abbrev pub files_of : List MemoryFile → List (List ℕ × List ℕ)

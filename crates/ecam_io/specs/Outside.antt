@@ -1,5 +1,6 @@
 -- What lies outside the program: the files of a shelf, the bytes that a sink holds, and the counts of faults and of opens.
-use Rattle.std.specs.Prelude.{Option, ◌≡◌, ◌≢◌, ◌⊎◌, ℕ, ◌+◌, ◌-◌, ◌^◌, ◌<◌, min, Bool, List, [], ◌∷◌, ◌++◌, ⊤, Some, None, IsSomeAnd, if◌then◌else◌, ◌==◌}
+use Rattle.std.specs.Prelude.{Option, ◌≡◌, ◌≢◌, ◌⊎◌, ℕ, ◌+◌, ◌-◌, ◌^◌, ◌<◌, min, Bool, List, [], ◌∷◌, ◌++◌, ⊤, Some, None, IsSomeAnd, Result, if◌then◌else◌, ◌==◌}
+use Rattle.std.specs.Result.{result_ok}
 use Rattle.std.specs.Io.{StartsWith}
 use Rattle.std.specs.Io.KnownBytes.{IsAtEnd}
 use Rattle.std.specs.Str.{bytes_eq}
@@ -41,13 +42,23 @@ abbrev pub IsClosed : Option (List (List ℕ × List ℕ)) → Option (List ℕ)
 IsClosed None left = IsAtEnd left
 IsClosed (Some files) left = left ≡ Some []
 
--- the bytes were appended: after each list that the sink agreed with, it agrees with that list and these bytes
-abbrev pub Appended : {S : Type 0} → (S → List ℕ → Type 0) → S → S → List ℕ → Type 0
-Appended agrees old new bytes = (w : List ℕ) → agrees old w → agrees new (w ++ bytes)
+-- a call of a source's `read`: for how many bytes it asked, and how many it gave; none where it failed
+pub record ReadCall : Type 0 where
+  pub asked : ℕ
+  pub given : Option ℕ
+
+-- the call that asked for so many bytes and answered this
+abbrev pub read_call : {E : Type 0} → ℕ → Result ℕ E → ReadCall
+read_call asked answer = record { asked = asked; given = result_ok answer }
+
+-- these were appended, bytes to a sink or calls to those of a source: after each list with which the state agreed, it
+-- agrees with that list and these
+abbrev pub Appended : {S A : Type 0} → (S → List A → Type 0) → S → S → List A → Type 0
+Appended agrees old new these = (w : List _) → agrees old w → agrees new (w ++ these)
 
 -- nothing was appended
-abbrev pub IsKept : {S : Type 0} → (S → List ℕ → Type 0) → S → S → Type 0
-IsKept agrees old new = (w : List ℕ) → agrees old w → agrees new w
+abbrev pub IsKept : {S A : Type 0} → (S → List A → Type 0) → S → S → Type 0
+IsKept agrees old new = (w : List _) → agrees old w → agrees new w
 
 -- a prefix of the bytes was appended
 pub record AppendedPrefix {S : Type 0} (agrees : S → List ℕ → Type 0) (old new : S) (bytes : List ℕ) : Type 0 where

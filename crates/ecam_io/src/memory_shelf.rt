@@ -1,8 +1,8 @@
 // A shelf whose files lie in memory.
-ghost use Rattle.std.specs.Prelude.{◌≡◌, ◌+◌, ◌^◌, ◌<◌, ◌≤◌, ◌&&◌, not, min, List, [], take, drop, length, IfOk, IfSome, IfNone, OnOk, OnErr, Some, None, Ok, is_err, is_ok, is_some, true, false, if◌then◌else◌};
+ghost use Rattle.std.specs.Prelude.{◌≡◌, ◌+◌, ◌^◌, ◌<◌, ◌≤◌, ◌&&◌, not, min, List, [], ◌∷◌, take, drop, length, IfOk, IfSome, IfNone, OnOk, OnErr, Some, None, Ok, is_err, is_ok, is_some, true, false, if◌then◌else◌};
 ghost use Rattle.std.specs.Io.KnownBytes.{Consumes, IsAtEnd};
-ghost use Rattle.ecam_io.specs.Outside.{raised, Rose, fails_after, file_named, FileHas, MayRefuse, IsClosed};
-ghost use Rattle.ecam_io.specs.MemoryShelf.{files_of, left_of};
+ghost use Rattle.ecam_io.specs.Outside.{raised, Rose, fails_after, file_named, FileHas, MayRefuse, IsClosed, read_call, Appended, IsKept};
+ghost use Rattle.ecam_io.specs.MemoryShelf.{files_of, left_of, HasRead};
 
 use crate::failing::is_failing;
 use crate::{Failed, Shelf, Source};
@@ -163,6 +163,8 @@ impl Source for MemoryShelf {
 
     ghost opens = { λ s. s.opens };
 
+    ghost reads = { HasRead };
+
     ghost faults = { λ s. s.faults };
 
     // What each source says.
@@ -175,7 +177,9 @@ impl Source for MemoryShelf {
         ensures is_open { self.new.is_open ≡ self.old.is_open }
         ensures files { Some self.new.files ≡ Some self.old.files }
         ensures opens { self.new.opens ≡ self.old.opens }
+        ensures reads { Appended HasRead self.old self.new (read_call (length into.old) result ∷ []) }
         ensures faults { self.old.faults ≤ self.new.faults }
+        ensures quiet { OnOk result (self.new.faults ≡ self.old.faults) }
         ensures cause { OnErr result (Rose self.old.faults self.new.faults) }
 
         // Which calls fail, how many bytes one gives, and all that it changes.
@@ -197,7 +201,9 @@ impl Shelf for MemoryShelf {
         ensures is_open { self.new.is_open ≡ is_ok result }
         ensures files { Some self.new.files ≡ Some self.old.files }
         ensures opens { self.new.opens ≡ raised self.old.opens }
+        ensures reads { IsKept HasRead self.old self.new }
         ensures faults { self.old.faults ≤ self.new.faults }
+        ensures quiet { OnOk result (self.new.faults ≡ self.old.faults) }
         ensures cause { OnErr result (MayRefuse (Some self.old.files) name.now self.old.faults self.new.faults) }
 
         // Which calls succeed, which raise the count of faults, and all that one changes.

@@ -71,6 +71,7 @@ impl MemorySink {
         ensures answer { is_err result ≡ (fails_after self.old.failing self.old.calls || length self.old.bytes == self.old.room) }
         ensures faults { self.old.faults ≤ self.new.faults }
         ensures free { OnOk result (length self.old.bytes < self.old.room) }
+        ensures quiet { OnOk result (self.new.faults ≡ self.old.faults) }
         ensures state { self.new ≡ record self.old {
           calls = raised self.old.calls;
           faults = (if fails_after self.old.failing self.old.calls || length self.old.bytes == self.old.room then raised self.old.faults else self.old.faults);
@@ -112,6 +113,7 @@ impl Sink for MemorySink {
         ensures appended { IfOk result (λ n. Appended (λ s w. w ≡ s.bytes) self.old self.new (take n bytes.now)) }
         ensures kept { OnErr result (IsKept (λ s w. w ≡ s.bytes) self.old self.new) }
         ensures faults { self.old.faults ≤ self.new.faults }
+        ensures quiet { OnOk result (self.new.faults ≡ self.old.faults) }
         ensures cause { OnErr result (Rose self.old.faults self.new.faults) }
 
         // Which calls fail, how many bytes one takes, and all that it changes.

@@ -1,6 +1,7 @@
 // The ends over the real system. They tell nothing of content.
-ghost use Rattle.std.specs.Prelude.{◌≡◌, ◌<◌, ◌≤◌, ⊤, None, false, length, IfOk, OnErr, is_some};
-ghost use Rattle.ecam_io.specs.Outside.{Rose};
+ghost use Rattle.std.specs.Prelude.{◌≡◌, ◌<◌, ◌≤◌, ⊤, None, false, take, length, IfOk, OnOk, OnErr, is_some};
+ghost use Rattle.std.specs.Io.KnownBytes.{Appends, Consumes, IsAtEnd, Keeps};
+ghost use Rattle.ecam_io.specs.Outside.{raised};
 
 use crate::{Failed, Shelf, Sink, Source};
 use std::fs::File;
@@ -26,48 +27,52 @@ impl Read for Opened {
     }
 }
 
-// Reads once, or again where a signal broke the read off. Each error raises the count.
-fn read_counted<R: Read>(from: &mut R, faults: &mut u64, into: &mut [u8]) -> Result<usize, Failed>
+// Reads once, or again where a signal broke the read off. It gives up at any other error, and after so many tries, and
+// counts that alone.
+pub(crate) fn read_counted<R: Read>(
+    from: &mut R,
+    faults: &mut u64,
+    into: &mut [u8],
+) -> Result<usize, Failed>
+    requires { 0 < length into.old }
     ensures bound { IfOk result (λ n. n ≤ length into.old) }
+    ensures moved { IfOk result (λ n. Consumes (R.remaining from.old) (R.remaining from.new) (take n into.new)) }
+    ensures end { IfOk result (λ n. n ≡ 0 → IsAtEnd (R.remaining from.new)) }
+    ensures kept { OnErr result (Keeps (R.remaining from.old) (R.remaining from.new)) }
     ensures faults { faults.old ≤ faults.new }
-    ensures cause { OnErr result (Rose faults.old faults.new) }
+    ensures quiet { OnOk result (faults.new ≡ faults.old) }
+    ensures counted { OnErr result (faults.new ≡ raised faults.old) }
 {
     for _try in 0..TRIES {
         match from.read(into) {
             Ok(n) => return Ok(n),
-            Err(e) => {
-                *faults = faults.saturating_add(1);
-                if e.kind() != ErrorKind::Interrupted {
-                    return Err(Failed);
-                }
-            }
+            Err(e) if e.kind() == ErrorKind::Interrupted => {}
+            Err(_) => break,
         }
     }
+    *faults = faults.saturating_add(1);
     Err(Failed)
 }
 
-// Writes once, or again where a signal broke the write off. Each error, and a write that takes nothing, raises the count.
+// Writes once, or again where a signal broke the write off. It gives up at any other error, where nothing is taken, and
+// after so many tries, and counts that alone.
 fn write_counted<W: Write>(to: &mut W, faults: &mut u64, bytes: &[u8]) -> Result<usize, Failed>
     ensures some { IfOk result (λ n. 0 < n) }
     ensures bound { IfOk result (λ n. n ≤ length bytes.now) }
+    ensures appended { IfOk result (λ n. Appends (W.contents to.old) (W.contents to.new) (take n bytes.now)) }
     ensures faults { faults.old ≤ faults.new }
-    ensures cause { OnErr result (Rose faults.old faults.new) }
+    ensures quiet { OnOk result (faults.new ≡ faults.old) }
+    ensures counted { OnErr result (faults.new ≡ raised faults.old) }
 {
     for _try in 0..TRIES {
         match to.write(bytes) {
-            Ok(0) => {
-                *faults = faults.saturating_add(1);
-                return Err(Failed);
-            }
+            Ok(0) => break,
             Ok(n) => return Ok(n),
-            Err(e) => {
-                *faults = faults.saturating_add(1);
-                if e.kind() != ErrorKind::Interrupted {
-                    return Err(Failed);
-                }
-            }
+            Err(e) if e.kind() == ErrorKind::Interrupted => {}
+            Err(_) => break,
         }
     }
+    *faults = faults.saturating_add(1);
     Err(Failed)
 }
 

@@ -1,8 +1,10 @@
 use super::*;
+use crate::os::read_counted;
 use std::alloc::{AllocError, Global};
 use std::fmt::Write as _;
+use std::io::ErrorKind;
 use std::test::Fail;
-use std::{env, fs, process};
+use std::{env, fs, io, process};
 
 #[derive(Clone, Copy)]
 enum Step {
@@ -113,6 +115,59 @@ fn all_is_put_in_pieces(rt: HostRuntime) -> Result<(), Fail> {
 }
 
 #[test]
+fn a_sink_that_drops_all(rt: HostRuntime) {
+    let mut sink = Discard;
+    for text in ["", "a", "@1\nL1 -\n"] {
+        assert_eq!(rt; put_all(&mut sink, text.as_bytes()), Ok(()), "{text}");
+    }
+}
+
+// What is written to a tally, one text after the other, and its four numbers after each.
+const WRITTEN: [(&str, (u64, u64, u64, bool)); 8] = [
+    ("", (0, 0, 0, true)),
+    ("@0\n", (3, 1, 1, true)),
+    ("L1 A HYD G RSVR LO LVL\n", (26, 2, 1, true)),
+    ("FL @ @\n", (33, 3, 1, true)),
+    ("@", (34, 3, 2, false)),
+    ("@7\n\n", (38, 5, 2, true)),
+    ("\n@9\n@", (43, 7, 4, false)),
+    ("END 10\n", (50, 8, 4, true)),
+];
+
+#[test]
+fn a_sink_that_counts(rt: HostRuntime) {
+    let mut tally = Tally::new();
+    for (text, (bytes, lines, blocks, fresh)) in WRITTEN {
+        assert_eq!(rt; put_all(&mut tally, text.as_bytes()), Ok(()), "{text}");
+        let want = Tally {
+            bytes,
+            lines,
+            blocks,
+            fresh,
+        };
+        assert_eq!(rt; tally, want, "{text}");
+    }
+}
+
+#[test]
+fn counts_that_end(rt: HostRuntime) {
+    let mut tally = Tally {
+        bytes: u64::MAX - 2,
+        lines: u64::MAX - 1,
+        blocks: u64::MAX,
+        fresh: true,
+    };
+    assert_eq!(rt; put_all(&mut tally, b"@1\n\n"), Ok(()));
+    let want = Tally {
+        bytes: u64::MAX,
+        lines: u64::MAX,
+        blocks: u64::MAX,
+        fresh: true,
+    };
+    assert_eq!(rt; tally, want);
+}
+
+#[test]
 fn the_system(rt: HostRuntime) -> Result<(), Fail> {
     let mut path = env::temp_dir(&rt)?.into_string();
     write!(path, "/ecam_io_test_{}", process::id(rt.process()))?;
@@ -136,4 +191,30 @@ fn the_system(rt: HostRuntime) -> Result<(), Fail> {
         Ok(())
     );
     Ok(())
+}
+
+// A reader that a signal breaks off so often before it gives its bytes.
+#[derive(Drop)]
+struct Interrupted {
+    times: u8,
+}
+
+impl io::Read for Interrupted {
+    fn read(&mut self, into: &mut [u8]) -> io::Result<usize> {
+        if self.times > 0 {
+            self.times -= 1;
+            return Err(io::Error::from(ErrorKind::Interrupted));
+        }
+        Ok(into.len().min(3))
+    }
+}
+
+#[test]
+fn a_call_that_a_signal_breaks_off(rt: HostRuntime) {
+    for (times, answer, counted) in [(0, Ok(3), 7), (63, Ok(3), 7), (64, Err(Failed), 8)] {
+        let mut faults = 7;
+        let mut into = [0u8; 8];
+        let got = read_counted(&mut Interrupted { times }, &mut faults, &mut into);
+        assert_eq!(rt; (got, faults), (answer, counted), "{times}");
+    }
 }

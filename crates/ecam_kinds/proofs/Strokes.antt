@@ -1,15 +1,16 @@
 -- One more stroke, and one more moment, against the definitions of pressed and held.
-use Rattle.std.proofs.Common.{◌≡◌, ℕ, zero, suc, ◌<◌, ◌≤◌, Bool, true, false, not, ◌&&◌, ◌||◌, List, [], ◌∷◌, ◌++◌, Option, Some, None, cond, get_or, replicate, refl, sym, ap, ◌∙◌, arith}
-use Rattle.std.specs.Prelude.{unwrap_or, is_none, if◌then◌else◌}
+use Rattle.std.proofs.Common.{◌≡◌, ℕ, zero, suc, Bool, true, false, not, ◌&&◌, ◌||◌, List, [], ◌∷◌, ◌++◌, Option, Some, None, cond, get_or, replicate, refl, sym, ap, ◌∙◌, arith}
+use Rattle.std.specs.Prelude.{unwrap_or, is_none}
 use Rattle.std.specs.List.{list_any}
 use Rattle.std.specs.Option.{option_or}
 use Rattle.ecam_spec.specs.declared.kinds.Key.{Key}
 use Rattle.ecam_spec.specs.Past.{Signal, since}
-use Rattle.ecam_spec.specs.History.{Stroke}
+use Rattle.ecam_spec.specs.History.{Stroke, OneMore}
 use Rattle.ecam_spec.specs.Keys.{same_key, last_stroke, pressed, held}
-use Rattle.ecam_spec.proofs.PastSteps.{since-zero, since-suc, since-below}
+use Rattle.ecam_spec.proofs.PastSteps.{since-zero, since-suc}
+use Rattle.ecam_spec.proofs.PastAgree.{since-below}
 use Rattle.ecam_kinds.specs.declared.keys.Keys.{Keys}
-use Rattle.ecam_kinds.specs.KeyState.{IsKey, is_pressed, is_held, KeysStand, GoesOn}
+use Rattle.ecam_kinds.specs.KeyState.{IsKey, is_pressed, is_held, KeysStand}
 
 any-push : {X : Type 0} (p : X → Bool) (xs : List X) (x : X) → list_any p (xs ++ x ∷ []) ≡ (p x || list_any p xs)
 any-push p [] x = refl
@@ -34,7 +35,7 @@ abbrev went_down : Option Bool → Bool
 went_down o = unwrap_or o false
 
 -- one more stroke in the moment that hasn't ended
-module _ (s t : ℕ → List Stroke) (k : ℕ) (x : Stroke) (on : GoesOn s t k x) (key : Key) where
+module _ (s t : ℕ → List Stroke) (k : ℕ) (x : Stroke) (on : OneMore s t k x) (key : Key) where
   pressed-push : pressed t key k ≡ ((same_key key x.key && x.down) || pressed s key k)
   unfolding pressed
   pressed-push = ap (list_any (λ s. same_key key s.key && s.down)) on.now ∙ any-push (λ s. same_key key s.key && s.down) (s k) x
@@ -52,7 +53,7 @@ begun : (b d : Bool) (o : Option Bool) → went_down (cond b (Some d) o) ≡ con
 begun true d o = refl
 begun false d o = refl
 
-held-push : (s t : ℕ → List Stroke) (k : ℕ) (x : Stroke) → GoesOn s t k x → (key : Key) → held t key k ≡ cond (same_key key x.key) x.down (held s key k)
+held-push : (s t : ℕ → List Stroke) (k : ℕ) (x : Stroke) → OneMore s t k x → (key : Key) → held t key k ≡ cond (same_key key x.key) x.down (held s key k)
 unfolding held
 held-push s t zero x on key =
     since-zero (λ j. went_down (last_stroke key (t j))) (λ j. is_none (last_stroke key (t j)))
@@ -63,7 +64,7 @@ held-push s t (suc k) x on key =
     let down : ((ℕ → List Stroke) → Signal) = λ u j. went_down (last_stroke key (u j)) in
     let none : ((ℕ → List Stroke) → Signal) = λ u j. is_none (last_stroke key (u j)) in
     let before : since (down t) (none t) k ≡ since (down s) (none s) k =
-    since-below (down t) (none t) (down s) (none s) k
+    since-below (down t) (down s) (none t) (none s) k
     (λ i h. ap (λ ss. went_down (last_stroke key ss)) (on.before i (omega arith)))
     (λ i h. ap (λ ss. is_none (last_stroke key ss)) (on.before i (omega arith))) in
     since-suc (down t) (none t) k
@@ -73,7 +74,7 @@ held-push s t (suc k) x on key =
     ∙ ap (cond (same_key key x.key) x.down) (sym (since-suc (down s) (none s) k))
 
 -- the keys stand for one more stroke
-pub stroke_stands : (s t : ℕ → List Stroke) (k : ℕ) (x : Stroke) (old new : Keys) → GoesOn s t k x
+pub stroke_stands : (s t : ℕ → List Stroke) (k : ℕ) (x : Stroke) (old new : Keys) → OneMore s t k x
     → ((q : Key) → IsKey q → is_pressed new q ≡ ((same_key q x.key && x.down) || is_pressed old q))
     → ((q : Key) → IsKey q → is_held new q ≡ cond (same_key q x.key) x.down (is_held old q))
     → KeysStand s k old → KeysStand t k new

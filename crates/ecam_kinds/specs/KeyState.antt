@@ -1,5 +1,5 @@
 -- What the program knows of the keys, and when that is what the definitions say of the strokes so far.
-use Rattle.std.specs.Prelude.{◌≡◌, ℕ, ◌<◌, ◌≤◌, Bool, false, List, [], ◌∷◌, ◌++◌, slice_index_or}
+use Rattle.std.specs.Prelude.{◌≡◌, ℕ, Bool, false, List, slice_index_or}
 use Rattle.ecam_spec.specs.declared.kinds.Key.{Key}
 use Rattle.ecam_spec.specs.History.{Stroke}
 use Rattle.ecam_spec.specs.Keys as spec
@@ -17,8 +17,3 @@ is_held keys key = slice_index_or keys.held (spec.key_number key) false
 pub record KeysStand (strokes : ℕ → List Stroke) (k : ℕ) (keys : Keys) : Type 0 where
   pub pressed : (key : Key) → IsKey key → is_pressed keys key ≡ spec.pressed strokes key k
   pub held : (key : Key) → IsKey key → is_held keys key ≡ spec.held strokes key k
-
--- the strokes of moment k go on with one more, and those of the moments before are the same
-pub record GoesOn (old new : ℕ → List Stroke) (k : ℕ) (stroke : Stroke) : Type 0 where
-  pub before : (i : ℕ) → i < k → new i ≡ old i
-  pub now : new k ≡ old k ++ stroke ∷ []

@@ -1,9 +1,9 @@
 // The keys of the control panel: which were pressed in this moment, and which are held.
 ghost use Rattle.std.specs.Prelude.{◌≡◌, ℕ, ◌<◌, ◌||◌, ◌&&◌, Bool, true, false, not, List, [], suc};
-ghost use Rattle.ecam_spec.specs.History.{Stroke};
+ghost use Rattle.ecam_spec.specs.History.{Stroke, OneMore};
 ghost use Rattle.ecam_spec.specs.Keys.{same_key, key_number};
 ghost use Rattle.ecam_spec.specs.declared.kinds.Key.{Key};
-ghost use Rattle.ecam_kinds.specs.KeyState.{IsKey, is_pressed, is_held, KeysStand, GoesOn};
+ghost use Rattle.ecam_kinds.specs.KeyState.{IsKey, is_pressed, is_held, KeysStand};
 
 use ecam_spec::Key;
 
@@ -32,7 +32,7 @@ impl Keys {
         requires { IsKey key }
         ensures pressed { (q : Key) → IsKey q → is_pressed self.new q ≡ (same_key q key || is_pressed self.old q) }
         ensures held { (q : Key) → IsKey q → is_held self.new q ≡ (same_key q key || is_held self.old q) }
-        ensures stands { (old new : ℕ → List Stroke) (k : ℕ) → GoesOn old new k (record { key = key; down = true })
+        ensures stands { (old new : ℕ → List Stroke) (k : ℕ) → OneMore old new k (record { key = key; down = true })
             → KeysStand old k self.old → KeysStand new k self.new }
     {
         self.set_down(key);
@@ -43,7 +43,7 @@ impl Keys {
         requires { IsKey key }
         ensures pressed { (q : Key) → IsKey q → is_pressed self.new q ≡ is_pressed self.old q }
         ensures held { (q : Key) → IsKey q → is_held self.new q ≡ (not (same_key q key) && is_held self.old q) }
-        ensures stands { (old new : ℕ → List Stroke) (k : ℕ) → GoesOn old new k (record { key = key; down = false })
+        ensures stands { (old new : ℕ → List Stroke) (k : ℕ) → OneMore old new k (record { key = key; down = false })
             → KeysStand old k self.old → KeysStand new k self.new }
     {
         self.set_up(key);

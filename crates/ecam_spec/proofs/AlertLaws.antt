@@ -1,14 +1,16 @@
 -- What follows for an alert's life from its definitions.
 use Rattle.std.proofs.Common.{◌≡◌, ℕ, zero, suc, ◌≤◌, Bool, true, false, not, ◌&&◌, ◌||◌, refl, ◌∙◌, ap}
+use Rattle.std.proofs.lemmas.Bool.{and_parts}
 use Rattle.ecam_spec.specs.Past.{Signal, since}
 use Rattle.ecam_spec.specs.Term.{latch}
 use Rattle.ecam_spec.specs.Alert.{present, active}
-use Rattle.ecam_spec.proofs.PastSteps.{since-zero, since-suc, since-below}
-use Rattle.ecam_spec.proofs.PastLaws.{and-left, since-implies}
+use Rattle.ecam_spec.proofs.PastSteps.{since-zero, since-suc}
+use Rattle.ecam_spec.proofs.PastAgree.{since-below}
+use Rattle.ecam_spec.proofs.PastLaws.{since-implies}
 
-free-begin : (p i : Bool) → i ≡ false → (p && not i) ≡ p
-free-begin true i e = ap not e
-free-begin false i e = refl
+free-start : (p i : Bool) → i ≡ false → (p && not i) ≡ p
+free-start true i e = ap not e
+free-start false i e = refl
 
 free-step : (p i s : Bool) → i ≡ false → ((p && not i) || (p && s)) ≡ p
 free-step true i s e = rw e refl
@@ -17,7 +19,7 @@ free-step false i s e = refl
 pub active_uninhibited : (inhibited present : Signal) (k : ℕ) → inhibited k ≡ false → active inhibited present k ≡ present k
 unfolding active
 active_uninhibited inhibited present zero free =
-    since-zero (λ j. present j && not (inhibited j)) present ∙ free-begin (present 0) (inhibited 0) free
+    since-zero (λ j. present j && not (inhibited j)) present ∙ free-start (present 0) (inhibited 0) free
 active_uninhibited inhibited present (suc k) free =
     since-suc (λ j. present j && not (inhibited j)) present k
     ∙ free-step (present (suc k)) (inhibited (suc k)) (since (λ j. present j && not (inhibited j)) present k) free
@@ -38,7 +40,7 @@ pub active_present : (inhibited present : Signal) (k : ℕ) → active inhibited
 unfolding active
 active_present inhibited present k h =
     since-implies (λ j. present j && not (inhibited j)) present (present k) k
-    (λ e. and-left (present k) (not (inhibited k)) e) (λ e. e) h
+    (λ e. (and_parts (present k) (not (inhibited k)) e).0) (λ e. e) h
 
 -- where the two never meet, the reset of the same moment needn't be asked
 apart-step : (s r : Bool) → (s && r) ≡ false → (s && not r) ≡ s
@@ -47,7 +49,7 @@ apart-step false r e = refl
 
 pub latch_apart : (s r : Signal) (k : ℕ) → ((i : ℕ) → i ≤ k → (s i && r i) ≡ false) → latch s r k ≡ since s (λ i. not (r i)) k
 latch_apart s r k apart =
-    since-below (λ i. s i && not (r i)) (λ i. not (r i)) s (λ i. not (r i)) k
+    since-below (λ i. s i && not (r i)) s (λ i. not (r i)) (λ i. not (r i)) k
     (λ i h. apart-step (s i) (r i) (apart i h)) (λ i h. refl)
 
 latch-step : (s r l : Bool) → ((s && not r) || (not r && l)) ≡ (not r && (s || l))

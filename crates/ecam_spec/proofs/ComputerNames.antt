@@ -3,6 +3,7 @@
 use Rattle.std.proofs.Common.{◌≡◌, ℕ, zero, suc, Bool, true, false, ◌||◌, ◌⊎◌, inl, inr, List, [], ◌∷◌, ◌++◌, map, get_or, refl, sym, ◌∙◌, ap}
 use Rattle.std.specs.List.{list_any}
 use Rattle.std.proofs.lemmas.List.Folds.{list_any-append}
+use Rattle.std.proofs.lemmas.Bool.{or_parts}
 use Rattle.ecam_spec.specs.declared.kinds.Key.{Key}
 use Rattle.ecam_spec.specs.Book.{Tree, Trees, constant, discrete, valid, compared, in_phase, alert, press, computer, negation, all, any, at_least, confirmed, held, risen, latched, none, more, Line, Alert, Memo, Book}
 use Rattle.ecam_spec.specs.BookTerms.{terms_of, phase_terms, line_terms, lines_of}
@@ -19,20 +20,12 @@ pub record Alike (v w : World) (i : ℕ) : Type 0 where
   pub active : (a : ℕ) → v.active a i ≡ w.active a i
   pub pressed : (key : Key) → v.pressed key i ≡ w.pressed key i
 
-or-left-false : (a b : Bool) → (a || b) ≡ false → a ≡ false
-or-left-false true b h = h
-or-left-false false b h = refl
-
-or-right-false : (a b : Bool) → (a || b) ≡ false → b ≡ false
-or-right-false true b h = absurd (let w : ⊥ = cc in w)
-or-right-false false b h = h
-
 pub left-part : {U : Type 0} (a b : Bool) → ((a || b) ≡ false) ⊎ U → (a ≡ false) ⊎ U
-left-part a b (inl e) = inl (or-left-false a b e)
+left-part a b (inl e) = inl ((or_parts a b e).0)
 left-part a b (inr u) = inr u
 
 pub right-part : {U : Type 0} (a b : Bool) → ((a || b) ≡ false) ⊎ U → (b ≡ false) ⊎ U
-right-part a b (inl e) = inl (or-right-false a b e)
+right-part a b (inl e) = inl ((or_parts a b e).1)
 right-part a b (inr u) = inr u
 
 pub map-left : {A B U : Type 0} → (A → B) → A ⊎ U → B ⊎ U
@@ -76,8 +69,8 @@ module _ (v w : World) (i : ℕ) (alike : Alike v w i) where
 -- what no condition of a list asks for, no one of them does
 pub any-at : {X : Type 0} (p : X → Bool) (xs : List X) (i : ℕ) (d : X) → list_any p xs ≡ false → p d ≡ false → p (get_or xs i d) ≡ false
 any-at p [] i d h e = e
-any-at p (x ∷ xs) zero d h e = or-left-false (p x) (list_any p xs) h
-any-at p (x ∷ xs) (suc i) d h e = any-at p xs i d (or-right-false (p x) (list_any p xs) h) e
+any-at p (x ∷ xs) zero d h e = (or_parts (p x) (list_any p xs) h).0
+any-at p (x ∷ xs) (suc i) d h e = any-at p xs i d ((or_parts (p x) (list_any p xs) h).1) e
 
 -- whether a condition, and a procedure line, asks for a computer
 abbrev pub asks : Tree → Bool

@@ -6,9 +6,10 @@ use Rattle.std.proofs.lemmas.List.{length-map, take-append-le, take_all}
 use Rattle.std.proofs.lemmas.List.Sums.{sum_by-cons}
 use Rattle.std.proofs.lemmas.Bool.{cases_lt}
 use Rattle.std.proofs.Math.Seq.{take-length}
+use Rattle.std.proofs.Math.Bool.{and-false}
 use Rattle.ecam_spec.specs.declared.kinds.Event.{Event}
 use Rattle.ecam_spec.specs.declared.kinds.Event.TheVariants.{Word, Tick, Press, Release, Fail, Up, End}
-use Rattle.ecam_spec.specs.Past.{next}
+use Rattle.ecam_spec.specs.Past.{moment_after}
 use Rattle.ecam_spec.specs.Book.{Book}
 use Rattle.ecam_spec.specs.Computers.{names_computer, without_failures}
 use Rattle.ecam_spec.specs.History.{both_up, none_up, flags_with, flags_after, comes_up, changes_computers, begins_era, era_place, Moment, Era, empty_era, era_with, era}
@@ -16,7 +17,6 @@ use Rattle.ecam_spec.specs.Picture.{Picture, dead}
 use Rattle.ecam_spec.specs.Output.{block, blocks, picture_before}
 use Rattle.ecam_spec.specs.Screen.{picture_in}
 use Rattle.ecam_spec.specs.Replay.{is_tick, tick_count, through, moment_of, picture_at, picture, history_blocks}
-use Rattle.ecam_spec.proofs.PastLaws.{and-false}
 use Rattle.ecam_spec.proofs.Nowhere.{last-nowhere, get_or-mapped}
 use Rattle.ecam_spec.proofs.HistoryLaws.{era_flags}
 use Rattle.ecam_spec.proofs.ComputerNames.{any-at}
@@ -69,7 +69,7 @@ strip-fold e (x ∷ h) =
 -- a history in which no era begins is one era
 one-era : (h : List Event) → ((i : ℕ) → begins_era h i ≡ false) → era h ≡ fold era_with (empty_era both_up) h
 unfolding era era_place flags_after
-one-era h never = ap (λ o. fold era_with (empty_era (fold flags_with both_up (take (next o) h))) (drop (next o) h)) (last-nowhere (begins_era h) (length h) never)
+one-era h never = ap (λ o. fold era_with (empty_era (fold flags_with both_up (take (moment_after o) h))) (drop (moment_after o) h)) (last-nowhere (begins_era h) (length h) never)
 
 -- one computer is up after each event
 abbrev StaysUp : List Event → Type 0

@@ -1,58 +1,21 @@
 -- One more event: what it does to the flags, to the era and to its moments.
-use Rattle.std.proofs.Common.{◌≡◌, ℕ, zero, suc, ◌<◌, ◌≤◌, Bool, true, false, ◌&&◌, inl, inr, List, [], ◌∷◌, ◌++◌, length, get_or, take, drop, Option, Some, None, refl, sym, ◌∙◌, ap, arith}
+use Rattle.std.proofs.Common.{◌≡◌, ℕ, suc, ◌<◌, ◌≤◌, Bool, true, false, ◌&&◌, inl, inr, List, [], ◌∷◌, ◌++◌, length, get_or, take, drop, refl, sym, ◌∙◌, ap, cond, arith}
 use Rattle.std.specs.Prelude.{fold}
 use Rattle.std.proofs.lemmas.List.{length-append, get_or_append_left, get_or_at, take-append-le, drop-append-le, take-append-drop, get_or_past}
 use Rattle.std.proofs.lemmas.List.Sums.{fold-append}
 use Rattle.std.proofs.Math.Seq.{take-length, drop-length}
 use Rattle.std.proofs.Math.Nat.{eq-or-lt_of_le}
+use Rattle.std.proofs.lemmas.Bool.{and_parts}
 use Rattle.ecam_spec.specs.declared.kinds.Event.{Event}
 use Rattle.ecam_spec.specs.declared.kinds.Event.TheVariants.{Word, Tick, Press, Release, Fail, Up, End}
-use Rattle.ecam_spec.specs.Past.{Signal, last, next}
-use Rattle.ecam_spec.specs.History.{both_up, none_up, flags_with, flags_after, comes_up, begins_era, era_place, Era, empty_era, era_with, era}
+use Rattle.ecam_spec.specs.Past.{last, moment_after}
+use Rattle.ecam_spec.specs.History.{Flags, both_up, none_up, flags_with, flags_after, comes_up, begins_era, era_place, Era, empty_era, era_with, era, begun}
+use Rattle.ecam_spec.proofs.PastSteps.{last-here, last-skip, last-before}
+use Rattle.ecam_spec.proofs.PastAgree.{last-below}
 
 pub flags_step : (h : List Event) (e : Event) → flags_after (h ++ e ∷ []) ≡ flags_with (flags_after h) e
 unfolding flags_after
 flags_step h e = fold-append flags_with both_up h (e ∷ [])
-
--- signals that agree up to now have the same last moment
-pub last-below : (p q : Signal) (k : ℕ) → ((i : ℕ) → i ≤ k → p i ≡ q i) → last p k ≡ last q k
-unfolding last
-last-below p q zero same = ap (λ b. elim b [ true ↦ Some 0 | false ↦ None ]) (same 0 (omega arith))
-last-below p q (suc k) same =
-    ap (λ b. elim b [ true ↦ Some (suc k) | false ↦ last p k ]) (same (suc k) (omega arith))
-    ∙ ap (λ o. elim (q (suc k)) [ true ↦ Some (suc k) | false ↦ o ]) (last-below p q k (λ i h. same i (omega arith)))
-
-pub last-now : (p : Signal) (k : ℕ) → p k ≡ true → last p k ≡ Some k
-unfolding last
-last-now p zero h = ap (λ b. elim b [ true ↦ Some 0 | false ↦ None ]) h
-last-now p (suc k) h = ap (λ b. elim b [ true ↦ Some (suc k) | false ↦ last p k ]) h
-
--- the last moment isn't later than now
-next-by : (b : Bool) (k : ℕ) (o : Option ℕ) → next o ≤ k → next (elim b [ true ↦ Some k | false ↦ o ]) ≤ suc k
-next-by true k o h = omega arith
-next-by false k o h = omega arith
-
-last-upto : (p : Signal) (k : ℕ) → next (last p k) ≤ suc k
-unfolding last
-last-upto p zero = next-by (p 0) 0 None (omega arith)
-last-upto p (suc k) = next-by (p (suc k)) (suc k) (last p k) (last-upto p k)
-
-before-step : (b : Bool) (k : ℕ) (o : Option ℕ) → b ≡ false → next o ≤ k → next (elim b [ true ↦ Some k | false ↦ o ]) ≤ k
-before-step true k o e h = absurd (let w : ⊥ = cc in w)
-before-step false k o e h = h
-
-pub last-before : (p : Signal) (k : ℕ) → p k ≡ false → next (last p k) ≤ k
-unfolding last
-last-before p zero e = before-step (p 0) 0 None e (omega arith)
-last-before p (suc k) e = before-step (p (suc k)) (suc k) (last p k) e (last-upto p k)
-
-skip-step : (b : Bool) (k : ℕ) (o : Option ℕ) → b ≡ false → elim b [ true ↦ Some k | false ↦ o ] ≡ o
-skip-step true k o e = absurd (let w : ⊥ = cc in w)
-skip-step false k o e = refl
-
-pub last-skip : (p : Signal) (k : ℕ) → p (suc k) ≡ false → last p (suc k) ≡ last p k
-unfolding last
-last-skip p k e = skip-step (p (suc k)) (suc k) (last p k) e
 
 -- no era begins past the end of a history
 ends-false : (h : List Event) (i : ℕ) → length h ≤ i → begins_era h i ≡ false
@@ -89,7 +52,7 @@ place-within h = last-before (begins_era h) (length h) (ends-false h (length h) 
 place-stays : (h : List Event) (e : Event) → (comes_up e && none_up (flags_after h)) ≡ false → era_place (h ++ e ∷ []) ≡ era_place h
 unfolding era_place
 place-stays h e goes =
-    ap next
+    ap moment_after
     (last-snoc h e
     ∙ last-below (begins_era (h ++ e ∷ [])) (begins_era h) (length h)
     (λ i within.
@@ -101,7 +64,7 @@ place-stays h e goes =
 place-begins : (h : List Event) (e : Event) → (comes_up e && none_up (flags_after h)) ≡ true → era_place (h ++ e ∷ []) ≡ length (h ++ e ∷ [])
 unfolding era_place
 place-begins h e comes =
-    ap next (last-snoc h e ∙ last-now (begins_era (h ++ e ∷ [])) (length h) (at-end h e ∙ comes)) ∙ sym (length-snoc h e)
+    ap moment_after (last-snoc h e ∙ last-here (begins_era (h ++ e ∷ [])) (length h) (at-end h e ∙ comes)) ∙ sym (length-snoc h e)
 
 -- an event belongs to the era of the history before it
 pub era_goes_on : (h : List Event) (e : Event) → (comes_up e && none_up (flags_after h)) ≡ false → era (h ++ e ∷ []) ≡ era_with (era h) e
@@ -145,3 +108,35 @@ era_flags h =
 pub era_nil : era [] ≡ empty_era both_up
 unfolding era era_place flags_after begins_era last
 era_nil = refl
+
+-- ---- the era into which an event goes
+
+comes-empty : (f : Flags) (x : Event) → comes_up x ≡ true → era_with (empty_era f) x ≡ empty_era (flags_with f x)
+unfolding era_with flags_with
+comes-empty f (Up n) e = refl
+comes-empty f (Word b w) e = absurd (let w : ⊥ = cc in w)
+comes-empty f Tick e = absurd (let w : ⊥ = cc in w)
+comes-empty f (Press k) e = absurd (let w : ⊥ = cc in w)
+comes-empty f (Release k) e = absurd (let w : ⊥ = cc in w)
+comes-empty f (Fail n) e = absurd (let w : ⊥ = cc in w)
+comes-empty f End e = absurd (let w : ⊥ = cc in w)
+
+next-by-case : (h : List Event) (x : Event) (b : Bool) → (comes_up x && none_up (flags_after h)) ≡ b → era (h ++ x ∷ []) ≡ era_with (cond b (empty_era (flags_after h)) (era h)) x
+next-by-case h x true comes =
+    era_begins h x comes ∙ ap empty_era (flags_step h x)
+    ∙ sym (comes-empty (flags_after h) x ((and_parts (comes_up x) (none_up (flags_after h)) comes).0))
+next-by-case h x false goes = era_goes_on h x goes
+
+-- one more event goes into the era in which it finds the history
+pub era_next : (h : List Event) (x : Event) → era (h ++ x ∷ []) ≡ era_with (begun h x) x
+unfolding begun
+era_next h x = next-by-case h x (comes_up x && none_up (flags_after h)) refl
+
+flags-begun : (h : List Event) (b : Bool) → (cond b (empty_era (flags_after h)) (era h)).open_moment.flags ≡ flags_after h
+flags-begun h true = refl
+flags-begun h false = era_flags h
+
+-- which computers are up then
+pub flags_next : (h : List Event) (x : Event) → (era_with (begun h x) x).open_moment.flags ≡ flags_with (flags_after h) x
+unfolding begun
+flags_next h x = flags-with (begun h x) x ∙ ap (λ f. flags_with f x) (flags-begun h (comes_up x && none_up (flags_after h)))

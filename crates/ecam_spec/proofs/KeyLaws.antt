@@ -1,16 +1,10 @@
 -- What follows for held keys.
-use Rattle.std.proofs.Common.{◌≡◌, ℕ, suc, true, false, ◌&&◌, ◌||◌, List}
+use Rattle.std.proofs.Common.{◌≡◌, ℕ, suc, false, ◌&&◌, ◌||◌, List}
 use Rattle.std.specs.Prelude.{unwrap_or, is_none}
 use Rattle.ecam_spec.specs.declared.kinds.Key.{Key}
-use Rattle.ecam_spec.specs.declared.kinds.Key.TheVariants.{Rcl}
 use Rattle.ecam_spec.specs.History.{Stroke}
-use Rattle.ecam_spec.specs.Keys.{held, long_recall, last_stroke}
+use Rattle.ecam_spec.specs.Keys.{held, last_stroke}
 use Rattle.ecam_spec.proofs.PastSteps.{since-suc}
-use Rattle.ecam_spec.proofs.PastLaws.{historically_within-now}
-
-pub long_recall_held : (strokes : ℕ → List Stroke) (k : ℕ) → long_recall strokes k ≡ true → held strokes Rcl k ≡ true
-unfolding long_recall
-long_recall_held strokes k h = historically_within-now 29 (held strokes Rcl) k h
 
 -- a key stays held while it has no stroke
 pub held_step : (strokes : ℕ → List Stroke) (key : Key) (k : ℕ) → held strokes key (suc k) ≡ (unwrap_or (last_stroke key (strokes (suc k))) false || (is_none (last_stroke key (strokes (suc k))) && held strokes key k))

@@ -6,9 +6,10 @@ use Rattle.std.proofs.lemmas.Bool.{eqb-true, ltb-true}
 use Rattle.std.proofs.lemmas.List.{get_or-take, get_or_append_left, get_or-map, length-map}
 use Rattle.std.proofs.lemmas.List.Sums.{passes_at_first}
 use Rattle.std.proofs.lemmas.List.Folds.{list_any-append}
+use Rattle.std.proofs.Math.Bool.{or-false}
 use Rattle.ecam_spec.specs.Book.{Line, Alert}
 use Rattle.ecam_spec.specs.Picture.{Row, row, blank_row, zone}
-use Rattle.ecam_spec.specs.Crew.{is_number}
+use Rattle.ecam_spec.specs.Crew.{is_alert}
 use Rattle.ecam_spec.specs.LeftZone.{LeftRow, plain, title_colour, alert_rows, left_rows, left_zone, title_row}
 use Rattle.ecam_spec.proofs.ListLaws.{mem, is_some-position}
 
@@ -16,16 +17,12 @@ is_some-map : (f : ℕ → ℕ) (o : Option ℕ) → is_some (option_map f o) �
 is_some-map f None = refl
 is_some-map f (Some n) = refl
 
-or-false : (b : Bool) → (b || false) ≡ b
-or-false true = refl
-or-false false = refl
-
 -- no row of a list of plain rows is a title
-no-titles : (a : ℕ) (rows : List Row) → list_any (λ (r : LeftRow). is_number a r.title_of) (map plain rows) ≡ false
+no-titles : (a : ℕ) (rows : List Row) → list_any (λ (r : LeftRow). is_alert a r.title_of) (map plain rows) ≡ false
 no-titles a [] = refl
 no-titles a (r ∷ rows) = no-titles a rows
 
-no-lines : (a : ℕ) (ls : List Line) → list_any (λ (r : LeftRow). is_number a r.title_of) (map (λ (l : Line). plain (row l.colour l.text)) ls) ≡ false
+no-lines : (a : ℕ) (ls : List Line) → list_any (λ (r : LeftRow). is_alert a r.title_of) (map (λ (l : Line). plain (row l.colour l.text)) ls) ≡ false
 no-lines a [] = refl
 no-lines a (l ∷ ls) = no-lines a ls
 
@@ -35,7 +32,7 @@ module _ (stands : Line → Bool) (alerts : ℕ → Alert) where
   joined xs = flat_map (λ a. alert_rows stands a (alerts a)) xs
 
   abbrev pub is_title : ℕ → LeftRow → Bool
-  is_title a r = is_number a r.title_of
+  is_title a r = is_alert a r.title_of
 
   own-title : (a i : ℕ) → list_any (is_title a) (alert_rows stands i (alerts i)) ≡ (a == i)
   unfolding alert_rows
@@ -69,7 +66,7 @@ module _ (stands : Line → Bool) (alerts : ℕ → Alert) where
 
   -- a row that is a title is the title of its alert
   abbrev WellTitled : LeftRow → Type 0
-  WellTitled r = (a : ℕ) → is_number a r.title_of ≡ true → r.row ≡ title_of_alert a
+  WellTitled r = (a : ℕ) → is_alert a r.title_of ≡ true → r.row ≡ title_of_alert a
 
   abbrev EachTitled : List LeftRow → Type 0
   EachTitled [] = Unit {0}

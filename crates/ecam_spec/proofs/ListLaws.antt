@@ -4,12 +4,12 @@ use Rattle.std.specs.Prelude.{filter, count_by, is_some, position}
 use Rattle.std.specs.List.{list_any, position_or_len}
 use Rattle.std.proofs.Math.Dec.{leb-suc-suc}
 use Rattle.std.proofs.Math.Numerals.{one-add}
-use Rattle.std.proofs.lemmas.Bool.{eqb-true, eq-eqb, lt-ltb}
+use Rattle.std.proofs.lemmas.Bool.{eqb-true, eq-eqb, lt-ltb, and_parts}
 use Rattle.std.proofs.lemmas.List.Sums.{sum_by-cons}
 use Rattle.std.proofs.lemmas.List.Folds.{list_any-append}
 use Rattle.std.proofs.lemmas.Map.Views.{any-filter_same}
+use Rattle.std.proofs.Math.Bool.{and-false}
 use Rattle.ecam_spec.specs.Places.{below}
-use Rattle.ecam_spec.proofs.PastLaws.{and-false, and-left, and-right}
 
 -- a number is in a list
 abbrev pub mem : ℕ → List ℕ → Bool
@@ -45,8 +45,8 @@ pub distinct-filter : (p : ℕ → Bool) (xs : List ℕ) → distinct xs ≡ tru
 distinct-filter p [] d = refl
 distinct-filter p (x ∷ xs) d =
     filter-cons (p x) p x xs
-    (mem-filter p x xs ∙ ap (λ b. p x && b) (not-true (mem x xs) (and-left (not (mem x xs)) (distinct xs) d)) ∙ and-false (p x))
-    (distinct-filter p xs (and-right (not (mem x xs)) (distinct xs) d))
+    (mem-filter p x xs ∙ ap (λ b. p x && b) (not-true (mem x xs) ((and_parts (not (mem x xs)) (distinct xs) d).0)) ∙ and-false (p x))
+    (distinct-filter p xs ((and_parts (not (mem x xs)) (distinct xs) d).1))
 
 pub mem-append : (a : ℕ) (xs ys : List ℕ) → mem a (xs ++ ys) ≡ (mem a xs || mem a ys)
 mem-append a xs ys = list_any-append (λ i. a == i) xs ys
@@ -63,9 +63,9 @@ distinct-append [] ys d e apart = e
 distinct-append (x ∷ xs) ys d e apart =
     let fresh : not (mem x (xs ++ ys)) ≡ true =
     ap not (mem-append x xs ys)
-    ∙ head-fresh (mem x xs) (mem x ys) (not-true (mem x xs) (and-left (not (mem x xs)) (distinct xs) d)) (apart x (ap (λ b. b || mem x xs) (eqb-self x))) in
+    ∙ head-fresh (mem x xs) (mem x ys) (not-true (mem x xs) ((and_parts (not (mem x xs)) (distinct xs) d).0)) (apart x (ap (λ b. b || mem x xs) (eqb-self x))) in
     let rest : distinct (xs ++ ys) ≡ true =
-    distinct-append xs ys (and-right (not (mem x xs)) (distinct xs) d) e (λ a h. apart a (later (a == x) (mem a xs) h)) in
+    distinct-append xs ys ((and_parts (not (mem x xs)) (distinct xs) d).1) e (λ a h. apart a (later (a == x) (mem a xs) h)) in
     rw (fresh, rest) refl
 
 not-eq : (a n : ℕ) → a ≢ n → (a == n) ≡ false

@@ -9,7 +9,7 @@ use Rattle.std.proofs.lemmas.Bool.{and_right}
 use Rattle.ecam_spec.specs.declared.kinds.Event.{Event}
 use Rattle.ecam_spec.specs.declared.kinds.Event.TheVariants.{Word, Tick, Press, Release, Fail, Up, End}
 use Rattle.ecam_spec.specs.declared.kinds.Key.{Key}
-use Rattle.ecam_spec.specs.Past.{next}
+use Rattle.ecam_spec.specs.Past.{moment_after}
 use Rattle.ecam_spec.specs.History.{Flags, both_up, none_up, flags_with, flags_after, comes_up, changes_computers, begins_era, era_place, Moment, empty_moment, with_word, with_stroke, Era, empty_era, era_with, era}
 use Rattle.ecam_spec.specs.Replay.{is_tick, moment_of}
 use Rattle.ecam_spec.proofs.Nowhere.{last-nowhere}
@@ -144,7 +144,7 @@ some_up h kept = ap none_up (both_stay_up h kept)
 pub one_era : (h : List Event) → All (λ x. changes_computers x ≡ false) h → era_place h ≡ 0
 unfolding era_place begins_era
 one_era h kept =
-    ap next
+    ap moment_after
     (last-nowhere (begins_era h) (length h)
     (λ i. and_right (comes_up (get_or h i Tick)) _ (some_up (take i h) (All-take (λ x. changes_computers x ≡ false) i h kept))))
 

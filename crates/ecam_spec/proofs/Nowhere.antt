@@ -1,17 +1,12 @@
 -- Signals that are so in no moment, and tests that nothing in a list passes, or everything.
-use Rattle.std.proofs.Common.{◌≡◌, ℕ, zero, suc, ◌+◌, ◌-◌, Bool, true, false, ◌&&◌, List, [], ◌∷◌, ◌++◌, length, get_or, map, Some, None, cond, leb, ltb, refl, sym, ◌∙◌, ap, arith}
+use Rattle.std.proofs.Common.{◌≡◌, ℕ, zero, suc, ◌+◌, ◌-◌, Bool, true, false, ◌&&◌, List, [], ◌∷◌, ◌++◌, length, get_or, map, Some, None, cond, leb, refl, sym, ◌∙◌, ap, arith}
 use Rattle.std.specs.Prelude.{filter, find, flat_map, count_by}
 use Rattle.std.specs.List.{list_any}
-use Rattle.std.proofs.lemmas.Bool.{and_right, or_from, lt-ltb}
+use Rattle.std.proofs.lemmas.Bool.{and_right, or_from, lt-leb, le-leb}
 use Rattle.std.proofs.lemmas.List.Sums.{length-filter}
-use Rattle.ecam_spec.specs.Past.{Signal, once, historically_from, once_from, once_within, historically_within, since, last, run_length}
-use Rattle.ecam_spec.proofs.PastSteps.{last-zero, last-suc}
-use Rattle.ecam_spec.proofs.PastWithin.{historically_within-run, run_length-suc}
-
-pub once-nowhere : (p : Signal) (k : ℕ) → ((i : ℕ) → p i ≡ false) → once p k ≡ false
-unfolding once
-once-nowhere p zero none = none 0
-once-nowhere p (suc k) none = or_from (p (suc k)) (once p k) (none (suc k)) (once-nowhere p k none)
+use Rattle.ecam_spec.specs.Past.{Signal, historically_from, once_from, once_within, historically_within, since, last, start_of}
+use Rattle.ecam_spec.proofs.PastSteps.{once-nowhere, last-zero, last-suc, start_of-off, start_of-on-le}
+use Rattle.ecam_spec.proofs.PastMoments.{historically_within-start}
 
 pub since-nowhere : (p q : Signal) (k : ℕ) → ((i : ℕ) → p i ≡ false) → since p q k ≡ false
 unfolding since
@@ -28,14 +23,12 @@ last-nowhere p zero none = last-zero p ∙ ap (λ b. cond b (Some 0) None) (none
 last-nowhere p (suc k) none =
     last-suc p k ∙ ap (λ b. cond b (Some (suc k)) (last p k)) (none (suc k)) ∙ last-nowhere p k none
 
-run_ends : (b : Bool) (n : ℕ) → ltb 0 (cond b (n + 1) 0) ≡ b
-run_ends true n = lt-ltb 0 (n + 1) (omega arith)
-run_ends false n = refl
-
 -- now, and in none of the moments before
 pub historically_within-zero : (p : Signal) (k : ℕ) → historically_within 0 p k ≡ p k
-historically_within-zero p k =
-    historically_within-run 0 p k ∙ ap (ltb 0) (run_length-suc p k) ∙ run_ends (p k) (run_length p k)
+historically_within-zero p k = historically_within-start 0 p k ∙ by (p k) refl where
+  by : (b : Bool) → p k ≡ b → leb (start_of p k + 0) k ≡ p k
+  by true on = le-leb (start_of p k + 0) k (omega (arith, start_of-on-le p k on)) ∙ sym on
+  by false off = lt-leb (start_of p k + 0) k (omega (arith, start_of-off p k off)) ∙ sym off
 
 module _ {X : Type 0} (p : X → Bool) where
   pub filter-none : ((x : X) → p x ≡ false) → (xs : List X) → filter p xs ≡ []

@@ -4,12 +4,11 @@ use Rattle.std.specs.Prelude.{filter, count_by, is_some}
 use Rattle.std.specs.List.{position_or_len}
 use Rattle.std.proofs.Math.Dec.{leb-suc-suc, leb-suc-zero}
 use Rattle.std.proofs.Math.Numerals.{one-add}
-use Rattle.std.proofs.lemmas.Bool.{eqb-true, le-leb}
+use Rattle.std.proofs.lemmas.Bool.{eqb-true, le-leb, and_parts}
 use Rattle.ecam_spec.specs.Book.{Line, Alert}
 use Rattle.ecam_spec.specs.Picture.{Row, row}
-use Rattle.ecam_spec.specs.Crew.{is_number}
+use Rattle.ecam_spec.specs.Crew.{is_alert}
 use Rattle.ecam_spec.specs.LeftZone.{LeftRow, plain, alert_rows, left_rows, overflow}
-use Rattle.ecam_spec.proofs.PastLaws.{and-left, and-right}
 use Rattle.ecam_spec.proofs.ListLaws.{mem, distinct, not-true, eqb-self, count_by-cons, count_by-agree, true-false}
 use Rattle.ecam_spec.proofs.LeftLaws.{joined}
 
@@ -23,7 +22,7 @@ titles [] = []
 titles (r ∷ rows) = titles-with r.title_of (titles rows)
 
 abbrev title-place : List LeftRow → ℕ → ℕ
-title-place rows a = position_or_len (λ (r : LeftRow). is_number a r.title_of) rows
+title-place rows a = position_or_len (λ (r : LeftRow). is_alert a r.title_of) rows
 
 abbrev is-title : LeftRow → Bool
 is-title r = is_some r.title_of
@@ -40,10 +39,10 @@ count-titles (r ∷ rows) =
     ∙ sym (count-with r.title_of (titles rows))
 
 -- a row before a title moves it one place on
-place-cons : (o : Option ℕ) (c : Row) (rows : List LeftRow) (a : ℕ) → is_number a o ≡ false → title-place (record { row = c; title_of = o } ∷ rows) a ≡ suc (title-place rows a)
+place-cons : (o : Option ℕ) (c : Row) (rows : List LeftRow) (a : ℕ) → is_alert a o ≡ false → title-place (record { row = c; title_of = o } ∷ rows) a ≡ suc (title-place rows a)
 place-cons o c rows a e = ap (λ b. cond (not b) (1 + title-place rows a) 0) e ∙ one-add (title-place rows a)
 
-beyond-cons : (n : ℕ) (o : Option ℕ) (c : Row) (rows : List LeftRow) (a : ℕ) → is_number a o ≡ false → leb (suc n) (title-place (record { row = c; title_of = o } ∷ rows) a) ≡ leb n (title-place rows a)
+beyond-cons : (n : ℕ) (o : Option ℕ) (c : Row) (rows : List LeftRow) (a : ℕ) → is_alert a o ≡ false → leb (suc n) (title-place (record { row = c; title_of = o } ∷ rows) a) ≡ leb n (title-place rows a)
 beyond-cons n o c rows a e = ap (leb (suc n)) (place-cons o c rows a e) ∙ leb-suc-suc n (title-place rows a)
 
 -- a title of its own stands in the first place
@@ -64,7 +63,7 @@ counted-with n c None rows d rest =
     ∙ count_by-agree (λ a. leb n (title-place rows a)) (λ a. leb (suc n) (title-place (record { row = c; title_of = None } ∷ rows) a)) (titles rows)
     (λ a h. sym (beyond-cons n None c rows a refl))
 counted-with n c (Some t) rows d rest =
-    let fresh : mem t (titles rows) ≡ false = not-true (mem t (titles rows)) (and-left (not (mem t (titles rows))) (distinct (titles rows)) d) in
+    let fresh : mem t (titles rows) ≡ false = not-true (mem t (titles rows)) ((and_parts (not (mem t (titles rows))) (distinct (titles rows)) d).0) in
     rest
     ∙ count_by-agree (λ a. leb n (title-place rows a)) (λ a. leb (suc n) (title-place (record { row = c; title_of = Some t } ∷ rows) a)) (titles rows)
     (λ a h. sym (beyond-cons n (Some t) c rows a (other-title t a (titles rows) fresh h)))
@@ -76,7 +75,7 @@ counted-with n c (Some t) rows d rest =
 
 rest-distinct : (o : Option ℕ) (as' : List ℕ) → distinct (titles-with o as') ≡ true → distinct as' ≡ true
 rest-distinct None as' d = d
-rest-distinct (Some a) as' d = and-right (not (mem a as')) (distinct as') d
+rest-distinct (Some a) as' d = (and_parts (not (mem a as')) (distinct as') d).1
 
 -- where no title stands twice, as many titles stand from place n on as alerts have their titles there
 counted : (n : ℕ) (rows : List LeftRow) → distinct (titles rows) ≡ true → count_by is-title (drop n rows) ≡ count_by (λ a. leb n (title-place rows a)) (titles rows)
@@ -96,7 +95,7 @@ memos-plain (m ∷ ms) = memos-plain ms
 
 -- an alert's title stands beyond the seventh row
 abbrev pub stands_beyond : List LeftRow → ℕ → Bool
-stands_beyond rows a = leb 7 (position_or_len (λ (r : LeftRow). is_number a r.title_of) rows)
+stands_beyond rows a = leb 7 (position_or_len (λ (r : LeftRow). is_alert a r.title_of) rows)
 
 module _ (stands : Line → Bool) (alerts : ℕ → Alert) where
   joined-titled : (xs : List ℕ) → titles (joined stands alerts xs) ≡ xs

@@ -1,7 +1,7 @@
 -- Signals that agree up to now agree in every word of past-time logic: what comes later has no bearing.
-use Rattle.std.proofs.Common.{◌≡◌, ℕ, zero, suc, ◌-◌, ◌<◌, ◌≤◌, true, not, ◌&&◌, ◌||◌, Some, None, cond, ltb, leb, refl, sym, ap, ◌∙◌, arith}
-use Rattle.ecam_spec.specs.Past.{Signal, once_from, historically_from, once_within, historically_within, since, previous, rise, last, next, begin_of}
-use Rattle.ecam_spec.proofs.PastSteps.{once-below, historically-below, last-zero, last-suc}
+use Rattle.std.proofs.Common.{◌≡◌, ℕ, zero, suc, ◌+◌, ◌-◌, ◌<◌, ◌≤◌, true, not, ◌&&◌, ◌||◌, Some, None, cond, ltb, leb, refl, sym, ap, ◌∙◌, arith}
+use Rattle.ecam_spec.specs.Past.{Signal, once_from, historically_from, once_within, historically_within, since, previous, rise, last, moment_after, start_of, count_up_to}
+use Rattle.ecam_spec.proofs.PastSteps.{once-below, historically-below, last-zero, last-suc, count_up_to-zero, count_up_to-suc}
 
 pub once_from-below : (j : ℕ) (p q : Signal) (k : ℕ) → ((i : ℕ) → i ≤ k → p i ≡ q i) → once_from j p k ≡ once_from j q k
 unfolding once_from
@@ -44,6 +44,14 @@ last-below p q (suc k) same =
     ∙ ap (λ l. cond (q (suc k)) (Some (suc k)) l) (last-below p q k (λ i h. same i (omega arith)))
     ∙ sym (last-suc q k)
 
-pub begin_of-below : (p q : Signal) (k : ℕ) → ((i : ℕ) → i ≤ k → p i ≡ q i) → begin_of p k ≡ begin_of q k
-unfolding begin_of
-begin_of-below p q k same = ap next (last-below (λ i. not (p i)) (λ i. not (q i)) k (λ i h. ap not (same i h)))
+pub start_of-below : (p q : Signal) (k : ℕ) → ((i : ℕ) → i ≤ k → p i ≡ q i) → start_of p k ≡ start_of q k
+unfolding start_of
+start_of-below p q k same = ap moment_after (last-below (λ i. not (p i)) (λ i. not (q i)) k (λ i h. ap not (same i h)))
+
+pub count_up_to-below : (p q : Signal) (k : ℕ) → ((i : ℕ) → i ≤ k → p i ≡ q i) → count_up_to p k ≡ count_up_to q k
+count_up_to-below p q zero same = count_up_to-zero p ∙ ap (λ b. cond b 1 0) (same 0 (omega arith)) ∙ sym (count_up_to-zero q)
+count_up_to-below p q (suc k) same =
+    count_up_to-suc p k
+    ∙ ap (λ b. cond b (count_up_to p k + 1) (count_up_to p k)) (same (suc k) (omega arith))
+    ∙ ap (λ n. cond (q (suc k)) (n + 1) n) (count_up_to-below p q k (λ i h. same i (omega arith)))
+    ∙ sym (count_up_to-suc q k)

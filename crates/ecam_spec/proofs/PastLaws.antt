@@ -1,26 +1,10 @@
 -- What follows over a stretch of moments: what keeps `since`, what breaks it, and what it says now.
 use Rattle.std.proofs.Common.{◌≡◌, ℕ, zero, suc, ◌<◌, ◌≤◌, Bool, true, false, ◌&&◌, ◌||◌, inl, inr, refl, sym, ◌∙◌, ap, arith, ltb, leb, ◌-◌}
 use Rattle.std.proofs.Math.Nat.{le-suc_iff}
-use Rattle.std.proofs.lemmas.Bool.{le-ltb}
+use Rattle.std.proofs.lemmas.Bool.{le-ltb, and_parts}
+use Rattle.std.proofs.Math.Bool.{and-false, or-true}
 use Rattle.ecam_spec.specs.Past.{Signal, historically, historically_from, historically_within, since}
 use Rattle.ecam_spec.proofs.PastSteps.{since-zero, since-suc}
-
-pub or-true : (a : Bool) → (a || true) ≡ true
-or-true true = refl
-or-true false = refl
-
-pub and-false : (a : Bool) → (a && false) ≡ false
-and-false true = refl
-and-false false = refl
-
--- a conjunction tells its parts
-pub and-left : (a b : Bool) → (a && b) ≡ true → a ≡ true
-and-left true b h = refl
-and-left false b h = h
-
-pub and-right : (a b : Bool) → (a && b) ≡ true → b ≡ true
-and-right true b h = h
-and-right false b h = cc
 
 -- q in one more moment keeps it
 keep-step : (p q s : Bool) → q ≡ true → s ≡ true → (p || (q && s)) ≡ true
@@ -77,7 +61,7 @@ since-implies p q b (suc k) f g h = either-step (p (suc k)) (q (suc k)) (since p
 pub historically-now : (p : Signal) (k : ℕ) → historically p k ≡ true → p k ≡ true
 unfolding historically
 historically-now p zero h = h
-historically-now p (suc k) h = and-left (p (suc k)) (historically p k) h
+historically-now p (suc k) h = (and_parts (p (suc k)) (historically p k) h).0
 
 or-second : (a b : Bool) → a ≡ false → (a || b) ≡ true → b ≡ true
 or-second true b e h = cc
@@ -88,4 +72,4 @@ pub historically_within-now : (n : ℕ) (p : Signal) (k : ℕ) → historically_
 unfolding historically_within historically_from
 historically_within-now n p k h =
     or-second (ltb k (k - n)) (p k) (le-ltb k (k - n) (omega arith))
-    (historically-now (λ i. ltb i (k - n) || p i) k (and-right (leb n k) _ h))
+    (historically-now (λ i. ltb i (k - n) || p i) k ((and_parts (leb n k) _ h).1))

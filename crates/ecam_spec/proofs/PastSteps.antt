@@ -1,9 +1,10 @@
 -- The step of each word of past-time logic: what it says in one more moment. Every proof over histories
 -- goes by these.
-use Rattle.std.proofs.Common.{◌≡◌, ℕ, zero, suc, ◌<◌, ◌≤◌, Bool, true, false, not, ◌&&◌, ◌||◌, Option, Some, None, ltb, leb, cond, refl, sym, ◌∙◌, ap, arith}
-use Rattle.std.proofs.lemmas.Bool.{lt-ltb, le-ltb, le-leb, lt-leb}
+use Rattle.std.proofs.Common.{◌≡◌, ℕ, zero, suc, ◌+◌, ◌<◌, ◌≤◌, Bool, true, false, not, ◌&&◌, ◌||◌, Option, Some, None, ltb, leb, cond, refl, sym, ◌∙◌, ap, arith}
+use Rattle.std.proofs.lemmas.Bool.{or_from, lt-ltb, le-ltb, le-leb, lt-leb, or_left}
 use Rattle.std.specs.Prelude.{is_some, unwrap_or}
-use Rattle.ecam_spec.specs.Past.{Signal, once, historically, once_from, historically_from, since, previous, rise, last, next, begin_of}
+use Rattle.std.proofs.Math.Bool.{and-false, and-true, or-false}
+use Rattle.ecam_spec.specs.Past.{Signal, once, historically, once_from, historically_from, since, previous, rise, last, moment_after, start_of, count_up_to}
 
 pub once-suc : (p : Signal) (k : ℕ) → once p (suc k) ≡ (p (suc k) || once p k)
 unfolding once
@@ -30,19 +31,16 @@ historically-below p q (suc k) same =
     let now : p (suc k) ≡ q (suc k) = same (suc k) (omega arith) in
     cc
 
-once-nowhere : (k : ℕ) → once (λ i. false) k ≡ false
+-- what is so in no moment was never so
+pub once-nowhere : (p : Signal) (k : ℕ) → ((i : ℕ) → p i ≡ false) → once p k ≡ false
 unfolding once
-once-nowhere zero = refl
-once-nowhere (suc k) = once-nowhere k
+once-nowhere p zero none = none 0
+once-nowhere p (suc k) none = or_from (p (suc k)) (once p k) (none (suc k)) (once-nowhere p k none)
 
 -- what holds of no moment in particular comes out
 pub once-and : (b : Bool) (p : Signal) (k : ℕ) → once (λ i. b && p i) k ≡ (b && once p k)
 once-and true p k = refl
-once-and false p k = once-nowhere k
-
-and-true : (b : Bool) → (b && true) ≡ b
-and-true true = refl
-and-true false = refl
+once-and false p k = once-nowhere (λ i. false) k (λ i. refl)
 
 and-swap : (a b c : Bool) → (a && (b && c)) ≡ (b && (a && c))
 and-swap true b c = refl
@@ -58,14 +56,11 @@ historically-true p (suc k) all =
     let now : p (suc k) ≡ true = all (suc k) (omega arith) in
     rw (now, earlier) refl
 
-or-first : (a b : Bool) → a ≡ true → (a || b) ≡ true
-or-first a b h = rw h refl
-
 -- no moment is left
 pub historically_from-after : (j : ℕ) (p : Signal) (k : ℕ) → k < j → historically_from j p k ≡ true
 unfolding historically_from
 historically_from-after j p k after =
-    historically-true (λ i. ltb i j || p i) k (λ i h. or-first (ltb i j) (p i) (lt-ltb i j (omega arith)))
+    historically-true (λ i. ltb i j || p i) k (λ i h. or_left (ltb i j) (p i) (lt-ltb i j (omega arith)))
 
 -- one more moment, which isn't before j
 pub historically_from-suc : (j : ℕ) (p : Signal) (k : ℕ) → j ≤ suc k → historically_from j p (suc k) ≡ (p (suc k) && historically_from j p k)
@@ -119,37 +114,14 @@ last-once p zero = elim (p 0) as (λ b. is_some {T = ℕ} (elim b [ true ↦ Som
 last-once p (suc k) = elim (p (suc k)) as (λ b. is_some {T = ℕ} (elim b [ true ↦ Some (suc k) | false ↦ last p k ]) ≡ (b || once p k)) [ true ↦ refl | false ↦ last-once p k ]
 
 -- p in a row up to now, or broken off
-pub begin_of-suc : (p : Signal) (k : ℕ) → begin_of p (suc k) ≡ cond (p (suc k)) (begin_of p k) (suc (suc k))
-unfolding begin_of last
-begin_of-suc p k =
-    elim (p (suc k)) as (λ b. next (elim (not b) [ true ↦ Some (suc k) | false ↦ last (λ i. not (p i)) k ]) ≡ cond b (next (last (λ i. not (p i)) k)) (suc (suc k))) [ true ↦ refl | false ↦ refl ]
+pub start_of-suc : (p : Signal) (k : ℕ) → start_of p (suc k) ≡ cond (p (suc k)) (start_of p k) (suc (suc k))
+unfolding start_of last
+start_of-suc p k =
+    elim (p (suc k)) as (λ b. moment_after (elim (not b) [ true ↦ Some (suc k) | false ↦ last (λ i. not (p i)) k ]) ≡ cond b (moment_after (last (λ i. not (p i)) k)) (suc (suc k))) [ true ↦ refl | false ↦ refl ]
 
-pub begin_of-zero : (p : Signal) → begin_of p 0 ≡ cond (p 0) 0 1
-unfolding begin_of last
-begin_of-zero p = elim (p 0) as (λ b. next (elim (not b) [ true ↦ Some 0 | false ↦ None ]) ≡ cond b 0 1) [ true ↦ refl | false ↦ refl ]
-
-pub historically_from-below : (j : ℕ) (p q : Signal) (k : ℕ) → ((i : ℕ) → i ≤ k → p i ≡ q i) → historically_from j p k ≡ historically_from j q k
-unfolding historically_from
-historically_from-below j p q k same =
-    historically-below (λ i. ltb i j || p i) (λ i. ltb i j || q i) k (λ i h. ap (λ b. ltb i j || b) (same i h))
-
--- signals that agree up to now agree in one since the other
-pub since-below : (p q r s : Signal) (k : ℕ) → ((i : ℕ) → i ≤ k → p i ≡ r i) → ((i : ℕ) → i ≤ k → q i ≡ s i) → since p q k ≡ since r s k
-unfolding since
-since-below p q r s k first second =
-    once-below (λ j. p j && historically_from (suc j) q k) (λ j. r j && historically_from (suc j) s k) k
-    (λ j h.
-    let begun : p j ≡ r j = first j h in
-    let kept : historically_from (suc j) q k ≡ historically_from (suc j) s k = historically_from-below (suc j) q s k second in
-    cc)
-
-or-false : (b : Bool) → (b || false) ≡ b
-or-false true = refl
-or-false false = refl
-
-and-false : (b : Bool) → (b && false) ≡ false
-and-false true = refl
-and-false false = refl
+pub start_of-zero : (p : Signal) → start_of p 0 ≡ cond (p 0) 0 1
+unfolding start_of last
+start_of-zero p = elim (p 0) as (λ b. moment_after (elim (not b) [ true ↦ Some 0 | false ↦ None ]) ≡ cond b 0 1) [ true ↦ refl | false ↦ refl ]
 
 -- q since p, now, by the moment before
 pub since-now : (p q : Signal) (k : ℕ) → since p q k ≡ (p k || (q k && previous (since p q) k))
@@ -161,7 +133,7 @@ since-now p q (suc k) = since-suc p q k
 pub once_from-after : (j : ℕ) (p : Signal) (k : ℕ) → k < j → once_from j p k ≡ false
 unfolding once_from
 once_from-after j p k after =
-    once-below (λ i. leb j i && p i) (λ i. false) k (λ i h. ap (λ b. b && p i) (lt-leb j i (omega arith))) ∙ once-nowhere k
+    once-below (λ i. leb j i && p i) (λ i. false) k (λ i h. ap (λ b. b && p i) (lt-leb j i (omega arith))) ∙ once-nowhere (λ i. false) k (λ i. refl)
 
 -- from now on there is now alone
 pub once_from-here : (p : Signal) (k : ℕ) → once_from k p k ≡ p k
@@ -174,7 +146,7 @@ pub once_from-now : (j : ℕ) (p : Signal) (k : ℕ) → j ≤ k → p k ≡ tru
 once_from-now j p zero within now =
     let first : j ≡ 0 = omega arith in
     ap (λ i. once_from i p 0) first ∙ once_from-zero p ∙ now
-once_from-now j p (suc k) within now = once_from-suc j p k within ∙ or-first (p (suc k)) (once_from j p k) now
+once_from-now j p (suc k) within now = once_from-suc j p k within ∙ or_left (p (suc k)) (once_from j p k) now
 
 pub last-zero : (p : Signal) → last p 0 ≡ cond (p 0) (Some 0) None
 unfolding last
@@ -185,6 +157,23 @@ pub last-here : (p : Signal) (k : ℕ) → p k ≡ true → last p k ≡ Some k
 last-here p zero now = last-zero p ∙ ap (λ b. cond b (Some 0) None) now
 last-here p (suc k) now = last-suc p k ∙ ap (λ b. cond b (Some (suc k)) (last p k)) now
 
+-- until p comes again, it stays
+pub last-skip : (p : Signal) (k : ℕ) → p (suc k) ≡ false → last p (suc k) ≡ last p k
+last-skip p k off = last-suc p k ∙ ap (λ b. cond b (Some (suc k)) (last p k)) off
+
+upto : (b : Bool) (k : ℕ) (o : Option ℕ) → moment_after o ≤ k → moment_after (cond b (Some k) o) ≤ suc k
+upto true k o h = omega arith
+upto false k o h = omega arith
+
+-- the moment after it comes no later than after now, and now where p doesn't hold
+pub last-upto : (p : Signal) (k : ℕ) → moment_after (last p k) ≤ suc k
+last-upto p zero = rw last-zero (upto (p 0) 0 None (omega arith))
+last-upto p (suc k) = rw last-suc (upto (p (suc k)) (suc k) (last p k) (last-upto p k))
+
+pub last-before : (p : Signal) (k : ℕ) → p k ≡ false → moment_after (last p k) ≤ k
+last-before p zero off = rw (last-zero, off) (omega arith)
+last-before p (suc k) off = rw (last-skip p k off) (last-upto p k)
+
 -- the last moment with p is no later one
 pub last-le : (p : Signal) (k : ℕ) → unwrap_or (last p k) 0 ≤ k
 unfolding last
@@ -192,32 +181,41 @@ last-le p zero = elim (p 0) as (λ b. unwrap_or {T = ℕ} (elim b [ true ↦ Som
 last-le p (suc k) = elim (p (suc k)) as (λ b. unwrap_or {T = ℕ} (elim b [ true ↦ Some (suc k) | false ↦ last p k ]) 0 ≤ suc k) [ true ↦ omega arith | false ↦ omega (arith, last-le p k) ]
 
 -- the stretch is empty where p doesn't hold now
-pub begin_of-off : (p : Signal) (k : ℕ) → p k ≡ false → begin_of p k ≡ suc k
-begin_of-off p zero off = begin_of-zero p ∙ ap (λ b. cond b 0 1) off
-begin_of-off p (suc k) off = begin_of-suc p k ∙ ap (λ b. cond b (begin_of p k) (suc (suc k))) off
+pub start_of-off : (p : Signal) (k : ℕ) → p k ≡ false → start_of p k ≡ suc k
+start_of-off p zero off = start_of-zero p ∙ ap (λ b. cond b 0 1) off
+start_of-off p (suc k) off = start_of-suc p k ∙ ap (λ b. cond b (start_of p k) (suc (suc k))) off
 
 -- the stretch goes on
-pub begin_of-on : (p : Signal) (k : ℕ) → p (suc k) ≡ true → begin_of p (suc k) ≡ begin_of p k
-begin_of-on p k on = begin_of-suc p k ∙ ap (λ b. cond b (begin_of p k) (suc (suc k))) on
+pub start_of-on : (p : Signal) (k : ℕ) → p (suc k) ≡ true → start_of p (suc k) ≡ start_of p k
+start_of-on p k on = start_of-suc p k ∙ ap (λ b. cond b (start_of p k) (suc (suc k))) on
 
 -- the stretch begins now
-pub begin_of-rise : (p : Signal) (k : ℕ) → p k ≡ true → previous p k ≡ false → begin_of p k ≡ k
+pub start_of-rise : (p : Signal) (k : ℕ) → p k ≡ true → previous p k ≡ false → start_of p k ≡ k
 unfolding previous
-begin_of-rise p zero on before = begin_of-zero p ∙ ap (λ b. cond b 0 1) on
-begin_of-rise p (suc k) on before = begin_of-on p k on ∙ begin_of-off p k before
+start_of-rise p zero on before = start_of-zero p ∙ ap (λ b. cond b 0 1) on
+start_of-rise p (suc k) on before = start_of-on p k on ∙ start_of-off p k before
 
 cond-le : (b : Bool) (x y n : ℕ) → x ≤ n → y ≤ n → cond b x y ≤ n
 cond-le true x y n first second = first
 cond-le false x y n first second = second
 
 -- the stretch begins no later than after now
-pub begin_of-le : (p : Signal) (k : ℕ) → begin_of p k ≤ suc k
-begin_of-le p zero = rw (begin_of-zero p) (cond-le (p 0) 0 1 1 (omega arith) (omega arith))
-begin_of-le p (suc k) =
-    let before : begin_of p k ≤ suc k = begin_of-le p k in
-    rw (begin_of-suc p k) (cond-le (p (suc k)) (begin_of p k) (suc (suc k)) (suc (suc k)) (omega arith) (omega arith))
+pub start_of-le : (p : Signal) (k : ℕ) → start_of p k ≤ suc k
+start_of-le p zero = rw (start_of-zero p) (cond-le (p 0) 0 1 1 (omega arith) (omega arith))
+start_of-le p (suc k) =
+    let before : start_of p k ≤ suc k = start_of-le p k in
+    rw (start_of-suc p k) (cond-le (p (suc k)) (start_of p k) (suc (suc k)) (suc (suc k)) (omega arith) (omega arith))
 
 -- a stretch that is there begins no later than now
-pub begin_of-on-le : (p : Signal) (k : ℕ) → p k ≡ true → begin_of p k ≤ k
-begin_of-on-le p zero on = rw (begin_of-zero p) (rw on (omega arith))
-begin_of-on-le p (suc k) on = rw (begin_of-on p k on) (begin_of-le p k)
+pub start_of-on-le : (p : Signal) (k : ℕ) → p k ≡ true → start_of p k ≤ k
+start_of-on-le p zero on = rw (start_of-zero p) (rw on (omega arith))
+start_of-on-le p (suc k) on = rw (start_of-on p k on) (start_of-le p k)
+
+-- one more moment is counted where p holds in it
+pub count_up_to-zero : (p : Signal) → count_up_to p 0 ≡ cond (p 0) 1 0
+unfolding count_up_to
+count_up_to-zero p = elim (p 0) as (λ b. elim b as (λ v. ℕ) [ true ↦ 1 | false ↦ 0 ] ≡ cond b 1 0) [ true ↦ refl | false ↦ refl ]
+
+pub count_up_to-suc : (p : Signal) (k : ℕ) → count_up_to p (suc k) ≡ cond (p (suc k)) (count_up_to p k + 1) (count_up_to p k)
+unfolding count_up_to
+count_up_to-suc p k = elim (p (suc k)) as (λ b. elim b [ true ↦ count_up_to p k + 1 | false ↦ count_up_to p k ] ≡ cond b (count_up_to p k + 1) (count_up_to p k)) [ true ↦ refl | false ↦ refl ]

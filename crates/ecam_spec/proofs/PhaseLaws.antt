@@ -1,12 +1,14 @@
 -- In each moment exactly one rule of the phases applies, and the phase is its number.
-use Rattle.std.proofs.Common.{◌≡◌, ℕ, zero, suc, ◌-◌, ◌<◌, ◌≤◌, Bool, true, false, not, ◌&&◌, ◌||◌, inl, inr, List, [], ◌∷◌, get_or, refl, sym, ◌∙◌, ap, ltb, arith}
+use Rattle.std.proofs.Common.{◌≡◌, ℕ, zero, suc, ◌-◌, ◌<◌, ◌≤◌, Bool, true, false, not, ◌&&◌, ◌||◌, List, [], ◌∷◌, Option, Some, None, get_or, refl, ◌∙◌, ap, ltb, arith}
 use Rattle.std.specs.Prelude.{count_by, if◌then◌else◌}
-use Rattle.std.proofs.Math.Nat.{le-suc_iff}
-use Rattle.ecam_spec.specs.Past.{Signal, previous, begin_of}
-use Rattle.ecam_spec.specs.Phase.{Flight, parked, trip, phase, ground_phase, parked_phase, air_phase}
-use Rattle.ecam_spec.specs.PhaseRules.{rules, back_lately, climbed, high_last}
-use Rattle.ecam_spec.proofs.PastSteps.{begin_of-off, begin_of-on}
+use Rattle.std.specs.Option.{option_map_or}
+use Rattle.std.proofs.lemmas.Bool.{and_parts}
+use Rattle.ecam_spec.specs.Past.{Signal, previous, last, start_of}
+use Rattle.ecam_spec.specs.Phase.{Flight, parked, running, airborne, trip, back_lately, low_marked, marked, climbed, high_last, phase, ground_phase, parked_phase, air_phase}
+use Rattle.ecam_spec.specs.PhaseRules.{rules}
+use Rattle.ecam_spec.proofs.PastSteps.{start_of-off}
 use Rattle.ecam_spec.proofs.PastLaws.{since-broken}
+use Rattle.ecam_spec.proofs.PastMoments.{start_of-kept}
 
 -- the same over eight truths: on ground, run, take-off power, fast, trip, back lately, climbed, high last
 rules_of : (g r t f w b c h : Bool) → List Bool
@@ -59,12 +61,8 @@ unfolding rules rules_of
 one_rule f k = one_of (f.gnd k) (f.run k) (f.tp k) (f.fast k) (trip f k) (back_lately f k) (climbed f k) (high_last f k)
 
 pub phase_of_its_rule : (f : Flight) (k : ℕ) → get_or (rules f k) (phase f k - 1) false ≡ true
-unfolding rules rules_of phase phase_of ground_phase parked_phase air_phase back_lately climbed high_last
+unfolding rules rules_of phase phase_of ground_phase parked_phase air_phase
 phase_of_its_rule f k = number_of (f.gnd k) (f.run k) (f.tp k) (f.fast k) (trip f k) (back_lately f k) (climbed f k) (high_last f k)
-
-and-fst : (a b : Bool) → (a && b) ≡ true → a ≡ true
-and-fst true b h = refl
-and-fst false b h = h
 
 and-not : (a b : Bool) → (a && not b) ≡ true → b ≡ false
 and-not true true h = absurd (let w : ⊥ = cc in w)
@@ -75,35 +73,37 @@ previous-suc : (p : Signal) (x : ℕ) → previous p (suc x) ≡ p x
 unfolding previous
 previous-suc p x = refl
 
--- parked since the moment after x, the stretch began there
-begins-after : (p : Signal) (x k : ℕ) → p x ≡ false → x ≤ k → ((i : ℕ) → x < i → i ≤ k → p i ≡ true) → begin_of p k ≡ suc x
-begins-after p x zero off within on = let e : x ≡ 0 = omega arith in ap (begin_of p) (sym e) ∙ begin_of-off p x off
-begins-after p x (suc k) off within on =
-    elim (le-suc_iff.0 within) [
-      | inl h ↦ begin_of-on p k (on (suc k) (omega arith) (omega arith)) ∙ begins-after p x k off h (λ i a b. on i a (omega arith))
-      | inr e ↦ ap (begin_of p) (sym e) ∙ begin_of-off p x off
-    ]
-
 -- after a trip the aircraft is in phase 10 for the first five minutes that it is parked, and then in phase 1
 parked-phase : (g r b : Bool) (n : ℕ) (a : ℕ) → g ≡ true → r ≡ false → (if g then (if r then n else (if b then 10 else 1)) else a) ≡ (if b then 10 else 1)
 parked-phase g r b n a e f = rw (e, f) refl
 
 pub parked_after_a_trip : (f : Flight) (x k : ℕ) → x < k → trip f x ≡ true → parked f x ≡ false → ((i : ℕ) → x < i → i ≤ k → parked f i ≡ true) → phase f k ≡ (if ltb (k - suc x) 3000 then 10 else 1)
-unfolding phase parked_phase
+unfolding phase parked_phase back_lately
 parked_after_a_trip f x k after tripped off on =
     let now : parked f k ≡ true = on k after (omega arith) in
-    let begun : begin_of (parked f) k ≡ suc x = begins-after (parked f) x k off (omega arith) on in
-    parked-phase (f.gnd k) (f.run k) (previous (trip f) (begin_of (parked f) k) && ltb (k - begin_of (parked f) k) 3000) (ground_phase f k) (air_phase f k)
-    (and-fst (f.gnd k) (not (f.run k)) now) (and-not (f.gnd k) (f.run k) now)
+    let begun : start_of (parked f) k ≡ suc x = start_of-kept (parked f) x k (omega arith) on ∙ start_of-off (parked f) x off in
+    parked-phase (f.gnd k) (f.run k) (previous (trip f) (start_of (parked f) k) && ltb (k - start_of (parked f) k) 3000) (ground_phase f k) (air_phase f k)
+    ((and_parts (f.gnd k) (not (f.run k)) now).0) (and-not (f.gnd k) (f.run k) now)
     ∙ ap (λ m. if previous (trip f) m && ltb (k - m) 3000 then 10 else 1) begun
     ∙ ap (λ b. if b && ltb (k - suc x) 3000 then 10 else 1) (previous-suc (trip f) x ∙ tripped)
 
-no-trip : (g r f : Bool) → g ≡ true → r ≡ false → (not g || (r && f)) ≡ false
+no-trip : (g r f : Bool) → g ≡ true → r ≡ false → (not g || ((g && r) && f)) ≡ false
 no-trip g r f e h = rw (e, h) refl
 
 -- while the aircraft is parked no trip has begun
 pub parked_ends_a_trip : (f : Flight) (k : ℕ) → parked f k ≡ true → trip f k ≡ false
 unfolding trip
 parked_ends_a_trip f k here =
-    since-broken (λ i. not (f.gnd i) || (f.run i && f.fast i)) (λ i. not (parked f i)) k
-    (no-trip (f.gnd k) (f.run k) (f.fast k) (and-fst (f.gnd k) (not (f.run k)) here) (and-not (f.gnd k) (f.run k) here)) (ap not here)
+    since-broken (λ i. airborne f i || (running f i && f.fast i)) (λ i. not (parked f i)) k
+    (no-trip (f.gnd k) (f.run k) (f.fast k) ((and_parts (f.gnd k) (not (f.run k)) here).0) (and-not (f.gnd k) (f.run k) here)) (ap not here)
+
+mark-step : (p : Signal) (n : ℕ) (o : Option ℕ) (h l : Bool) → p n ≡ h → option_map_or p (elim (h || (l && not h)) [ true ↦ Some n | false ↦ o ]) false ≡ (h || (not (l && not h) && option_map_or p o false))
+mark-step p n o true l e = e
+mark-step p n o false true e = e
+mark-step p n o false false e = refl
+
+-- the latest mark was high: there is one now, or none now and the one before was
+pub high_last-now : (f : Flight) (k : ℕ) → high_last f k ≡ (f.high k || (not (low_marked f k) && previous (high_last f) k))
+unfolding high_last last previous
+high_last-now f zero = mark-step f.high 0 None (f.high 0) (f.low 0) refl
+high_last-now f (suc k) = mark-step f.high (suc k) (last (marked f) k) (f.high (suc k)) (f.low (suc k)) refl

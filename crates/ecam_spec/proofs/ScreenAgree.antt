@@ -1,24 +1,26 @@
 -- Two accounts of the moments that agree up to a moment show the same picture in it: what comes later has no bearing,
 -- nor which computers are up where the book doesn't ask.
-use Rattle.std.proofs.Common.{◌≡◌, ℕ, ◌≤◌, Bool, false, not, ◌&&◌, ◌||◌, ◌==◌, List, [], ◌∷◌, Option, Some, None, refl, ◌∙◌, ap, cond, arith}
+use Rattle.std.proofs.Common.{◌≡◌, ℕ, suc, ◌+◌, ◌≤◌, Bool, false, not, ◌&&◌, ◌||◌, ◌==◌, List, [], ◌∷◌, Option, Some, None, refl, ◌∙◌, ap, cond, leb, arith}
 use Rattle.std.specs.Prelude.{find, is_none, unwrap_or, if◌then◌else◌}
 use Rattle.std.specs.List.{list_any}
+use Rattle.std.specs.Option.{option_map_or}
 use Rattle.ecam_spec.specs.declared.kinds.Key.{Key}
 use Rattle.ecam_spec.specs.declared.kinds.Key.TheVariants.{Clr, Rcl, Emer, Mw, Mc}
 use Rattle.ecam_spec.specs.declared.kinds.Level.{Level}
 use Rattle.ecam_spec.specs.declared.kinds.Level.TheVariants.{One, Two, Three}
 use Rattle.ecam_spec.specs.declared.kinds.Sound.TheVariants.{Quiet, Chime}
-use Rattle.ecam_spec.specs.Past.{previous, rise, once_within}
+use Rattle.ecam_spec.specs.Past.{previous, once_from}
 use Rattle.ecam_spec.specs.Levels.{is_three, is_two}
 use Rattle.ecam_spec.specs.Book.{Book}
 use Rattle.ecam_spec.specs.History.{Moment, Stroke}
-use Rattle.ecam_spec.specs.Keys.{last_stroke, pressed, held, long_recall}
+use Rattle.ecam_spec.specs.Keys.{last_stroke, pressed, held}
+use Rattle.ecam_spec.specs.Alert.{onset}
 use Rattle.ecam_spec.specs.Crew.{normal}
-use Rattle.ecam_spec.specs.Lamps.{acknowledges, is_open, warns, cautions, is_chime, chimes, sound_of, sound}
+use Rattle.ecam_spec.specs.Lamps.{acknowledges, last_onset, is_open, calls, warns, cautions, is_chime, chimes, sound_of, sound}
 use Rattle.ecam_spec.specs.Situation.{alert_at, strokes_in, phase_in, up_in}
 use Rattle.ecam_spec.specs.Screen.{enters_one, cockpit, shown_in, cleared_in, cancelled_in, target_in, attention}
-use Rattle.ecam_spec.proofs.PastAgree.{since-below, historically_within-below, once_within-below, rise-below, previous-below}
-use Rattle.ecam_spec.proofs.SituationAgree.{SameUpTo, pressed-same, phase-same, up-same, any-agree}
+use Rattle.ecam_spec.proofs.PastAgree.{since-below, once_from-below, rise-below, previous-below, last-below}
+use Rattle.ecam_spec.proofs.SituationAgree.{SameUpTo, pressed-same, phase-same, waiting-same, up-same, any-agree}
 use Rattle.ecam_spec.proofs.CrewAgree.{SameCockpit, shown-same, cleared-shown, cancelled-shown, target-shown, normal-same}
 
 find-agree : (p q : ℕ → Bool) (xs : List ℕ) → ((a : ℕ) → p a ≡ q a) → find p xs ≡ find q xs
@@ -32,10 +34,6 @@ module _ (v w : ℕ → List Stroke) (k : ℕ) (same : (i : ℕ) → i ≤ k →
       since-below (λ j. unwrap_or (last_stroke key (v j)) false) (λ j. unwrap_or (last_stroke key (w j)) false) (λ j. is_none (last_stroke key (v j))) (λ j. is_none (last_stroke key (w j))) i
       (λ j l. ap (λ s. unwrap_or (last_stroke key s) false) (same j (omega arith)))
       (λ j l. ap (λ s. is_none (last_stroke key s)) (same j (omega arith)))
-
-  long_recall-same : (i : ℕ) → i ≤ k → long_recall v i ≡ long_recall w i
-  unfolding long_recall
-  long_recall-same i h = historically_within-below 29 (held v Rcl) (held w Rcl) i (λ j l. held-same Rcl j (omega arith))
 
 module _ (b : Book) (m n : ℕ → Moment) (k : ℕ) (s : SameUpTo b m n k) where
   enters_one-same : (i : ℕ) → i ≤ k → enters_one b m i ≡ enters_one b n i
@@ -52,10 +50,11 @@ module _ (b : Book) (m n : ℕ → Moment) (k : ℕ) (s : SameUpTo b m n k) wher
         order = refl;
         is_caution = λ a. refl;
         up = up-same b m n k s;
+        waiting = waiting-same b m n k s;
         clr = pressed-same b m n k s Clr;
         rcl = pressed-same b m n k s Rcl;
         emer = pressed-same b m n k s Emer;
-        long_recall = long_recall-same (strokes_in b m) (strokes_in b n) k s.strokes;
+        rcl_held = held-same (strokes_in b m) (strokes_in b n) k s.strokes Rcl;
         enters_one = enters_one-same;
       }
 
@@ -85,17 +84,30 @@ module _ (b : Book) (m n : ℕ → Moment) (k : ℕ) (s : SameUpTo b m n k) wher
   acknowledges-same Two i h = ap (λ x. x || pressed (strokes_in b m) Emer i) (pressed-same b m n k s Mc i h) ∙ ap (λ x. pressed (strokes_in b n) Mc i || x) (pressed-same b m n k s Emer i h)
   acknowledges-same One i h = refl
 
+  last_onset-same : (a i : ℕ) → i ≤ k → last_onset (attention b m) a i ≡ last_onset (attention b n) a i
+  unfolding last_onset attention onset
+  last_onset-same a i h =
+      last-below (onset (up_in b m a)) (onset (up_in b n a)) i (λ j l. rise-below (up_in b m a) (up_in b n a) j (λ x y. up-same b m n k s a x (omega arith)))
+
+  unacknowledged-same : (l : Level) (o : Option ℕ) (i : ℕ) → i ≤ k → option_map_or (λ j. not (once_from (suc j) (acknowledges (attention b m) l) i)) o false ≡ option_map_or (λ j. not (once_from (suc j) (acknowledges (attention b n) l) i)) o false
+  unacknowledged-same l None i h = refl
+  unacknowledged-same l (Some j) i h =
+      ap not (once_from-below (suc j) (acknowledges (attention b m) l) (acknowledges (attention b n) l) i (λ x y. acknowledges-same l x (omega arith)))
+
   open-same : (a i : ℕ) → i ≤ k → is_open (attention b m) a i ≡ is_open (attention b n) a i
   unfolding is_open attention
   open-same a i h =
-      since-below (rise (up_in b m a)) (rise (up_in b n a)) (λ j. not (acknowledges (attention b m) (alert_at b a).level j)) (λ j. not (acknowledges (attention b n) (alert_at b a).level j)) i
-      (λ j l. rise-below (up_in b m a) (up_in b n a) j (λ x y. up-same b m n k s a x (omega arith)))
-      (λ j l. ap not (acknowledges-same (alert_at b a).level j (omega arith)))
+      ap (λ o. option_map_or (λ j. not (once_from (suc j) (acknowledges (attention b m) (alert_at b a).level) i)) o false) (last_onset-same a i h)
+      ∙ unacknowledged-same (alert_at b a).level (last_onset (attention b n) a i) i h
 
-  lit-same : (p : Level → Bool) (i : ℕ) → i ≤ k → list_any (λ a. p (alert_at b a).level && is_open (attention b m) a i) (shown_in b m i) ≡ list_any (λ a. p (alert_at b a).level && is_open (attention b n) a i) (shown_in b n i)
+  calls-same : (a i : ℕ) → i ≤ k → calls (attention b m) a i ≡ calls (attention b n) a i
+  unfolding calls attention
+  calls-same a i h = ap (λ x. x && is_open (attention b m) a i) (up-same b m n k s a i h) ∙ ap (λ x. up_in b n a i && x) (open-same a i h)
+
+  lit-same : (p : Level → Bool) (i : ℕ) → i ≤ k → list_any (λ a. p (alert_at b a).level && calls (attention b m) a i) (shown_in b m i) ≡ list_any (λ a. p (alert_at b a).level && calls (attention b n) a i) (shown_in b n i)
   lit-same p i h =
-      any-agree (λ a. p (alert_at b a).level && is_open (attention b m) a i) (λ a. p (alert_at b a).level && is_open (attention b n) a i) (shown_in b m i) (λ a. ap (λ x. p (alert_at b a).level && x) (open-same a i h))
-      ∙ ap (list_any (λ a. p (alert_at b a).level && is_open (attention b n) a i)) (shown_in-same i h)
+      any-agree (λ a. p (alert_at b a).level && calls (attention b m) a i) (λ a. p (alert_at b a).level && calls (attention b n) a i) (shown_in b m i) (λ a. ap (λ x. p (alert_at b a).level && x) (calls-same a i h))
+      ∙ ap (list_any (λ a. p (alert_at b a).level && calls (attention b n) a i)) (shown_in-same i h)
 
   pub warns-same : (i : ℕ) → i ≤ k → warns (attention b m) i ≡ warns (attention b n) i
   unfolding warns attention
@@ -108,9 +120,8 @@ module _ (b : Book) (m n : ℕ → Moment) (k : ℕ) (s : SameUpTo b m n k) wher
   chimes-same : (a i : ℕ) → i ≤ k → chimes (attention b m) a i ≡ chimes (attention b n) a i
   unfolding chimes attention
   chimes-same a i h =
-      ap (λ x. (is_two (alert_at b a).level && is_chime (alert_at b a).sound) && (x && is_open (attention b m) a i))
-      (once_within-below 4 (rise (up_in b m a)) (rise (up_in b n a)) i (λ j l. rise-below (up_in b m a) (up_in b n a) j (λ x y. up-same b m n k s a x (omega arith))))
-      ∙ ap (λ x. (is_two (alert_at b a).level && is_chime (alert_at b a).sound) && (once_within 4 (rise (up_in b n a)) i && x)) (open-same a i h)
+      ap (λ o. (is_two (alert_at b a).level && is_chime (alert_at b a).sound) && (option_map_or (λ j. leb i (j + 4)) o false && calls (attention b m) a i)) (last_onset-same a i h)
+      ∙ ap (λ x. (is_two (alert_at b a).level && is_chime (alert_at b a).sound) && (option_map_or (λ j. leb i (j + 4)) (last_onset (attention b n) a i) false && x)) (calls-same a i h)
 
   sound-step : (o : Option ℕ) (i : ℕ) → i ≤ k → sound_of (attention b m) o i ≡ sound_of (attention b n) o i
   unfolding sound_of attention
@@ -124,6 +135,6 @@ module _ (b : Book) (m n : ℕ → Moment) (k : ℕ) (s : SameUpTo b m n k) wher
   unfolding sound attention
   sound-same i h =
       ap (λ o. sound_of (attention b m) o i)
-      (find-agree (λ a. is_three (alert_at b a).level && is_open (attention b m) a i) (λ a. is_three (alert_at b a).level && is_open (attention b n) a i) (shown_in b m i) (λ a. ap (λ x. is_three (alert_at b a).level && x) (open-same a i h))
-      ∙ ap (find (λ a. is_three (alert_at b a).level && is_open (attention b n) a i)) (shown_in-same i h))
-      ∙ sound-step (find (λ a. is_three (alert_at b a).level && is_open (attention b n) a i) (shown_in b n i)) i h
+      (find-agree (λ a. is_three (alert_at b a).level && calls (attention b m) a i) (λ a. is_three (alert_at b a).level && calls (attention b n) a i) (shown_in b m i) (λ a. ap (λ x. is_three (alert_at b a).level && x) (calls-same a i h))
+      ∙ ap (find (λ a. is_three (alert_at b a).level && calls (attention b n) a i)) (shown_in-same i h))
+      ∙ sound-step (find (λ a. is_three (alert_at b a).level && calls (attention b n) a i) (shown_in b n i)) i h

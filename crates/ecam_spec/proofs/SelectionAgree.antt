@@ -1,18 +1,11 @@
 -- Two panels that are used alike up to a moment have the same choice in it.
-use Rattle.std.proofs.Common.{◌≡◌, ℕ, zero, suc, ◌-◌, ◌≤◌, true, false, not, ◌&&◌, ◌+◌, Option, Some, None, refl, ◌∙◌, ap, leb, arith}
+use Rattle.std.proofs.Common.{◌≡◌, ℕ, zero, suc, ◌-◌, ◌≤◌, true, false, not, ◌&&◌, Option, Some, None, refl, ◌∙◌, ap, leb, arith}
 use Rattle.std.specs.Prelude.{is_some, nat_lt, if◌then◌else◌, option_and_then, ◌/◌, ◌%◌, min}
 use Rattle.ecam_spec.specs.declared.kinds.Choice.TheVariants.{Page, Status}
-use Rattle.ecam_spec.specs.Past.{Signal, last, next, begin_of, count_up_to, count_from}
-use Rattle.ecam_spec.specs.Selection.{Panel, Selecting, each_page, one_page, the_status, the_clear, the_cancel, is_status, is_cancel, selecting_one, selecting, selects, selects_status, status_begin, status_number, page_in_turn, choice_by, choice_from, choice}
-use Rattle.ecam_spec.proofs.PastAgree.{last-below}
+use Rattle.ecam_spec.specs.Past.{Signal, last, moment_after, start_of, count_from}
+use Rattle.ecam_spec.specs.Selection.{Panel, Selecting, each_page, one_page, the_status, the_clear, the_cancel, is_status, is_cancel, selecting_one, selecting, selects, selects_status, last_but_status, status_number, page_in_turn, choice_by, choice_from, choice}
+use Rattle.ecam_spec.proofs.PastAgree.{last-below, count_up_to-below}
 use Rattle.ecam_spec.proofs.ValueAgree.{at_last}
-
-count-below : (p q : Signal) (k : ℕ) → ((i : ℕ) → i ≤ k → p i ≡ q i) → count_up_to p k ≡ count_up_to q k
-unfolding count_up_to
-count-below p q zero same = ap (λ b. elim b [ true ↦ 1 | false ↦ 0 ]) (same 0 (omega arith))
-count-below p q (suc k) same =
-    ap (λ b. elim b [ true ↦ count_up_to p k + 1 | false ↦ count_up_to p k ]) (same (suc k) (omega arith))
-    ∙ ap (λ c. elim (q (suc k)) [ true ↦ c + 1 | false ↦ c ]) (count-below p q k (λ i h. same i (omega arith)))
 
 -- two panels have as many pages and are used alike up to moment k
 pub record SamePanel (p q : Panel) (k : ℕ) : Type 0 where
@@ -40,61 +33,61 @@ module _ (p q : Panel) (k : ℕ) (s : SamePanel p q k) where
       ∙ ap (λ o. if q.all_held i && nat_lt 0 q.pages then Some each_page else selecting_one p o i) (s.page_called i h)
       ∙ ap (λ o. if q.all_held i && nat_lt 0 q.pages then Some each_page else o) (one-same (q.page_called i) i h)
 
-  begin-same : (i : ℕ) → i ≤ k → status_begin p i ≡ status_begin q i
-  unfolding status_begin
-  begin-same i h =
+  base-same : (i : ℕ) → i ≤ k → last_but_status p i ≡ last_but_status q i
+  unfolding last_but_status
+  base-same i h =
       last-below (λ j. selects p j && not (selects_status p j)) (λ j. selects q j && not (selects_status q j)) i
       (λ j l. ap (λ o. is_some o && not (is_status o)) (selecting-same j (omega arith)))
 
   number-of : Signal → (ℕ → Option Selecting) → ℕ → Option ℕ → ℕ
-  number-of t f i b = let presses = count_from (next b) t i in if is_cancel (option_and_then f b) then presses else presses - 1
+  number-of t f i b = let presses = count_from (moment_after b) t i in if is_cancel (option_and_then f b) then presses else presses - 1
 
-  asked : (i : ℕ) → i ≤ k → option_and_then (selecting p) (status_begin q i) ≡ option_and_then (selecting q) (status_begin q i)
-  unfolding status_begin
+  asked : (i : ℕ) → i ≤ k → option_and_then (selecting p) (last_but_status q i) ≡ option_and_then (selecting q) (last_but_status q i)
+  unfolding last_but_status
   asked i h = at_last (selecting p) (selecting q) (λ j. selects q j && not (selects_status q j)) i (λ j l. selecting-same j (omega arith))
 
   status-same : (i : ℕ) → i ≤ k → status_number p i ≡ status_number q i
   unfolding status_number count_from number-of
   status-same i h =
-      ap (number-of (selects_status p) (selecting p) i) (begin-same i h)
-      ∙ ap (λ c. if is_cancel (option_and_then (selecting p) (status_begin q i)) then c else c - 1)
-      (count-below (λ j. leb (next (status_begin q i)) j && selects_status p j) (λ j. leb (next (status_begin q i)) j && selects_status q j) i
-      (λ j l. ap (λ o. leb (next (status_begin q i)) j && is_status o) (selecting-same j (omega arith))))
-      ∙ ap (λ o. if is_cancel o then count_from (next (status_begin q i)) (selects_status q) i else count_from (next (status_begin q i)) (selects_status q) i - 1) (asked i h)
+      ap (number-of (selects_status p) (selecting p) i) (base-same i h)
+      ∙ ap (λ c. if is_cancel (option_and_then (selecting p) (last_but_status q i)) then c else c - 1)
+      (count_up_to-below (λ j. leb (moment_after (last_but_status q i)) j && selects_status p j) (λ j. leb (moment_after (last_but_status q i)) j && selects_status q j) i
+      (λ j l. ap (λ o. leb (moment_after (last_but_status q i)) j && is_status o) (selecting-same j (omega arith))))
+      ∙ ap (λ o. if is_cancel o then count_from (moment_after (last_but_status q i)) (selects_status q) i else count_from (moment_after (last_but_status q i)) (selects_status q) i - 1) (asked i h)
 
   turn-same : (i : ℕ) → i ≤ k → page_in_turn p i ≡ page_in_turn q i
-  unfolding page_in_turn begin_of
+  unfolding page_in_turn start_of
   turn-same i h =
-      ap (λ x. ((i - next x) / 10) % p.pages) (last-below (λ j. not (p.all_held j)) (λ j. not (q.all_held j)) i (λ j l. ap not (s.all_held j (omega arith))))
-      ∙ ap (λ n. ((i - begin_of q.all_held i) / 10) % n) s.pages
+      ap (λ x. ((i - moment_after x) / 10) % p.pages) (last-below (λ j. not (p.all_held j)) (λ j. not (q.all_held j)) i (λ j l. ap not (s.all_held j (omega arith))))
+      ∙ ap (λ n. ((i - start_of q.all_held i) / 10) % n) s.pages
 
-  by-same : (o : Option Selecting) (m i : ℕ) → m ≤ k → i ≤ k → choice_by p o m i ≡ choice_by q o m i
+  by-same : (o : Option Selecting) (m : ℕ) → m ≤ k → choice_by p o m ≡ choice_by q o m
   unfolding choice_by
-  by-same None m i g h = refl
-  by-same (Some each_page) m i g h = ap Page (turn-same m g)
-  by-same (Some (one_page a)) m i g h = refl
-  by-same (Some the_clear) m i g h = refl
-  by-same (Some the_status) m i g h = ap (λ n. Status (min 4294967295 n)) (status-same i h)
-  by-same (Some the_cancel) m i g h = ap (λ n. Status (min 4294967295 n)) (status-same i h)
+  by-same None m h = refl
+  by-same (Some each_page) m h = ap Page (turn-same m h)
+  by-same (Some (one_page a)) m h = refl
+  by-same (Some the_clear) m h = refl
+  by-same (Some the_status) m h = ap (λ n. Status (min 4294967295 n)) (status-same m h)
+  by-same (Some the_cancel) m h = ap (λ n. Status (min 4294967295 n)) (status-same m h)
 
-  chosen-at : (m i : ℕ) → m ≤ k → i ≤ k → choice_from p (Some m) i ≡ choice_from q (Some m) i
-  chosen-at m i g h = ap (λ o. choice_by p o m i) (selecting-same m g) ∙ by-same (selecting q m) m i g h
+  chosen-at : (m : ℕ) → m ≤ k → choice_from p (Some m) ≡ choice_from q (Some m)
+  chosen-at m h = ap (λ o. choice_by p o m) (selecting-same m h) ∙ by-same (selecting q m) m h
 
-  from-same : (r : Signal) (j i : ℕ) → j ≤ i → i ≤ k → choice_from p (last r j) i ≡ choice_from q (last r j) i
+  from-same : (r : Signal) (j : ℕ) → j ≤ k → choice_from p (last r j) ≡ choice_from q (last r j)
   unfolding last
-  from-same r zero i l h =
-      elim (r 0) as (λ b. choice_from p (elim b [ true ↦ Some 0 | false ↦ None ]) i ≡ choice_from q (elim b [ true ↦ Some 0 | false ↦ None ]) i) [
-        | true ↦ chosen-at 0 i (omega arith) h
+  from-same r zero h =
+      elim (r 0) as (λ b. choice_from p (elim b [ true ↦ Some 0 | false ↦ None ]) ≡ choice_from q (elim b [ true ↦ Some 0 | false ↦ None ])) [
+        | true ↦ chosen-at 0 h
         | false ↦ refl
       ]
-  from-same r (suc j) i l h =
-      elim (r (suc j)) as (λ b. choice_from p (elim b [ true ↦ Some (suc j) | false ↦ last r j ]) i ≡ choice_from q (elim b [ true ↦ Some (suc j) | false ↦ last r j ]) i) [
-        | true ↦ chosen-at (suc j) i (omega arith) h
-        | false ↦ from-same r j i (omega arith) h
+  from-same r (suc j) h =
+      elim (r (suc j)) as (λ b. choice_from p (elim b [ true ↦ Some (suc j) | false ↦ last r j ]) ≡ choice_from q (elim b [ true ↦ Some (suc j) | false ↦ last r j ])) [
+        | true ↦ chosen-at (suc j) h
+        | false ↦ from-same r j (omega arith)
       ]
 
   pub choice-same : (i : ℕ) → i ≤ k → choice p i ≡ choice q i
   unfolding choice
   choice-same i h =
-      ap (λ o. choice_from p o i) (last-below (selects p) (selects q) i (λ j l. ap is_some (selecting-same j (omega arith))))
-      ∙ from-same (selects q) i i (omega arith) h
+      ap (choice_from p) (last-below (selects p) (selects q) i (λ j l. ap is_some (selecting-same j (omega arith))))
+      ∙ from-same (selects q) i h

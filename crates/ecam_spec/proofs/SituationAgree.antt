@@ -12,8 +12,8 @@ use Rattle.ecam_spec.specs.Computers.{asks_computer, names_computer}
 use Rattle.ecam_spec.specs.Term.{holds, in_set}
 use Rattle.ecam_spec.specs.History.{Flags, Moment}
 use Rattle.ecam_spec.specs.Keys.{pressed}
-use Rattle.ecam_spec.specs.Alert.{present, active, starred, up}
-use Rattle.ecam_spec.specs.Situation.{parameter_at, alert_at, primaries, words_in, strokes_in, value_in, computer_up, world_where, flight, phase_in, condition, present_knowing, inhibited, active_knowing, known_below, present_in, active_in, world, starred_in, up_in}
+use Rattle.ecam_spec.specs.Alert.{present, active, waiting, starred, up}
+use Rattle.ecam_spec.specs.Situation.{parameter_at, alert_at, primaries, words_in, strokes_in, value_in, computer_up, world_where, flight_world, flight, phase_in, condition, present_knowing, inhibited, active_knowing, known_below, present_in, active_in, waiting_in, world, starred_in, up_in}
 use Rattle.ecam_spec.proofs.PastAgree.{since-below, historically_within-below}
 use Rattle.ecam_spec.proofs.TermNames.{holds-below}
 use Rattle.ecam_spec.proofs.ValueAgree.{value-below}
@@ -98,8 +98,8 @@ module _ (b : Book) (m n : ℕ → Moment) (k : ℕ) (s : SameUpTo b m n k) wher
       c (free j l))
 
   -- the phase's conditions, and so the phase
-  flight-holds : (c : Tree) (i : ℕ) → i ≤ k → ((j : ℕ) → j ≤ i → (has_atom asks_computer c ≡ false) ⊎ SameComputers j) → holds (world_where b m (λ x. 0) (λ a x. false)) c i ≡ holds (world_where b n (λ x. 0) (λ a x. false)) c i
-  flight-holds c i h free = holds-same (λ x. 0) (λ x. 0) (λ a x. false) (λ a x. false) c i h (λ j l. refl) (λ a j l. refl) free
+  flight-holds : (c : Tree) (i : ℕ) → i ≤ k → ((j : ℕ) → j ≤ i → (has_atom asks_computer c ≡ false) ⊎ SameComputers j) → holds (flight_world b m) c i ≡ holds (flight_world b n) c i
+  flight-holds c i h free = holds-same (λ x. 1) (λ x. 1) (λ a x. false) (λ a x. false) c i h (λ j l. refl) (λ a j l. refl) free
 
   -- what each of them asks
   input-free : (x i : ℕ) → i ≤ k → (j : ℕ) → j ≤ i → (asks (get_or (phase_terms b.phase) x (constant true)) ≡ false) ⊎ SameComputers j
@@ -161,6 +161,11 @@ module _ (b : Book) (m n : ℕ → Moment) (k : ℕ) (s : SameUpTo b m n k) wher
   pub active-same : (a i : ℕ) → i ≤ k → active_in b m a i ≡ active_in b n a i
   unfolding active_in
   active-same a i h = active-knowing-same (known_below b m a) (known_below b n a) a i (known-same a) h
+
+  pub waiting-same : (a i : ℕ) → i ≤ k → waiting_in b m a i ≡ waiting_in b n a i
+  unfolding waiting_in waiting
+  waiting-same a i h =
+      ap (λ x. x && not (active_in b m a i)) (present-same a i h) ∙ ap (λ x. present_in b n a i && not x) (active-same a i h)
 
   pub starred-same : (a i : ℕ) → i ≤ k → starred_in b m a i ≡ starred_in b n a i
   unfolding starred_in starred

@@ -8,13 +8,13 @@ use Rattle.ecam_spec.specs.declared.terms.Span.{Span}
 use Rattle.ecam_spec.specs.declared.terms.Reserved.TheVariants as words
 use Rattle.ecam_spec.specs.declared.terms.Token.{Token}
 use Rattle.ecam_spec.specs.declared.terms.Token.TheVariants.{Word, Name, KeyWord, Number, Sign, Open, Comma, Close}
-use Rattle.ecam_spec.specs.declared.terms.Listed.TheVariants as lists
-use Rattle.ecam_spec.specs.declared.terms.Step.{Step}
-use Rattle.ecam_spec.specs.declared.terms.Step.TheVariants as steps
-use Rattle.ecam_spec.specs.declared.terms.Expected.{Expected}
-use Rattle.ecam_spec.specs.declared.terms.Expected.TheVariants.{Condition, Tail, Opening, Separator, Closing, Finish, AName, AKey, ANumber, Least, Others, Phases}
+use Rattle.ecam_spec.specs.declared.term_steps.Listed.TheVariants as lists
+use Rattle.ecam_spec.specs.declared.term_steps.Step.{Step}
+use Rattle.ecam_spec.specs.declared.term_steps.Step.TheVariants as steps
+use Rattle.ecam_spec.specs.declared.term_steps.Expected.{Expected}
+use Rattle.ecam_spec.specs.declared.term_steps.Expected.TheVariants.{Condition, Tail, Opening, Separator, Closing, Finish, AName, AKey, ANumber, Least, Others, Phases}
 use Rattle.ecam_spec.specs.Grammar.{Form, Forms, truth, name_of, compare_of, valid_of, phase_of, alert_of, press_of, fwc_of, not_of, rise_of, all_of, any_of, at_least_of, conf_of, hold_of, latch_of, no_more, and_then, how_many, numbers, spelling, spellings}
-use Rattle.ecam_spec.specs.TermReading.{name_step, number_step}
+use Rattle.ecam_spec.proofs.TermReading.{name_step, number_step}
 
 -- the tokens of further phases, before those that follow
 abbrev pub numbers_then : List Span → List Token → List Token

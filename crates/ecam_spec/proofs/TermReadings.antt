@@ -2,11 +2,11 @@
 -- stops at the first token that fits nowhere.
 use Rattle.std.proofs.Common.{◌≡◌, ◌⊎◌, inl, inr, ℕ, Bool, true, false, List, [], ◌∷◌, ◌++◌, Option, Some, None, Result, Ok, Err, refl, sym, ap, ◌∙◌, subst}
 use Rattle.ecam_spec.specs.declared.terms.Token.{Token}
-use Rattle.ecam_spec.specs.declared.terms.Step.{Step}
-use Rattle.ecam_spec.specs.declared.terms.Expected.{Expected}
+use Rattle.ecam_spec.specs.declared.term_steps.Step.{Step}
+use Rattle.ecam_spec.specs.declared.term_steps.Expected.{Expected}
 use Rattle.ecam_spec.specs.Token.{Placed}
-use Rattle.ecam_spec.specs.TermText.{words_of}
-use Rattle.ecam_spec.specs.TermReading.{Move, next_move, is_whole, after_steps, read_on, reading}
+use Rattle.ecam_spec.specs.TermVerdict.{words_of}
+use Rattle.ecam_spec.proofs.TermReading.{Move, next_move, is_whole, after_steps, read_on, reading}
 use Rattle.ecam_spec.proofs.TermPieces.{Pieces, stack_tokens, stack_steps, some_pieces}
 use Rattle.ecam_spec.proofs.TermMoves.{goes, Completes, Completed, completed, whole, whole_from}
 

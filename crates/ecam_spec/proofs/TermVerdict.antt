@@ -4,17 +4,18 @@ use Rattle.std.proofs.lemmas.List.{append-nil}
 use Rattle.std.specs.Prelude.{option_map, option_and_then}
 use Rattle.ecam_spec.specs.declared.terms.Span.{Span}
 use Rattle.ecam_spec.specs.declared.terms.Token.{Token}
-use Rattle.ecam_spec.specs.declared.terms.Listed.{Listed}
-use Rattle.ecam_spec.specs.declared.terms.Listed.TheVariants as lists
-use Rattle.ecam_spec.specs.declared.terms.Step.{Step}
-use Rattle.ecam_spec.specs.declared.terms.Step.TheVariants as steps
-use Rattle.ecam_spec.specs.declared.terms.Expected.{Expected}
-use Rattle.ecam_spec.specs.declared.terms.Expected.TheVariants.{Condition}
+use Rattle.ecam_spec.specs.declared.term_steps.Listed.{Listed}
+use Rattle.ecam_spec.specs.declared.term_steps.Listed.TheVariants as lists
+use Rattle.ecam_spec.specs.declared.term_steps.Step.{Step}
+use Rattle.ecam_spec.specs.declared.term_steps.Step.TheVariants as steps
+use Rattle.ecam_spec.specs.declared.term_steps.Expected.{Expected}
+use Rattle.ecam_spec.specs.declared.term_steps.Expected.TheVariants.{Condition}
 use Rattle.ecam_spec.specs.Book.{Text}
 use Rattle.ecam_spec.specs.Token.{Placed, tokens}
 use Rattle.ecam_spec.specs.Grammar.{Form, Forms, truth, name_of, compare_of, valid_of, phase_of, alert_of, press_of, fwc_of, not_of, rise_of, all_of, any_of, at_least_of, conf_of, hold_of, latch_of, no_more, and_then, how_many, spelling, BeginsCondition}
-use Rattle.ecam_spec.specs.TermText.{TermNames, Flaw, unknown_name, out_of_range, earliest, flaws, tree_of_form, judged, judged_tree, Outcome, syntax_error, unknown, number_error, too_deep, too_large, means, words_of, StopsAt, IsVerdict}
-use Rattle.ecam_spec.specs.TermReading.{reading, text_reading, gathered, list_form, after_step, after_all, judged_last, answered, verdict}
+use Rattle.ecam_spec.specs.TermText.{TermNames, Flaw, unknown_name, out_of_range, earliest, flaws, tree_of_form, judged, judged_tree, Outcome, syntax_error, unknown, number_error, too_deep, too_large, means}
+use Rattle.ecam_spec.specs.TermVerdict.{words_of, StopsAt, IsVerdict}
+use Rattle.ecam_spec.proofs.TermReading.{reading, text_reading, gathered, list_form, after_step, after_all, judged_last, answered, computed}
 use Rattle.ecam_spec.proofs.TermPieces.{spelled, spelled-is, made, made_all, phases_made}
 use Rattle.ecam_spec.proofs.TermReadings.{Reads, BeginsStack, Stops, ReadingIs, reading_is, reading_of_pieces, reading_of_stop}
 
@@ -104,7 +105,7 @@ one_form f g e =
     let forms : Some (f ∷ []) ≡ Some (g ∷ []) = sym (made_alone f) ∙ ap (λ (ss : List Step). after_all ss []) same ∙ made_alone g in
     cc
 
--- ---- the verdict
+-- ---- the computed
 
 unspelled : (f : Form) → spelled f [] ≡ spelling f
 unspelled f = spelled-is f [] ∙ append-nil (spelling f)
@@ -188,23 +189,31 @@ module _ (names : TermNames) (text : Text) where
   answer_told (Ok ss) h = read_told ss h
   answer_told (Err at) h = stop_told text at h
 
-  -- what is computed is the verdict
-  pub verdict_told : IsVerdict names text (verdict names text)
-  unfolding verdict
-  verdict_told = answer_told (text_reading text) (reading_is (length text) whole_stack (tokens text))
+  -- what is computed is the computed
+  pub computed_told : IsVerdict names text (computed names text)
+  unfolding computed
+  computed_told = answer_told (text_reading text) (reading_is (length text) whole_stack (tokens text))
 
-  form_answered : (f : Form) → spelling f ≡ words_of (tokens text) → verdict names text ≡ judged names text f
-  unfolding verdict
+  form_answered : (f : Form) → spelling f ≡ words_of (tokens text) → computed names text ≡ judged names text f
+  unfolding computed
   form_answered f e =
       let r : text_reading text ≡ Ok (made f []) = reading_of_form (length text) (tokens text) f e in
       ap (answered names text) r ∙ ap (judged_last names text) (made_alone f)
 
   -- and there is no other
-  pub verdict_only : (o : Outcome) → IsVerdict names text o → verdict names text ≡ o
-  unfolding IsVerdict verdict
-  verdict_only (syntax_error at) h = ap (answered names text) (reading_of_stop (length text) (tokens text) whole_stack at (stop_asked text at h))
-  verdict_only (unknown at) h = form_answered h.0 h.1 ∙ h.2
-  verdict_only (number_error at) h = form_answered h.0 h.1 ∙ h.2
-  verdict_only too_deep h = form_answered h.0 h.1 ∙ h.2
-  verdict_only too_large h = form_answered h.0 h.1 ∙ h.2
-  verdict_only (means t) h = form_answered h.0 h.1 ∙ h.2
+  pub computed_only : (o : Outcome) → IsVerdict names text o → computed names text ≡ o
+  unfolding IsVerdict computed
+  computed_only (syntax_error at) h = ap (answered names text) (reading_of_stop (length text) (tokens text) whole_stack at (stop_asked text at h))
+  computed_only (unknown at) h = form_answered h.0 h.1 ∙ h.2
+  computed_only (number_error at) h = form_answered h.0 h.1 ∙ h.2
+  computed_only too_deep h = form_answered h.0 h.1 ∙ h.2
+  computed_only too_large h = form_answered h.0 h.1 ∙ h.2
+  computed_only (means t) h = form_answered h.0 h.1 ∙ h.2
+
+-- each text has a verdict
+unfoldable pub some_verdict : (names : TermNames) (text : Text) → (outcome : Outcome) × IsVerdict names text outcome
+some_verdict names text = (computed names text, computed_told names text)
+
+-- and no other
+pub one_verdict : (names : TermNames) (text : Text) (o p : Outcome) → IsVerdict names text o → IsVerdict names text p → o ≡ p
+one_verdict names text o p first second = sym (computed_only names text o first) ∙ computed_only names text p second

@@ -16,7 +16,7 @@ use Rattle.ecam_spec.specs.Term.{holds}
 use Rattle.ecam_spec.specs.History.{Moment}
 use Rattle.ecam_spec.specs.Keys.{pressed}
 use Rattle.ecam_spec.specs.Picture.{row, zone}
-use Rattle.ecam_spec.specs.Crew.{Shown, target, is_number, struck, cleared, cancelled, is_shown, shown_after, shown_below, shown, shows_nothing, normal}
+use Rattle.ecam_spec.specs.Crew.{Shown, target, is_alert, struck, cleared, long_recall, cancelled, recalled, is_shown, shown_after, shown_below, shown, shows_nothing, normal}
 use Rattle.ecam_spec.specs.LeftZone.{LeftRow, alert_rows, left_rows}
 use Rattle.ecam_spec.specs.RightZone.{right_rows}
 use Rattle.ecam_spec.specs.StatusPage.{status_rows}
@@ -32,7 +32,7 @@ use Rattle.ecam_spec.proofs.TitleKeys.{pressed-nowhere, held-nowhere}
 use Rattle.ecam_spec.proofs.TitleAlerts.{plain-at, starred-nowhere, up-titled}
 use Rattle.ecam_spec.proofs.TitleRows.{titled, picture_of_rows, picture-titled, left_rows-titled, display_rows-blank, all_rows-titled, status-none, order-titled, warns-none, cautions-none, sound-none}
 
-kept : (x : Bool) → (x && (true && true)) ≡ x
+kept : (x : Bool) → ((x && true) || false) ≡ x
 kept true = refl
 kept false = refl
 
@@ -49,21 +49,28 @@ module _ (b : Book) (titles : IsTitleBook b) (moments : ℕ → Moment) (keys : 
   unfolding cockpit
   emer-nowhere k = pressed-nowhere Emer refl (strokes_in b moments) keys k
 
-  -- no alert is cleared or cancelled
+  -- no alert is cleared, cancelled or recalled
   cleared-nowhere : (s : Shown) (a k : ℕ) → cleared (cockpit b moments) s a k ≡ false
   unfolding cleared struck
   cleared-nowhere s a k =
       let c = cockpit b moments in
       since-nowhere (λ j. struck c s a j && c.up a j) (λ j. c.up a j && not (c.rcl j)) k
-      (λ i. ap (λ x. (x && is_number a (target s i)) && c.up a i) (clr-nowhere i))
+      (λ i. ap (λ x. (x && is_alert a (target s i)) && c.up a i) (clr-nowhere i))
 
   cancelled-nowhere : (s : Shown) (a k : ℕ) → cancelled (cockpit b moments) s a k ≡ false
   unfolding cancelled
   cancelled-nowhere s a k =
       let c = cockpit b moments in
       and_right (c.is_caution a) _
-      (since-nowhere (λ j. c.emer j && is_number a (target s j)) (λ j. not (c.long_recall j || c.enters_one j)) k
-      (λ i. ap (λ x. x && is_number a (target s i)) (emer-nowhere i)))
+      (since-nowhere (λ j. c.emer j && is_alert a (target s j)) (λ j. not (long_recall c j || c.enters_one j)) k
+      (λ i. ap (λ x. x && is_alert a (target s i)) (emer-nowhere i)))
+
+  recalled-nowhere : (s : Shown) (a k : ℕ) → recalled (cockpit b moments) s a k ≡ false
+  unfolding recalled
+  recalled-nowhere s a k =
+      let c = cockpit b moments in
+      since-nowhere (λ j. c.rcl j && (c.waiting a j && not (struck c s a j))) (λ j. c.waiting a j && not (struck c s a j)) k
+      (λ i. ap (λ x. x && (c.waiting a i && not (struck c s a i))) (rcl-nowhere i))
 
   up_there : (a k : ℕ) → (cockpit b moments).up a k ≡ is_titled b moments a k
   unfolding cockpit
@@ -73,9 +80,10 @@ module _ (b : Book) (titles : IsTitleBook b) (moments : ℕ → Moment) (keys : 
   unfolding is_shown
   is_shown_titled s a k =
       let c = cockpit b moments in
-      ap (λ x. c.up a k && (not x && not (cancelled c s a k))) (cleared-nowhere s a k)
-      ∙ ap (λ x. c.up a k && (true && not x)) (cancelled-nowhere s a k)
-      ∙ kept (c.up a k)
+      let one = cleared-nowhere s a k in
+      let two = cancelled-nowhere s a k in
+      let three = recalled-nowhere s a k in
+      rw (one, two, three) (kept (c.up a k))
       ∙ up_there a k
 
   order_there : (cockpit b moments).order ≡ alert_numbers b
@@ -152,7 +160,7 @@ module _ (b : Book) (titles : IsTitleBook b) (moments : ℕ → Moment) (keys : 
   unfolding choice
   choice-auto k =
       let p = panel b moments in
-      ap (λ o. choice_from p o k) (last-nowhere (selects p) k (λ i. ap is_some (selecting-none i)))
+      ap (choice_from p) (last-nowhere (selects p) k (λ i. ap is_some (selecting-none i)))
 
   display-pages : (k : ℕ) → (display b moments k).pages ≡ []
   unfolding display

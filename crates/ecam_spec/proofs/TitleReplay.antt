@@ -7,13 +7,13 @@ use Rattle.std.proofs.lemmas.List.Elements.{All-nil, All-head, All-tail, All-pus
 use Rattle.std.proofs.lemmas.Bool.{cases_lt}
 use Rattle.ecam_spec.specs.declared.kinds.Event.{Event}
 use Rattle.ecam_spec.specs.declared.kinds.Event.TheVariants.{Word, Tick, Press, Release, Fail, Up, End}
-use Rattle.ecam_spec.specs.declared.kinds.Key.TheVariants.{ToCfg}
 use Rattle.ecam_spec.specs.Book.{Book}
 use Rattle.ecam_spec.specs.Term.{is_so}
 use Rattle.ecam_spec.specs.History.{Stroke, Moment, Era, both_up, empty_era, changes_computers, era_with, era}
 use Rattle.ecam_spec.specs.Situation.{parameter_at, alert_at, words_in, value_in}
 use Rattle.ecam_spec.specs.Screen.{alert_numbers}
 use Rattle.ecam_spec.specs.Replay.{moment_of, picture_at}
+use Rattle.ecam_spec.specs.Scope.{is_built_key}
 use Rattle.ecam_spec.specs.Titles.{IsTitleBook, discrete_of, is_titled, titles_in, title_picture, OnlyToCfg, IsTitleEvent}
 use Rattle.ecam_spec.proofs.MomentSteps.{moment_whole, moment_open, moment_tick, some_up, era_whole}
 use Rattle.ecam_spec.proofs.ReplaySteps.{picture_at_up}
@@ -40,20 +40,20 @@ record IsTitleEra (e : Era) : Type 0 where
   whole : All OnlyToCfg e.moments
   open_one : OnlyToCfg e.open_moment
 
-no_strokes : All (λ (s : Stroke). s.key ≡ ToCfg) []
-no_strokes = All-nil (λ (s : Stroke). s.key ≡ ToCfg)
+no_strokes : All (λ (s : Stroke). is_built_key s.key ≡ true) []
+no_strokes = All-nil (λ (s : Stroke). is_built_key s.key ≡ true)
 
 era_step : (e : Era) (x : Event) → IsTitleEvent x → IsTitleEra e → IsTitleEra (era_with e x)
 unfolding era_with
 era_step e (Word b w) ok so = record { whole = so.whole; open_one = so.open_one }
 era_step e Tick ok so = record { whole = All-push OnlyToCfg e.moments e.open_moment so.whole so.open_one; open_one = no_strokes }
 era_step e (Press k) ok so =
-    record { whole = so.whole; open_one = All-push (λ (s : Stroke). s.key ≡ ToCfg) e.open_moment.strokes (record { key = k; down = true }) so.open_one ok }
+    record { whole = so.whole; open_one = All-push (λ (s : Stroke). is_built_key s.key ≡ true) e.open_moment.strokes (record { key = k; down = true }) so.open_one ok }
 era_step e (Release k) ok so =
-    record { whole = so.whole; open_one = All-push (λ (s : Stroke). s.key ≡ ToCfg) e.open_moment.strokes (record { key = k; down = false }) so.open_one ok }
-era_step e (Fail n) ok so = absurd ok
-era_step e (Up n) ok so = absurd ok
-era_step e End ok so = absurd ok
+    record { whole = so.whole; open_one = All-push (λ (s : Stroke). is_built_key s.key ≡ true) e.open_moment.strokes (record { key = k; down = false }) so.open_one ok }
+era_step e (Fail n) ok so = absurd (let w : ⊥ = cc in w)
+era_step e (Up n) ok so = absurd (let w : ⊥ = cc in w)
+era_step e End ok so = absurd (let w : ⊥ = cc in w)
 
 era_fold : (e : Era) (h : List Event) → All IsTitleEvent h → IsTitleEra e → IsTitleEra (fold era_with e h)
 era_fold e [] ok so = so
@@ -64,9 +64,9 @@ no_change (Word b w) ok = refl
 no_change Tick ok = refl
 no_change (Press k) ok = refl
 no_change (Release k) ok = refl
-no_change (Fail n) ok = absurd ok
-no_change (Up n) ok = absurd ok
-no_change End ok = absurd ok
+no_change (Fail n) ok = absurd (let w : ⊥ = cc in w)
+no_change (Up n) ok = absurd (let w : ⊥ = cc in w)
+no_change End ok = absurd (let w : ⊥ = cc in w)
 
 pub computers_kept : (h : List Event) → All IsTitleEvent h → All (λ x. changes_computers x ≡ false) h
 computers_kept h ok = All-weaker IsTitleEvent (λ x. changes_computers x ≡ false) no_change h ok
@@ -92,7 +92,7 @@ pub title_tick : (b : Book) → IsTitleBook b → (h : List Event) → All IsTit
 title_tick b titles h ok =
     let e = era h in
     let k = length e.moments in
-    let after : (i : ℕ) → OnlyToCfg (moment_of (era_with e Tick) i) = at_moment (era_with e Tick) (era_step e Tick tt (title_era h ok)) in
+    let after : (i : ℕ) → OnlyToCfg (moment_of (era_with e Tick) i) = at_moment (era_with e Tick) (era_step e Tick refl (title_era h ok)) in
     picture_at_up b h (some_up h (computers_kept h ok))
     ∙ title_book_picture b titles (moment_of (era_with e Tick)) after k
     ∙ ap (title_picture b) (titles_in-below b (moment_of (era_with e Tick)) (moment_of e) k (λ i h. moment_tick e i h))

@@ -19,7 +19,7 @@ use Rattle.ecam_spec.specs.RightZone.{right_zone, right_beyond}
 use Rattle.ecam_spec.specs.StatusPage.{sections, section_rows, cancelled_rows, status_rows, flags, flags_row}
 use Rattle.ecam_spec.specs.SystemDisplay.{Display, page_rows, called_page, display_rows}
 use Rattle.ecam_spec.specs.declared.kinds.Choice.TheVariants.{Auto}
-use Rattle.ecam_spec.specs.Lamps.{Attention, is_open, warns, cautions, chimes, sound_of, sound}
+use Rattle.ecam_spec.specs.Lamps.{Attention, calls, warns, cautions, chimes, sound_of, sound}
 use Rattle.ecam_spec.specs.LampRows.{lamp_rows}
 use Rattle.ecam_spec.specs.Situation.{alert_at}
 use Rattle.ecam_spec.specs.Screen.{alert_numbers, of_level, order}
@@ -132,11 +132,11 @@ module _ (b : Book) (titles : IsTitleBook b) where
 module _ (a : Attention) (low : (i : ℕ) → a.level i ≡ One) where
   pub warns-none : (k : ℕ) → warns a k ≡ false
   unfolding warns
-  warns-none k = any-none (λ i. is_three (a.level i) && is_open a i k) (λ i. ap (λ l. is_three l && is_open a i k) (low i)) (a.shown k)
+  warns-none k = any-none (λ i. is_three (a.level i) && calls a i k) (λ i. ap (λ l. is_three l && calls a i k) (low i)) (a.shown k)
 
   pub cautions-none : (k : ℕ) → cautions a k ≡ false
   unfolding cautions
-  cautions-none k = any-none (λ i. is_two (a.level i) && is_open a i k) (λ i. ap (λ l. is_two l && is_open a i k) (low i)) (a.shown k)
+  cautions-none k = any-none (λ i. is_two (a.level i) && calls a i k) (λ i. ap (λ l. is_two l && calls a i k) (low i)) (a.shown k)
 
   chimes-none : (i k : ℕ) → chimes a i k ≡ false
   unfolding chimes
@@ -145,5 +145,5 @@ module _ (a : Attention) (low : (i : ℕ) → a.level i ≡ One) where
   pub sound-none : (k : ℕ) → sound a k ≡ Quiet
   unfolding sound sound_of
   sound-none k =
-      ap (λ o. sound_of a o k) (find-none (λ i. is_three (a.level i) && is_open a i k) (λ i. ap (λ l. is_three l && is_open a i k) (low i)) (a.shown k))
+      ap (λ o. sound_of a o k) (find-none (λ i. is_three (a.level i) && calls a i k) (λ i. ap (λ l. is_three l && calls a i k) (low i)) (a.shown k))
       ∙ ap (λ x. cond x Chime Quiet) (any-none (λ i. chimes a i k) (λ i. chimes-none i k) (a.shown k))

@@ -6,10 +6,10 @@ use Rattle.std.specs.Option.{option_or}
 use Rattle.ecam_spec.specs.declared.kinds.Kind.{Kind}
 use Rattle.ecam_spec.specs.Past.{Signal, last}
 use Rattle.ecam_spec.specs.Book.{Source, Parameter}
-use Rattle.ecam_spec.specs.Value.{BusWord, takes, last_taken, arrives, word_of, is_fresh, reading, source_value, first_of, value}
+use Rattle.ecam_spec.specs.Value.{BusWord, takes, last_taken, arrives, word_of, is_fresh, reading, source_value, value}
+use Rattle.ecam_spec.specs.Places.{first_of}
 use Rattle.ecam_spec.proofs.PastSteps.{last-zero, last-suc}
-use Rattle.ecam_spec.proofs.PastAgree.{once_within-below}
-use Rattle.ecam_spec.proofs.HistoryLaws.{last-below}
+use Rattle.ecam_spec.proofs.PastAgree.{once_within-below, last-below}
 
 -- what is asked of the last moment with p is asked of none later
 chosen : {X : Type 0} (f g : ℕ → Option X) (b : Bool) (k : ℕ) (o : Option ℕ) → f k ≡ g k → option_and_then f o ≡ option_and_then g o → option_and_then f (cond b (Some k) o) ≡ option_and_then g (cond b (Some k) o)

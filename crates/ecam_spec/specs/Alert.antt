@@ -1,4 +1,4 @@
--- When an alert is present, active, starred and up. The outline is the A320's (DSC-31); the exact rules are
+-- When an alert is present, active, waiting, starred and up. The outline is the A320's (DSC-31); the exact rules are
 -- this project's own.
 use Rattle.std.specs.Prelude.{ℕ, not, ◌&&◌, ◌==◌, List, [], length, get_or, filter, find, Option}
 use Rattle.std.specs.List.{list_any}
@@ -14,6 +14,10 @@ present confirm condition = historically_within confirm condition
 unfoldable pub active : Signal → Signal → Signal
 active inhibited present = since (λ j. present j && not (inhibited j)) present
 
+-- it is present, and not active: a phase inhibits it
+unfoldable pub waiting : Signal → Signal → Signal
+waiting present active k = present k && not (active k)
+
 -- a primary failure explains it: it is active, and so is an alert that lists it as secondary. `primaries` are
 -- these alerts, and `active` tells which alerts are active
 unfoldable pub starred : (ℕ → Signal) → List ℕ → ℕ → Signal
@@ -27,7 +31,7 @@ starred_by active primaries k = find (λ p. active p k) primaries
 unfoldable pub up : Signal → Signal → Signal
 up active starred k = active k && not (starred k)
 
--- the moment in which it came up
+-- it comes up: it is up, and wasn't in the moment before
 unfoldable pub onset : Signal → Signal
 onset up = rise up
 

@@ -1,4 +1,4 @@
--- A book of alerts as plain data, with its names resolved to places: what the definitions above speak of.
+-- A book of alerts as plain data, with its names resolved to places: what the other definitions speak of.
 -- Texts and names are lists of ASCII bytes.
 use Rattle.std.specs.Prelude.{ℕ, ℤ, Bool, List, Option}
 use Rattle.ecam_spec.specs.declared.kinds.Key.{Key}

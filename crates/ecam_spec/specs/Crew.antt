@@ -1,19 +1,23 @@
 -- What the crew makes of the alerts: CLR, RCL and EMER CANC act on what the moment before showed, and so decide
 -- what is shown. The outline is the A320's (DSC-31); the exact rules are this project's own.
 use Rattle.std.specs.Prelude.{ℕ, zero, suc, Bool, true, false, not, ◌&&◌, ◌||◌, ◌==◌, List, [], ◌∷◌, ◌++◌, get_or, filter, Option, Some, None}
-use Rattle.ecam_spec.specs.Past.{Signal, once_within, historically_from, since}
+use Rattle.ecam_spec.specs.Past.{Signal, once_within, historically_from, historically_within, since}
 use Rattle.ecam_spec.specs.Places.{first_in}
 
--- the alerts in their order (level 3, 2, 1, and within a level as in the book), which of them are cautions
--- (level 1 or 2), which are up, and what the keys and the phase do
+-- what the crew's actions go by
 pub record Cockpit : Type 0 where
+  -- the alerts in their order: level 3, 2, 1, and within a level as in the book
   pub order : List ℕ
+  -- the alert is a caution (level 1 or 2), is up, is waiting
   pub is_caution : ℕ → Bool
   pub up : ℕ → Signal
+  pub waiting : ℕ → Signal
+  -- CLR, RCL and EMER CANC are pressed, and RCL is held
   pub clr : Signal
   pub rcl : Signal
   pub emer : Signal
-  pub long_recall : Signal
+  pub rcl_held : Signal
+  -- the flight enters phase 1
   pub enters_one : Signal
 
 -- what is shown in each moment, in order
@@ -22,34 +26,45 @@ Shown = ℕ → List ℕ
 
 -- the alert on which CLR and EMER CANC act: the first that the moment before showed
 unfoldable pub target : Shown → ℕ → Option ℕ
-target shown zero = None
-target shown (suc k) = first_in (shown k)
+target history zero = None
+target history (suc k) = first_in (history k)
 
-abbrev pub is_number : ℕ → Option ℕ → Bool
-is_number a None = false
-is_number a (Some b) = a == b
+-- there is an alert, and it is alert a
+abbrev pub is_alert : ℕ → Option ℕ → Bool
+is_alert a None = false
+is_alert a (Some b) = a == b
 
+-- each definition takes what was shown in the moments before, the history
 module _ (c : Cockpit) where
   -- CLR is pressed, and the alert is the target
   unfoldable pub struck : Shown → ℕ → Signal
-  struck shown a k = c.clr k && is_number a (target shown k)
+  struck history a k = c.clr k && is_alert a (target history k)
 
   -- it was struck, has been up since, and RCL wasn't pressed since
   unfoldable pub cleared : Shown → ℕ → Signal
-  cleared shown a = since (λ j. struck shown a j && c.up a j) (λ j. c.up a j && not (c.rcl j))
+  cleared history a = since (λ j. struck history a j && c.up a j) (λ j. c.up a j && not (c.rcl j))
 
-  -- EMER CANC was pressed while the caution was the target, with no long recall and no begin of phase 1 since
+  -- RCL is held for three seconds, which are thirty moments
+  unfoldable pub long_recall : Signal
+  long_recall = historically_within 29 c.rcl_held
+
+  -- EMER CANC was pressed while the caution was the target, with no long recall and no start of phase 1 since
   unfoldable pub cancelled : Shown → ℕ → Signal
-  cancelled shown a k =
-      c.is_caution a && since (λ j. c.emer j && is_number a (target shown j)) (λ j. not (c.long_recall j || c.enters_one j)) k
+  cancelled history a k =
+      c.is_caution a && since (λ j. c.emer j && is_alert a (target history j)) (λ j. not (long_recall j || c.enters_one j)) k
 
-  -- it is up, and neither cleared nor cancelled
+  -- RCL was pressed while it was waiting; it has been waiting since, and wasn't struck then or since
+  unfoldable pub recalled : Shown → ℕ → Signal
+  recalled history a =
+      since (λ j. c.rcl j && (c.waiting a j && not (struck history a j))) (λ j. c.waiting a j && not (struck history a j))
+
+  -- it isn't cancelled, and is up and not cleared, or recalled
   unfoldable pub is_shown : Shown → ℕ → Signal
-  is_shown shown a k = c.up a k && (not (cleared shown a k) && not (cancelled shown a k))
+  is_shown history a k = not (cancelled history a k) && ((c.up a k && not (cleared history a k)) || recalled history a k)
 
-  -- what is shown now, where `shown` tells it of the moments before
+  -- what is shown now
   unfoldable pub shown_after : Shown → ℕ → List ℕ
-  shown_after shown k = filter (λ a. is_shown shown a k) c.order
+  shown_after history k = filter (λ a. is_shown history a k) c.order
 
   -- what was shown in each of the moments below k
   unfoldable pub shown_below : ℕ → List (List ℕ)

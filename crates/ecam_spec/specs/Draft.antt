@@ -1,11 +1,11 @@
 -- A draft: a book as it is read, in which an alert's secondaries still go by name. The book is the draft with
 -- these names resolved.
 use Rattle.std.specs.Prelude.{ℕ, List, map, Option}
-use Rattle.std.specs.List.{filter_map, position_from}
+use Rattle.std.specs.List.{filter_map}
 use Rattle.ecam_spec.specs.declared.kinds.Level.{Level}
 use Rattle.ecam_spec.specs.declared.kinds.Sound.{Sound}
+use Rattle.ecam_spec.specs.Bytes.{place_of}
 use Rattle.ecam_spec.specs.Book.{Text, Tree, Parameter, PhaseTerms, Line, StatusLine, Alert, Memo, Page, Book}
-use Rattle.ecam_spec.specs.BookText.{same_text}
 
 pub record DraftAlert : Type 0 where
   pub name : Text
@@ -28,10 +28,6 @@ pub record Draft : Type 0 where
   pub phase : PhaseTerms
   pub alerts : List DraftAlert
   pub memos : List Memo
-
--- the place, from 0, of a name among names
-abbrev pub place_of : List Text → Text → Option ℕ
-place_of names name = position_from (same_text name) 0 names
 
 abbrev pub alert_names : List DraftAlert → List Text
 alert_names alerts = map (λ a. a.name) alerts

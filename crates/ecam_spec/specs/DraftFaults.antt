@@ -1,5 +1,5 @@
 -- The faults of a draft, codes 20 to 26: it keeps its limits, and yet is no book.
-use Rattle.std.specs.Prelude.{ℕ, Bool, true, false, not, ◌||◌, ◌==◌, nat_le, List, [], ◌∷◌, map, slice_get, Option, Some, None}
+use Rattle.std.specs.Prelude.{ℕ, ◌-◌, Bool, true, false, not, ◌||◌, ◌==◌, nat_le, List, [], ◌∷◌, map, slice_get, Option, Some, None}
 use Rattle.std.specs.List.{list_any}
 use Rattle.ecam_spec.specs.declared.kinds.Kind.{Kind}
 use Rattle.ecam_spec.specs.declared.kinds.Kind.TheVariants.{Disc}
@@ -9,11 +9,13 @@ use Rattle.ecam_spec.specs.declared.kinds.Sound.{Sound}
 use Rattle.ecam_spec.specs.declared.kinds.Sound.TheVariants.{Quiet, Chime}
 use Rattle.ecam_spec.specs.declared.kinds.Section.TheVariants as section
 use Rattle.ecam_spec.specs.declared.kinds.BookFault.{BookFault}
+use Rattle.ecam_spec.specs.declared.limits.TheConstants.{PHASE_SETS}
+use Rattle.ecam_spec.specs.Places.{first_of}
+use Rattle.ecam_spec.specs.Bytes.{same_text, place_of}
 use Rattle.ecam_spec.specs.Book.{Text, Tree, Trees, constant, discrete, valid, compared, in_phase, alert, press, computer, negation, all, any, at_least, confirmed, held, risen, latched, none, more}
-use Rattle.ecam_spec.specs.BookText.{same_text}
 use Rattle.ecam_spec.specs.BookTerms.{phase_terms, line_terms}
-use Rattle.ecam_spec.specs.Draft.{DraftAlert, Draft, place_of, alert_names}
-use Rattle.ecam_spec.specs.Faults.{first_of, first_item, fault_at, whole}
+use Rattle.ecam_spec.specs.Draft.{DraftAlert, Draft, alert_names}
+use Rattle.ecam_spec.specs.Faults.{first_item, fault_at, whole}
 
 unfoldable mutual
   -- an atom of the condition is so
@@ -87,9 +89,9 @@ is_at_most i (Some s) = nat_le s i
 abbrev pub stands_early : List Text → ℕ → Text → Bool
 stands_early names i name = is_at_most i (place_of names name)
 
--- 26: all ten phases
+-- 26: the set of all ten phases is the last
 abbrev pub all_phases : ℕ
-all_phases = 1023
+all_phases = PHASE_SETS - 1
 
 module _ (d : Draft) where
   abbrev pub kinds_of : List Kind

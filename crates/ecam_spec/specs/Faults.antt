@@ -1,14 +1,8 @@
 -- Which fault of a book is told: the one with the least code, among these the one in the first section, and among
 -- these the one of the least item, counted from 1. Item 0 is a section as a whole.
 use Rattle.std.specs.Prelude.{ℕ, suc, Bool, true, false, List, [], ◌∷◌, Option, Some, None, option_map}
-use Rattle.std.specs.Option.{option_or}
 use Rattle.ecam_spec.specs.declared.kinds.Section.{Section}
 use Rattle.ecam_spec.specs.declared.kinds.BookFault.{BookFault}
-
--- the first that is there
-abbrev pub first_of : List (Option BookFault) → Option BookFault
-first_of [] = None
-first_of (f ∷ fs) = option_or f (first_of fs)
 
 -- the number, counted from 1, of the first item that is so, where a test is given an item's place from 0 too
 abbrev pub first_from : {X : Type 0} → ℕ → (ℕ → X → Bool) → List X → Option ℕ

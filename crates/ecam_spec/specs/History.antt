@@ -1,10 +1,10 @@
 -- What happened: the events of a record, which computers are up after them, the era that they are in, and
 -- its moments. All of it is this project's own.
-use Rattle.std.specs.Prelude.{ℕ, Bool, true, false, not, ◌&&◌, ◌||◌, ◌==◌, List, [], ◌∷◌, ◌++◌, length, get_or, take, drop, fold, if◌then◌else◌}
+use Rattle.std.specs.Prelude.{◌≡◌, ℕ, ◌<◌, Bool, true, false, not, ◌&&◌, ◌||◌, ◌==◌, List, [], ◌∷◌, ◌++◌, length, get_or, take, drop, fold, if◌then◌else◌}
 use Rattle.ecam_spec.specs.declared.kinds.Event.{Event}
 use Rattle.ecam_spec.specs.declared.kinds.Event.TheVariants.{Word, Tick, Press, Release, Fail, Up, End}
 use Rattle.ecam_spec.specs.declared.kinds.Key.{Key}
-use Rattle.ecam_spec.specs.Past.{Signal, last, next}
+use Rattle.ecam_spec.specs.Past.{Signal, last, moment_after}
 use Rattle.ecam_spec.specs.Value.{BusWord}
 
 -- which of the two computers are up
@@ -47,7 +47,7 @@ begins_era h i = comes_up (get_or h i Tick) && none_up (flags_after (take i h))
 
 -- the era begins after the last such place, or with the history
 unfoldable pub era_place : List Event → ℕ
-era_place h = next (last (begins_era h) (length h))
+era_place h = moment_after (last (begins_era h) (length h))
 
 -- a key goes down, or up
 pub record Stroke : Type 0 where
@@ -79,6 +79,11 @@ with_word w m = record m { words = m.words ++ w ∷ [] }
 abbrev pub with_stroke : Stroke → Moment → Moment
 with_stroke s m = record m { strokes = m.strokes ++ s ∷ [] }
 
+-- one more thing comes in moment k, which hasn't ended, and what came before is the same
+pub record OneMore {X : Type 0} (old new : ℕ → List X) (k : ℕ) (x : X) : Type 0 where
+  pub before : (i : ℕ) → i < k → new i ≡ old i
+  pub now : new k ≡ old k ++ x ∷ []
+
 -- an event comes in the moment that hasn't ended, and a Tick ends it
 unfoldable pub era_with : Era → Event → Era
 era_with e Tick = record { moments = e.moments ++ e.open_moment ∷ []; open_moment = empty_moment e.open_moment.flags }
@@ -89,6 +94,10 @@ era_with e (Fail n) = record e { open_moment = record e.open_moment { flags = fl
 era_with e (Up n) = record e { open_moment = record e.open_moment { flags = flags_with e.open_moment.flags (Up n) } }
 era_with e End = e
 
--- the era that a history is in: what followed its begin
+-- the era that a history is in: what followed its start
 unfoldable pub era : List Event → Era
 era h = fold era_with (empty_era (flags_after (take (era_place h) h))) (drop (era_place h) h)
+
+-- the era into which an event goes: that of the history before it, or an empty one where the event begins an era
+unfoldable pub begun : List Event → Event → Era
+begun h x = if comes_up x && none_up (flags_after h) then empty_era (flags_after h) else era h

@@ -1,17 +1,29 @@
--- The keys in each moment: pressed, held, and the long recall. The keys are the A320's (DSC-31); what counts
--- as a press, and how long a long one is, are this project's own.
-use Rattle.std.specs.Prelude.{ℕ, ◌+◌, ◌≤◌, Bool, false, ◌&&◌, ◌==◌, List, [], ◌∷◌, Option, Some, None, is_none, unwrap_or, if◌then◌else◌}
+-- The keys in each moment: pressed, and held. The keys are the A320's (DSC-31); what counts as a press is this
+-- project's own.
+use Rattle.std.specs.Prelude.{ℕ, ◌+◌, ◌<◌, ◌≤◌, Bool, false, ◌&&◌, ◌==◌, List, [], ◌∷◌, Option, Some, None, is_none, unwrap_or, if◌then◌else◌}
 use Rattle.std.specs.List.{list_any}
 use Rattle.std.specs.Option.{option_or}
+use Rattle.ecam_spec.specs.declared.kinds.Event.{Event}
+use Rattle.ecam_spec.specs.declared.kinds.Event.TheVariants.{Word, Press, Release, Fail, Up}
 use Rattle.ecam_spec.specs.declared.kinds.Key.{Key}
 use Rattle.ecam_spec.specs.declared.kinds.Key.TheVariants.{Clr, Rcl, Sts, All, Emer, ToCfg, Mw, Mc, Page}
-use Rattle.ecam_spec.specs.Past.{Signal, since, historically_within}
+use Rattle.ecam_spec.specs.declared.limits.TheConstants.{BUSES, PAGES}
+use Rattle.ecam_spec.specs.Past.{Signal, since}
 use Rattle.ecam_spec.specs.History.{Stroke}
 
 -- a page's key has a number from 1 to 16
 abbrev pub IsKey : Key → Type 0
-IsKey (Page i) = (1 ≤ i) × (i ≤ 16)
+IsKey (Page i) = (1 ≤ i) × (i ≤ PAGES)
 IsKey _ = Unit {0}
+
+-- an event of a record: a word's bus is 0 to 15, a key is one, and a computer is 1 or 2
+abbrev pub IsEvent : Event → Type 0
+IsEvent (Word bus bits) = bus < BUSES
+IsEvent (Press key) = IsKey key
+IsEvent (Release key) = IsKey key
+IsEvent (Fail n) = (1 ≤ n) × (n ≤ 2)
+IsEvent (Up n) = (1 ≤ n) × (n ≤ 2)
+IsEvent _ = Unit {0}
 
 -- each key has a number of its own
 abbrev pub key_number : Key → ℕ
@@ -41,7 +53,3 @@ module _ (strokes : ℕ → List Stroke) where
   -- the last stroke of the key went down
   unfoldable pub held : Key → Signal
   held key = since (λ j. unwrap_or (last_stroke key (strokes j)) false) (λ j. is_none (last_stroke key (strokes j)))
-
-  -- RCL is held for three seconds, which are thirty moments
-  unfoldable pub long_recall : Signal
-  long_recall = historically_within 29 (held Rcl)

@@ -5,8 +5,9 @@ use Rattle.ecam_spec.specs.declared.kinds.Colour.{Colour}
 use Rattle.ecam_spec.specs.declared.kinds.Colour.TheVariants.{Red, Amber, Green}
 use Rattle.ecam_spec.specs.declared.kinds.Level.{Level}
 use Rattle.ecam_spec.specs.declared.kinds.Level.TheVariants.{One, Two, Three}
+use Rattle.ecam_spec.specs.declared.limits.TheConstants.{ZONE_ROWS}
 use Rattle.ecam_spec.specs.Book.{Line, Alert}
-use Rattle.ecam_spec.specs.Crew.{is_number}
+use Rattle.ecam_spec.specs.Crew.{is_alert}
 use Rattle.ecam_spec.specs.Picture.{Row, row, zone}
 
 -- a row of the left zone, and the alert whose title it is, if it is one
@@ -38,16 +39,16 @@ left_rows (r ∷ rows) normal memos = r ∷ rows
 
 -- L1 to L7
 unfoldable pub left_zone : List LeftRow → List Row
-left_zone rows = zone 7 (map (λ (r : LeftRow). r.row) rows)
+left_zone rows = zone ZONE_ROWS (map (λ (r : LeftRow). r.row) rows)
 
 -- there are more than seven rows
 unfoldable pub has_more : List LeftRow → Bool
-has_more rows = nat_lt 7 (length rows)
+has_more rows = nat_lt ZONE_ROWS (length rows)
 
 -- OVF: how many titles stand beyond the seventh row
 unfoldable pub overflow : List LeftRow → ℕ
-overflow rows = count_by (λ (r : LeftRow). is_some r.title_of) (drop 7 rows)
+overflow rows = count_by (λ (r : LeftRow). is_some r.title_of) (drop ZONE_ROWS rows)
 
 -- the row of an alert's title, from 1
 unfoldable pub title_row : ℕ → List LeftRow → Option ℕ
-title_row a rows = option_map (λ i. i + 1) (position (λ (r : LeftRow). is_number a r.title_of) rows)
+title_row a rows = option_map (λ i. i + 1) (position (λ (r : LeftRow). is_alert a r.title_of) rows)

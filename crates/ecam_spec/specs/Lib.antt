@@ -1,6 +1,7 @@
 -- From the vocabulary up to what the program writes.
 pub mod Past
 pub mod Places
+pub mod Bytes
 pub mod Word
 pub mod Reading
 pub mod Book
@@ -12,14 +13,16 @@ pub mod PhaseRules
 pub mod TermSize
 pub mod TermNames
 pub mod Picture
+pub mod ProperRows
 pub mod History
 pub mod Keys
 pub mod RecordLine
 pub mod Record
 pub mod Token
 pub mod Grammar
+pub mod TermNumber
 pub mod TermText
-pub mod TermReading
+pub mod TermVerdict
 pub mod Output
 pub mod Alert
 pub mod Crew
@@ -35,15 +38,16 @@ pub mod Situation
 pub mod Screen
 pub mod Replay
 pub mod Computers
-pub mod Stage
+pub mod Scope
 pub mod Command
 pub mod Complaint
 pub mod Titles
+pub mod Runs
 pub mod Opened
 pub mod BookText
 pub mod Draft
 pub mod BookTerms
 pub mod Summary
-pub mod Sound
+pub mod KeepsLimits
 pub mod Faults
 pub mod DraftFaults

@@ -1,7 +1,6 @@
 -- Past-time temporal logic: what was so up to now. A signal is a truth in each moment, and each word
 -- here makes a signal, or a number, of signals. The moments are numbered from 0.
 use Rattle.std.specs.Prelude.{ℕ, zero, suc, ◌+◌, ◌-◌, Bool, true, false, not, ◌&&◌, ◌||◌, Option, Some, None, nat_le, nat_lt}
-use Rattle.std.specs.Option.{option_map_or}
 
 abbrev pub Signal : Type 0
 Signal = ℕ → Bool
@@ -51,13 +50,13 @@ last p zero = elim (p zero) [ true ↦ Some 0 | false ↦ None ]
 last p (suc k) = elim (p (suc k)) [ true ↦ Some (suc k) | false ↦ last p k ]
 
 -- the moment after that one, or 0 where there is none
-abbrev pub next : Option ℕ → ℕ
-next None = 0
-next (Some k) = suc k
+abbrev pub moment_after : Option ℕ → ℕ
+moment_after None = 0
+moment_after (Some k) = suc k
 
 -- the first moment of the unbroken stretch of moments with p that ends now
-unfoldable pub begin_of : Signal → ℕ → ℕ
-begin_of p k = next (last (λ i. not (p i)) k)
+unfoldable pub start_of : Signal → ℕ → ℕ
+start_of p k = moment_after (last (λ i. not (p i)) k)
 
 -- in how many moments up to now p holds
 unfoldable pub count_up_to : Signal → ℕ → ℕ
@@ -67,13 +66,3 @@ count_up_to p (suc k) = elim (p (suc k)) [ true ↦ count_up_to p k + 1 | false 
 -- in how many moments from j up to now p holds
 unfoldable pub count_from : ℕ → Signal → ℕ → ℕ
 count_from j p = count_up_to (λ i. nat_le j i && p i)
-
--- for how many moments in a row p held, up to the moment before now
-unfoldable pub run_length : Signal → ℕ → ℕ
-run_length p zero = 0
-run_length p (suc k) = suc k - begin_of p k
-
--- for how many moments, from now on, `once_within n p` holds even if p holds no more
-unfoldable pub moments_left : ℕ → Signal → ℕ → ℕ
-moments_left n p zero = 0
-moments_left n p (suc k) = option_map_or (λ j. j + n - k) (last p k) 0

@@ -5,7 +5,8 @@ use Rattle.ecam_spec.specs.declared.kinds.Event.{Event}
 use Rattle.ecam_spec.specs.declared.kinds.FaultKind.{FaultKind}
 use Rattle.ecam_spec.specs.declared.kinds.FaultKind.TheVariants.{Long, Form, Cut, NoEnd, AfterEnd, Limit}
 use Rattle.ecam_spec.specs.declared.kinds.RecordFault.{RecordFault}
-use Rattle.ecam_spec.specs.Past.{Signal, once, previous, last, next, count_up_to}
+use Rattle.ecam_spec.specs.declared.limits.TheConstants.{RECORD_LINE}
+use Rattle.ecam_spec.specs.Past.{Signal, once, previous, last, moment_after, count_up_to}
 use Rattle.ecam_spec.specs.Places.{below, first_place}
 use Rattle.ecam_spec.specs.RecordLine.{event_of, is_end, is_end_event}
 
@@ -15,13 +16,13 @@ module _ (text : List ℕ) where
   is_feed i = get_or text i 0 == 10
 
   -- the place where the line of this place begins: after the last line feed before
-  unfoldable pub line_begin : ℕ → ℕ
-  line_begin zero = 0
-  line_begin (suc i) = next (last is_feed i)
+  unfoldable pub line_start : ℕ → ℕ
+  line_start zero = 0
+  line_start (suc i) = moment_after (last is_feed i)
 
   -- the bytes of the line before this place
   unfoldable pub line_before : ℕ → List ℕ
-  line_before i = drop (line_begin i) (take i text)
+  line_before i = drop (line_start i) (take i text)
 
   -- the number of the line of this place, from 1
   unfoldable pub line_number : ℕ → ℕ
@@ -37,7 +38,7 @@ module _ (text : List ℕ) where
   wrong_at limit i =
       if nat_le limit i then Some Limit
       else (if previous (once ends_record) i then Some AfterEnd
-      else (if not (is_feed i) && length (line_before i) == 32 then Some Long
+      else (if not (is_feed i) && length (line_before i) == RECORD_LINE then Some Long
       else (if is_feed i && is_none (event_of (line_before i)) then Some Form
       else None)))
 
@@ -55,7 +56,7 @@ module _ (text : List ℕ) where
   -- what is wrong where no place has a fault: the last line isn't whole, or no line ends the record
   unfoldable pub wrong_end : Option RecordFault
   wrong_end =
-      if nat_lt (line_begin (length text)) (length text)
+      if nat_lt (line_start (length text)) (length text)
       then Some (record { kind = Cut; line = line_number (length text) })
       else (if previous (once ends_record) (length text) then None
       else Some (record { kind = NoEnd; line = line_number (length text) }))

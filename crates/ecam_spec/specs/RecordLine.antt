@@ -6,9 +6,10 @@ use Rattle.ecam_spec.specs.declared.kinds.Event.{Event}
 use Rattle.ecam_spec.specs.declared.kinds.Event.TheVariants.{Word, Tick, Press, Release, Fail, Up, End}
 use Rattle.ecam_spec.specs.declared.kinds.Key.{Key}
 use Rattle.ecam_spec.specs.declared.kinds.Key.TheVariants.{Clr, Rcl, Sts, All, Emer, ToCfg, Mw, Mc, Page}
+use Rattle.ecam_spec.specs.declared.limits.TheConstants.{BUSES, PAGES}
 use Rattle.ecam_spec.specs.Places.{below}
+use Rattle.ecam_spec.specs.Bytes.{same_text}
 use Rattle.ecam_spec.specs.Book.{Text}
-use Rattle.ecam_spec.specs.Picture.{same_text}
 
 -- a line begins with some text
 abbrev pub begins_with : Text → Text → Bool
@@ -19,7 +20,7 @@ unfoldable pub key_words : List (Text × Key)
 key_words =
     (codes "CLR", Clr) ∷ (codes "RCL", Rcl) ∷ (codes "STS", Sts) ∷ (codes "ALL", All) ∷ (codes "EMER", Emer)
     ∷ (codes "TOCFG", ToCfg) ∷ (codes "MW", Mw) ∷ (codes "MC", Mc)
-    ∷ map (λ i. (codes "PG" ++ decimal (i + 1), Page (i + 1))) (below 16)
+    ∷ map (λ i. (codes "PG" ++ decimal (i + 1), Page (i + 1))) (below PAGES)
 
 unfoldable pub key_of : Text → Option Key
 key_of word = option_map (λ k. k.1) (find (λ k. same_text word k.0) key_words)
@@ -30,7 +31,7 @@ computer_of word = if same_text word (codes "1") then Some 1 else (if same_text 
 
 -- a bus's number, 0 to 15, without leading zeros
 unfoldable pub bus_of : Text → Option ℕ
-bus_of word = find (λ b. same_text word (decimal b)) (below 16)
+bus_of word = find (λ b. same_text word (decimal b)) (below BUSES)
 
 -- what a hexadecimal digit is worth, and 16 for any other byte
 unfoldable pub digit_of : ℕ → ℕ

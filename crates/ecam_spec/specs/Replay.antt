@@ -14,7 +14,7 @@ use Rattle.ecam_spec.specs.Alert.{starred_by}
 use Rattle.ecam_spec.specs.LeftZone.{title_row}
 use Rattle.ecam_spec.specs.Standing.{standing_of, standing_text}
 use Rattle.ecam_spec.specs.Situation.{alert_at, primaries, present_in, active_in}
-use Rattle.ecam_spec.specs.Screen.{alert_numbers, cleared_in, cancelled_in, left_in, picture_in}
+use Rattle.ecam_spec.specs.Screen.{alert_numbers, cleared_in, cancelled_in, is_shown_in, left_in, picture_in}
 
 abbrev pub is_tick : Event → Bool
 is_tick Tick = true
@@ -65,6 +65,7 @@ module _ (b : Book) where
       standing_of (record {
         present = present_in b moments a k;
         active = active_in b moments a k;
+        shown = is_shown_in b moments a k;
         starred_by = starred_by (active_in b moments) (primaries b a) k;
         cancelled = cancelled_in b moments a k;
         cleared = cleared_in b moments a k;

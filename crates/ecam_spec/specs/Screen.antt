@@ -11,9 +11,9 @@ use Rattle.ecam_spec.specs.Levels.{is_three, is_two, is_one, is_caution_level}
 use Rattle.ecam_spec.specs.Book.{Line, Memo, Book}
 use Rattle.ecam_spec.specs.Term.{holds}
 use Rattle.ecam_spec.specs.History.{Moment}
-use Rattle.ecam_spec.specs.Keys.{pressed, held, long_recall}
+use Rattle.ecam_spec.specs.Keys.{pressed, held}
 use Rattle.ecam_spec.specs.Picture.{Row, row, Picture}
-use Rattle.ecam_spec.specs.Crew.{Cockpit, target, cleared, cancelled, shown, normal}
+use Rattle.ecam_spec.specs.Crew.{Cockpit, target, cleared, cancelled, recalled, is_shown, shown, normal}
 use Rattle.ecam_spec.specs.LeftZone.{LeftRow, alert_rows, left_rows, left_zone, has_more, overflow}
 use Rattle.ecam_spec.specs.RightZone.{right_rows, right_zone, right_beyond}
 use Rattle.ecam_spec.specs.StatusPage.{status_rows, flags, flags_row}
@@ -21,7 +21,7 @@ use Rattle.ecam_spec.specs.Selection.{Panel, choice}
 use Rattle.ecam_spec.specs.SystemDisplay.{Display, display_rows}
 use Rattle.ecam_spec.specs.Lamps.{Attention, warns, cautions, sound}
 use Rattle.ecam_spec.specs.LampRows.{lamp_rows}
-use Rattle.ecam_spec.specs.Situation.{parameter_at, alert_at, strokes_in, value_in, phase_in, world, active_in, starred_in, up_in}
+use Rattle.ecam_spec.specs.Situation.{parameter_at, alert_at, strokes_in, value_in, phase_in, world, active_in, waiting_in, starred_in, up_in}
 
 module _ (b : Book) where
   abbrev pub alert_numbers : List ℕ
@@ -46,10 +46,11 @@ module _ (b : Book) (moments : ℕ → Moment) where
         order = order b;
         is_caution = λ a. is_caution_level (alert_at b a).level;
         up = up_in b moments;
+        waiting = waiting_in b moments;
         clr = key Clr;
         rcl = key Rcl;
         emer = key Emer;
-        long_recall = long_recall (strokes_in b moments);
+        rcl_held = held (strokes_in b moments) Rcl;
         enters_one = enters_one;
       }
 
@@ -62,6 +63,12 @@ module _ (b : Book) (moments : ℕ → Moment) where
 
   unfoldable pub cancelled_in : ℕ → Signal
   cancelled_in = cancelled cockpit shown_in
+
+  unfoldable pub recalled_in : ℕ → Signal
+  recalled_in = recalled cockpit shown_in
+
+  unfoldable pub is_shown_in : ℕ → Signal
+  is_shown_in = is_shown cockpit shown_in
 
   unfoldable pub target_in : ℕ → Option ℕ
   target_in = target shown_in

@@ -4,16 +4,20 @@ use Rattle.std.specs.Prelude.{ℕ, ◌-◌, ◌/◌, ◌%◌, min, Bool, true, f
 use Rattle.std.specs.Option.{option_and_then}
 use Rattle.ecam_spec.specs.declared.kinds.Choice.{Choice}
 use Rattle.ecam_spec.specs.declared.kinds.Choice.TheVariants.{Auto, Page, Status}
-use Rattle.ecam_spec.specs.Past.{Signal, last, next, begin_of, count_from}
+use Rattle.ecam_spec.specs.Past.{Signal, last, moment_after, start_of, count_from}
 
--- how many pages the book has; ALL is held; the page, from 0, whose key is pressed (of several the least); STS
--- and CLR are pressed; EMER CANC is pressed and the target is a caution
+-- what the selection goes by
 pub record Panel : Type 0 where
+  -- how many pages the book has
   pub pages : ℕ
+  -- ALL is held
   pub all_held : Signal
+  -- the page, from 0, whose key is pressed; of several the least
   pub page_called : ℕ → Option ℕ
+  -- STS and CLR are pressed
   pub sts : Signal
   pub clr : Signal
+  -- EMER CANC is pressed, and the target is a caution
   pub cancels : Signal
 
 -- how a moment selects
@@ -53,34 +57,34 @@ module _ (p : Panel) where
   selects_status k = is_status (selecting k)
 
   -- the last selecting moment that isn't one of STS
-  unfoldable pub status_begin : ℕ → Option ℕ
-  status_begin k = last (λ i. selects i && not (selects_status i)) k
+  unfoldable pub last_but_status : ℕ → Option ℕ
+  last_but_status k = last (λ i. selects i && not (selects_status i)) k
 
   -- the number of the status page, from 0: after EMER CANC the first, and one further with each press of STS;
   -- after anything else the first press shows the first
   unfoldable pub status_number : ℕ → ℕ
   status_number k =
-      let b = status_begin k in
-      let presses = count_from (next b) selects_status k in
-      if is_cancel (option_and_then selecting b) then presses else presses - 1
+      let m = last_but_status k in
+      let presses = count_from (moment_after m) selects_status k in
+      if is_cancel (option_and_then selecting m) then presses else presses - 1
 
   -- the page that ALL shows: one further each second, from the moment in which it went down
   unfoldable pub page_in_turn : ℕ → ℕ
-  page_in_turn m = ((m - begin_of p.all_held m) / 10) % p.pages
+  page_in_turn m = ((m - start_of p.all_held m) / 10) % p.pages
 
-  -- the choice that selecting moment m left, seen from moment k
-  unfoldable pub choice_by : Option Selecting → ℕ → ℕ → Choice
-  choice_by None m k = Auto
-  choice_by (Some each_page) m k = Page (page_in_turn m)
-  choice_by (Some (one_page i)) m k = Page i
-  choice_by (Some the_clear) m k = Auto
-  choice_by (Some the_status) m k = Status (min 4294967295 (status_number k))
-  choice_by (Some the_cancel) m k = Status (min 4294967295 (status_number k))
+  -- the choice that selecting moment m left
+  unfoldable pub choice_by : Option Selecting → ℕ → Choice
+  choice_by None m = Auto
+  choice_by (Some each_page) m = Page (page_in_turn m)
+  choice_by (Some (one_page i)) m = Page i
+  choice_by (Some the_clear) m = Auto
+  choice_by (Some the_status) m = Status (min 4294967295 (status_number m))
+  choice_by (Some the_cancel) m = Status (min 4294967295 (status_number m))
 
-  abbrev pub choice_from : Option ℕ → ℕ → Choice
-  choice_from None k = Auto
-  choice_from (Some m) k = choice_by (selecting m) m k
+  abbrev pub choice_from : Option ℕ → Choice
+  choice_from None = Auto
+  choice_from (Some m) = choice_by (selecting m) m
 
   -- the choice now: that of the last selecting moment
   unfoldable pub choice : ℕ → Choice
-  choice k = choice_from (last selects k) k
+  choice k = choice_from (last selects k)

@@ -1,5 +1,5 @@
 -- The situation in each moment of an era, for a book: the values, the flight phase, and which alerts are present,
--- active, starred and up. It only ties the definitions of values, conditions, phases and alerts together.
+-- active, waiting, starred and up. It only ties the definitions of values, conditions, phases and alerts together.
 use Rattle.std.specs.Prelude.{ℕ, zero, suc, false, ◌==◌, ℤ, List, [], ◌∷◌, ◌++◌, map, get_or, Option, None, if◌then◌else◌}
 use Rattle.ecam_spec.specs.declared.kinds.Kind.TheVariants.{Disc}
 use Rattle.ecam_spec.specs.declared.kinds.Level.TheVariants.{One}
@@ -11,7 +11,7 @@ use Rattle.ecam_spec.specs.Term.{World, holds, in_set}
 use Rattle.ecam_spec.specs.Phase.{Flight, phase as phase_of}
 use Rattle.ecam_spec.specs.History.{Moment, Stroke}
 use Rattle.ecam_spec.specs.Keys.{pressed}
-use Rattle.ecam_spec.specs.Alert.{present, active, starred, up, primaries_in}
+use Rattle.ecam_spec.specs.Alert.{present, active, waiting, starred, up, primaries_in}
 
 -- past the end of a list stands a parameter that never has a value, and an alert that is never present
 abbrev pub no_parameter : Parameter
@@ -50,46 +50,58 @@ module _ (b : Book) (moments : ℕ → Moment) where
   abbrev pub world_where : (ℕ → ℕ) → (ℕ → Signal) → World
   world_where phase active = record { values = value_in; phase = phase; active = active; pressed = pressed strokes_in; up = computer_up }
 
-  -- the phase's six conditions speak of neither phases nor alerts
+  -- what the phase's six conditions speak of: since they may ask of neither phases nor alerts, the phase is 1 there
+  -- in each moment, and no alert is active
+  abbrev pub flight_world : World
+  flight_world = world_where (λ k. 1) (λ a k. false)
+
   unfoldable pub flight : Flight
   flight =
-      let w = world_where (λ k. 0) (λ a k. false) in
       record {
-        gnd = holds w b.phase.gnd;
-        run = holds w b.phase.run;
-        tp = holds w b.phase.tp;
-        fast = holds w b.phase.fast;
-        high = holds w b.phase.high;
-        low = holds w b.phase.low;
+        gnd = holds flight_world b.phase.gnd;
+        run = holds flight_world b.phase.run;
+        tp = holds flight_world b.phase.tp;
+        fast = holds flight_world b.phase.fast;
+        high = holds flight_world b.phase.high;
+        low = holds flight_world b.phase.low;
       }
 
   unfoldable pub phase_in : ℕ → ℕ
   phase_in = phase_of flight
 
-  -- an alert's condition, where `known` tells when the alerts before it in the book are active: it names no
-  -- other alert
+  -- what an alert's condition speaks of, where `earlier` tells when the alerts before it in the book are active: it
+  -- names no other alert
+  abbrev pub alert_world : List Signal → World
+  alert_world earlier = world_where phase_in (λ i. get_or earlier i (λ k. false))
+
   unfoldable pub condition : List Signal → ℕ → Signal
-  condition known a = holds (world_where phase_in (λ i. get_or known i (λ k. false))) (alert_at b a).when
+  condition earlier a = holds (alert_world earlier) (alert_at b a).when
 
   unfoldable pub present_knowing : List Signal → ℕ → Signal
-  present_knowing known a = present (alert_at b a).confirm (condition known a)
+  present_knowing earlier a = present (alert_at b a).confirm (condition earlier a)
 
   unfoldable pub inhibited : ℕ → Signal
   inhibited a k = in_set (alert_at b a).inhibit (phase_in k)
 
   unfoldable pub active_knowing : List Signal → ℕ → Signal
-  active_knowing known a = active (inhibited a) (present_knowing known a)
+  active_knowing earlier a = active (inhibited a) (present_knowing earlier a)
 
   -- when each of the first n alerts is active
   unfoldable pub known_below : ℕ → List Signal
   known_below zero = []
-  known_below (suc n) = let known = known_below n in known ++ active_knowing known n ∷ []
+  known_below (suc n) = let earlier = known_below n in earlier ++ active_knowing earlier n ∷ []
+
+  unfoldable pub condition_in : ℕ → Signal
+  condition_in a = condition (known_below a) a
 
   unfoldable pub present_in : ℕ → Signal
   present_in a = present_knowing (known_below a) a
 
   unfoldable pub active_in : ℕ → Signal
   active_in a = active_knowing (known_below a) a
+
+  unfoldable pub waiting_in : ℕ → Signal
+  waiting_in a = waiting (present_in a) (active_in a)
 
   -- what every other condition speaks of
   unfoldable pub world : World

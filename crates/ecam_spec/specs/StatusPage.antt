@@ -1,9 +1,10 @@
 -- The status page, and the flags row that tells of it. The sections are the A320's in outline (DSC-31); the
 -- layout is this project's own.
-use Rattle.std.specs.Prelude.{ℕ, ◌+◌, ◌*◌, ◌/◌, ◌%◌, Bool, ◌==◌, nat_lt, max, List, [], ◌∷◌, ◌++◌, map, length, drop, filter, flat_map, codes, decimal, if◌then◌else◌}
+use Rattle.std.specs.Prelude.{ℕ, ◌+◌, ◌-◌, ◌*◌, ◌/◌, ◌%◌, Bool, ◌==◌, nat_lt, max, List, [], ◌∷◌, ◌++◌, map, length, drop, filter, flat_map, codes, decimal, if◌then◌else◌}
 use Rattle.std.specs.List.{join_by}
 use Rattle.ecam_spec.specs.declared.kinds.Colour.{Colour}
 use Rattle.ecam_spec.specs.declared.kinds.Colour.TheVariants.{Amber, Green, White, Cyan}
+use Rattle.ecam_spec.specs.declared.limits.TheConstants.{DISPLAY_ROWS}
 use Rattle.ecam_spec.specs.Book.{Text, StatusLine, Alert}
 use Rattle.ecam_spec.specs.Picture.{Row, row, blank_row, zone}
 
@@ -28,12 +29,12 @@ status_rows active cancelled = flat_map (section_rows active) sections ++ cancel
 
 -- how many pages they take
 unfoldable pub status_pages : List Row → ℕ
-status_pages rows = max 1 ((length rows + 17) / 18)
+status_pages rows = max 1 ((length rows + (DISPLAY_ROWS - 1)) / DISPLAY_ROWS)
 
 -- the eighteen rows of status page q, counted round
 unfoldable pub status_page : ℕ → List Row → List Row
-status_page q [] = zone 18 (row Green (codes "NORMAL") ∷ [])
-status_page q (r ∷ rows) = zone 18 (drop (18 * (q % status_pages (r ∷ rows))) (r ∷ rows))
+status_page q [] = zone DISPLAY_ROWS (row Green (codes "NORMAL") ∷ [])
+status_page q (r ∷ rows) = zone DISPLAY_ROWS (drop (DISPLAY_ROWS * (q % status_pages (r ∷ rows))) (r ∷ rows))
 
 -- the flags: more than seven left rows, the titles beyond them, the right rows beyond, status rows
 unfoldable pub flags : Bool → ℕ → ℕ → List Row → List Text

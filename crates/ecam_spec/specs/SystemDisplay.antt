@@ -9,6 +9,7 @@ use Rattle.ecam_spec.specs.declared.kinds.Colour.{Colour}
 use Rattle.ecam_spec.specs.declared.kinds.Colour.TheVariants.{Amber, Green, White}
 use Rattle.ecam_spec.specs.declared.kinds.Kind.{Kind}
 use Rattle.ecam_spec.specs.declared.kinds.Kind.TheVariants.{Disc, Bnr, Bcd}
+use Rattle.ecam_spec.specs.declared.limits.TheConstants.{VALUE_ROW_TEXT, DISPLAY_ROWS}
 use Rattle.ecam_spec.specs.Book.{Text, PageRow, Page}
 use Rattle.ecam_spec.specs.Term.{in_set}
 use Rattle.ecam_spec.specs.Picture.{Row, row, zone}
@@ -34,7 +35,7 @@ unit_text (Some u) = 32 ∷ u
 
 -- a row with a value: the text in 24 places, the value right in 8, the unit
 unfoldable pub value_row : Text → Option Text → Colour → Text → Row
-value_row text unit colour value = row colour (filled 24 text ++ filled_before 8 value ++ unit_text unit)
+value_row text unit colour value = row colour (filled VALUE_ROW_TEXT text ++ filled_before 8 value ++ unit_text unit)
 
 -- the pages, the kind of each parameter, and what is so in the moment: the values, the phase, the page of the
 -- first shown alert if it has one, and the status rows
@@ -58,8 +59,8 @@ module _ (d : Display) where
 
   -- the title in S01 and the rows from S02 on; blank rows where there is no page
   unfoldable pub page_rows : Option Page → List Row
-  page_rows None = zone 18 []
-  page_rows (Some p) = zone 18 (row White p.title ∷ map (λ (r : PageRow). page_row r r.show) p.rows)
+  page_rows None = zone DISPLAY_ROWS []
+  page_rows (Some p) = zone DISPLAY_ROWS (row White p.title ∷ map (λ (r : PageRow). page_row r r.show) p.rows)
 
   -- the page that the situation calls for: that of the first shown alert, else the first of the phase
   unfoldable pub called_page : Option Page

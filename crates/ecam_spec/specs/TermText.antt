@@ -1,48 +1,24 @@
 -- What a condition's text means: its tree, or the fault for which it is refused. The language of conditions is
 -- this project's own.
-use Rattle.std.specs.Prelude.{◌≡◌, ◌⊎◌, ℕ, suc, ◌+◌, ◌-◌, ◌*◌, ◌^◌, Bool, true, false, ◌&&◌, ◌==◌, nat_le, nat_lt, List, [], ◌∷◌, ◌++◌, length, drop, fold, map, position, Option, Some, None, unwrap_or, is_some, slice_index, bit_or, ℤ, pos, neg_ℤ, int_le}
-use Rattle.std.specs.Str.{bytes_eq}
+use Rattle.std.specs.Prelude.{ℕ, suc, true, false, nat_le, nat_lt, List, [], ◌∷◌, ◌++◌, length, fold, Option, Some, None, unwrap_or, is_some, bit_or, ℤ, pos, neg_ℤ}
 use Rattle.std.specs.List.{flat_map}
+use Rattle.ecam_spec.specs.declared.limits.TheConstants.{NAME, TERM_DEPTH, TERM_NODES, NUMBER, WAIT}
 use Rattle.ecam_spec.specs.declared.terms.Span.{Span}
-use Rattle.ecam_spec.specs.declared.terms.Token.{Token}
+use Rattle.ecam_spec.specs.Bytes.{place_of}
 use Rattle.ecam_spec.specs.Book.{Text, Tree, Trees, constant, discrete, valid, compared, in_phase, alert, press, computer, negation, all, any, at_least, confirmed, held, risen, latched, none, more}
 use Rattle.ecam_spec.specs.TermSize.{nodes, depth}
-use Rattle.ecam_spec.specs.Token.{bytes_of, tokens, Placed}
-use Rattle.ecam_spec.specs.Grammar.{Form, Forms, truth, name_of, compare_of, valid_of, phase_of, alert_of, press_of, fwc_of, not_of, rise_of, all_of, any_of, at_least_of, conf_of, hold_of, latch_of, no_more, and_then, how_many, spelling, BeginsCondition, IsCondition}
+use Rattle.ecam_spec.specs.Token.{bytes_of}
+use Rattle.ecam_spec.specs.Grammar.{Form, Forms, truth, name_of, compare_of, valid_of, phase_of, alert_of, press_of, fwc_of, not_of, rise_of, all_of, any_of, at_least_of, conf_of, hold_of, latch_of, no_more, and_then, how_many}
+use Rattle.ecam_spec.specs.TermNumber.{magnitude, value, is_within, one_phase}
 
 -- the names that a text may use
 pub record TermNames : Type 0 where
   pub parameters : List Text
   pub alerts : List Text
 
--- where a name stands in a list, first; one of more than 24 bytes is unknown
-unfoldable pub place_of : List Text → Text → Option ℕ
-place_of names name = elim (nat_le (length name) 24) [ true ↦ position (bytes_eq name) names | false ↦ None ]
-
--- the number of decimal digits, highest first
-abbrev pub digits_value : Text → ℕ
-digits_value t = fold (λ n d. n * 10 + (d - 48)) 0 t
-
-abbrev pub is_negative : Text → Bool
-is_negative t = slice_index t 0 == 45
-
--- a number's digits, without its sign
-abbrev pub without_sign : Text → Text
-without_sign t = elim (is_negative t) [ true ↦ drop 1 t | false ↦ t ]
-
--- a number, and how far it is from 0
-unfoldable pub magnitude : Text → ℕ
-magnitude t = digits_value (without_sign t)
-
-unfoldable pub value : Text → ℤ
-value t = elim (is_negative t) [ true ↦ neg_ℤ (pos (magnitude t)) | false ↦ pos (magnitude t) ]
-
-abbrev pub is_within : ℤ → ℤ → ℤ → Bool
-is_within low high z = int_le low z && int_le z high
-
--- the set of one phase, as a number
-abbrev pub one_phase : ℕ → ℕ
-one_phase p = 2 ^ (p - 1)
+-- where a name stands in a list, first; one that is longer than a name may be is unknown
+unfoldable pub name_place : List Text → Text → Option ℕ
+name_place names name = elim (nat_le (length name) NAME) [ true ↦ place_of names name | false ↦ None ]
 
 -- what is wrong with a name or a number, and where
 pub data Flaw : Type 0 where
@@ -74,17 +50,17 @@ pub data Outcome : Type 0 where
 module _ (names : TermNames) (text : Text) where
   -- a name's place among the parameters, and among the alerts, or 0
   abbrev pub parameter_of : Span → ℕ
-  parameter_of n = unwrap_or (place_of names.parameters (bytes_of text n)) 0
+  parameter_of n = unwrap_or (name_place names.parameters (bytes_of text n)) 0
 
   abbrev pub alert_place : Span → ℕ
-  alert_place n = unwrap_or (place_of names.alerts (bytes_of text n)) 0
+  alert_place n = unwrap_or (name_place names.alerts (bytes_of text n)) 0
 
   abbrev pub amount : Span → ℕ
   amount n = magnitude (bytes_of text n)
 
   -- a name that isn't known
   unfoldable pub name_flaw : List Text → Span → List Flaw
-  name_flaw list n = elim (is_some (place_of list (bytes_of text n))) [ true ↦ [] | false ↦ unknown_name n.at ∷ [] ]
+  name_flaw list n = elim (is_some (name_place list (bytes_of text n))) [ true ↦ [] | false ↦ unknown_name n.at ∷ [] ]
 
   -- a number that is out of its range
   unfoldable pub number_flaw : ℤ → ℤ → Span → List Flaw
@@ -94,10 +70,10 @@ module _ (names : TermNames) (text : Text) where
   phase_flaw n = number_flaw (pos 1) (pos 10) n
 
   abbrev pub moments_flaw : Span → List Flaw
-  moments_flaw n = number_flaw (pos 0) (pos 36000) n
+  moments_flaw n = number_flaw (pos 0) (pos WAIT) n
 
   abbrev pub compared_flaw : Span → List Flaw
-  compared_flaw n = number_flaw (neg_ℤ (pos 1000000)) (pos 1000000) n
+  compared_flaw n = number_flaw (neg_ℤ (pos NUMBER)) (pos NUMBER) n
 
   -- what is wrong with the names and the numbers of a condition
   unfoldable mutual
@@ -147,42 +123,15 @@ module _ (names : TermNames) (text : Text) where
     trees_of_forms no_more = none
     trees_of_forms (and_then f fs) = more (tree_of_form f) (trees_of_forms fs)
 
-  -- the first flaw is told; without one, a tree may be 16 deep and have 64 nodes
+  -- the first flaw is told; without one, a tree may be so deep and have so many nodes
   abbrev pub judged_tree : Option Flaw → Tree → Outcome
   judged_tree (Some (unknown_name at)) t = unknown at
   judged_tree (Some (out_of_range at)) t = number_error at
   judged_tree None t =
-      elim (nat_lt 16 (depth t)) [
+      elim (nat_lt TERM_DEPTH (depth t)) [
         | true ↦ too_deep
-        | false ↦ elim (nat_lt 64 (nodes t)) [ true ↦ too_large | false ↦ means t ]
+        | false ↦ elim (nat_lt TERM_NODES (nodes t)) [ true ↦ too_large | false ↦ means t ]
       ]
 
   unfoldable pub judged : Form → Outcome
   judged f = judged_tree (earliest (flaws f)) (tree_of_form f)
-
-abbrev pub words_of : List Placed → List Token
-words_of ts = map (λ t. t.1) ts
-
--- the token at a place doesn't fit: some condition begins with the tokens before it, and none with these and it
-pub record StopsAtToken (ts : List Placed) (at : ℕ) : Type 0 where
-  pub before : List Placed
-  pub token : Token
-  pub after : List Placed
-  pub split : ts ≡ before ++ (at, token) ∷ after
-  pub begins : BeginsCondition (words_of before)
-  pub ends : BeginsCondition (words_of before ++ token ∷ []) → ⊥
-
--- the text ends too early: some condition begins with all of its tokens, and they are none
-pub record StopsAtEnd (ts : List Placed) : Type 0 where
-  pub begins : BeginsCondition (words_of ts)
-  pub short : IsCondition (words_of ts) → ⊥
-
--- the first token that fits nowhere stands at a place; the end of the text counts as a last token
-abbrev pub StopsAt : Text → ℕ → Type 0
-StopsAt text at = StopsAtToken (tokens text) at ⊎ (StopsAtEnd (tokens text) × (at ≡ length text))
-
--- What a text is answered with: where its first token stands that fits nowhere, or what the condition that it
--- spells is judged to be.
-unfoldable pub IsVerdict : TermNames → Text → Outcome → Type 0
-IsVerdict names text (syntax_error at) = StopsAt text at
-IsVerdict names text outcome = (f : Form) × (spelling f ≡ words_of (tokens text)) × (judged names text f ≡ outcome)

@@ -1,13 +1,12 @@
 -- The books that use nothing but titles, and what they show: an amber title for each alert whose discrete is one.
 -- They are this project's own.
-use Rattle.std.specs.Prelude.{◌≡◌, ℕ, ◌-◌, Bool, true, false, not, ◌&&◌, ◌==◌, nat_lt, pos, List, [], ◌∷◌, ◌++◌, map, length, filter, ⊤, All, replicate, Option, Some, None, is_some, is_none, option_and_then, if◌then◌else◌}
+use Rattle.std.specs.Prelude.{◌≡◌, ℕ, ◌-◌, Bool, true, false, not, ◌&&◌, ◌==◌, nat_lt, pos, List, [], ◌∷◌, ◌++◌, map, length, filter, All, replicate, Option, Some, None, is_some, is_none, option_and_then, if◌then◌else◌}
 use Rattle.std.specs.List.{list_all}
 use Rattle.std.specs.Ordering.{int_eq}
 use Rattle.ecam_spec.specs.declared.kinds.Colour.TheVariants.{Amber}
 use Rattle.ecam_spec.specs.declared.kinds.Event.{Event}
-use Rattle.ecam_spec.specs.declared.kinds.Event.TheVariants.{Word, Tick, Press, Release}
-use Rattle.ecam_spec.specs.declared.kinds.Key.TheVariants.{ToCfg}
 use Rattle.ecam_spec.specs.declared.kinds.Level.TheVariants.{One}
+use Rattle.ecam_spec.specs.declared.limits.TheConstants.{ZONE_ROWS}
 use Rattle.ecam_spec.specs.Levels.{is_one}
 use Rattle.ecam_spec.specs.Past.{Signal}
 use Rattle.ecam_spec.specs.Book.{Tree, constant, discrete, PhaseTerms, Alert, Book}
@@ -17,6 +16,7 @@ use Rattle.ecam_spec.specs.Picture.{row, blank_row, zone, Picture}
 use Rattle.ecam_spec.specs.StatusPage.{flags, flags_row}
 use Rattle.ecam_spec.specs.Situation.{alert_at, value_in}
 use Rattle.ecam_spec.specs.Screen.{alert_numbers}
+use Rattle.ecam_spec.specs.Scope.{is_built_key, is_built}
 
 -- the phase's conditions where the book names none: always on ground, with no engine running
 abbrev pub always_parked : PhaseTerms
@@ -83,19 +83,15 @@ module _ (b : Book) (moments : ℕ → Moment) where
 -- seven titles in the left zone, how many stand beyond them in the flags, and no other row
 unfoldable pub title_picture : Book → List ℕ → Picture
 title_picture b alerts =
-    zone 7 (map (λ a. row Amber (alert_at b a).title) alerts)
-    ++ replicate 7 blank_row
-    ++ flags_row (flags (nat_lt 7 (length alerts)) (length alerts - 7) 0 []) ∷ []
+    zone ZONE_ROWS (map (λ a. row Amber (alert_at b a).title) alerts)
+    ++ replicate ZONE_ROWS blank_row
+    ++ flags_row (flags (nat_lt ZONE_ROWS (length alerts)) (length alerts - ZONE_ROWS) 0 []) ∷ []
     ++ replicate 21 blank_row
 
 -- of all keys T.O. CONFIG alone goes down or up in the moment
 abbrev pub OnlyToCfg : Moment → Type 0
-OnlyToCfg m = All (λ (s : Stroke). s.key ≡ ToCfg) m.strokes
+OnlyToCfg m = All (λ (s : Stroke). is_built_key s.key ≡ true) m.strokes
 
 -- an event of such a moment, while both computers stay up
 abbrev pub IsTitleEvent : Event → Type 0
-IsTitleEvent (Word b w) = ⊤
-IsTitleEvent Tick = ⊤
-IsTitleEvent (Press k) = k ≡ ToCfg
-IsTitleEvent (Release k) = k ≡ ToCfg
-IsTitleEvent _ = ⊥
+IsTitleEvent e = is_built e ≡ true

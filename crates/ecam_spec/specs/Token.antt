@@ -1,7 +1,6 @@
 -- The tokens of a condition's text: at each place that no token before it covers and that has no blank begins
 -- the longest token that can. The language of conditions is this project's own.
 use Rattle.std.specs.Prelude.{ℕ, zero, suc, ◌+◌, Bool, true, false, ◌&&◌, ◌||◌, ◌==◌, nat_le, List, [], ◌∷◌, take, find, Option, Some, None, option_map, slice_index, slice_range, codes}
-use Rattle.std.specs.Str.{bytes_eq}
 use Rattle.std.specs.List.{list_all}
 use Rattle.ecam_spec.specs.declared.kinds.Key.{Key}
 use Rattle.ecam_spec.specs.declared.kinds.Op.TheVariants.{Less, LessEq, More, MoreEq, Equal, Differ}
@@ -10,33 +9,13 @@ use Rattle.ecam_spec.specs.declared.terms.Reserved.{Reserved}
 use Rattle.ecam_spec.specs.declared.terms.Reserved.TheVariants as words
 use Rattle.ecam_spec.specs.declared.terms.Token.{Token}
 use Rattle.ecam_spec.specs.declared.terms.Token.TheVariants.{Word, Name, KeyWord, Number, Sign, Open, Comma, Close, Stray}
+use Rattle.ecam_spec.specs.Bytes.{is_digit, is_letter, is_name_byte, is_word_byte, same_text}
 use Rattle.ecam_spec.specs.Book.{Text}
 use Rattle.ecam_spec.specs.RecordLine.{key_of}
 
 -- the bytes of a text that a span has
 abbrev pub bytes_of : Text → Span → Text
 bytes_of text span = slice_range text span.at span.end
-
--- a byte from low to high
-abbrev pub is_from : ℕ → ℕ → ℕ → Bool
-is_from low high b = nat_le low b && nat_le b high
-
--- a to z, 0 to 9
-abbrev pub is_small_letter : ℕ → Bool
-is_small_letter = is_from 97 122
-
-abbrev pub is_digit : ℕ → Bool
-is_digit = is_from 48 57
-
-abbrev pub is_letter : ℕ → Bool
-is_letter b = is_small_letter b || is_from 65 90 b
-
--- what a name may have, and what a word may
-abbrev pub is_name_byte : ℕ → Bool
-is_name_byte b = is_small_letter b || (is_digit b || b == 95)
-
-abbrev pub is_word_byte : ℕ → Bool
-is_word_byte b = is_letter b || (is_digit b || b == 95)
 
 -- how many bytes at the front pass a test
 abbrev pub run_length : (ℕ → Bool) → Text → ℕ
@@ -72,7 +51,7 @@ reserved_words =
     ∷ (codes "hold", words.Hold) ∷ (codes "latch", words.Latch) ∷ []
 
 unfoldable pub reserved_of : Text → Option Reserved
-reserved_of t = option_map (λ w. w.1) (find (λ w. bytes_eq t w.0) reserved_words)
+reserved_of t = option_map (λ w. w.1) (find (λ w. same_text t w.0) reserved_words)
 
 -- a word is a reserved one, or a name, or a key's
 abbrev pub word_of_kind : Span → Option Reserved → Bool → Option Key → Token

@@ -6,6 +6,7 @@ use Rattle.std.specs.Option.{option_or, option_and_then}
 use Rattle.ecam_spec.specs.declared.kinds.Kind.{Kind}
 use Rattle.ecam_spec.specs.declared.kinds.Kind.TheVariants.{Disc, Bnr, Bcd}
 use Rattle.ecam_spec.specs.Past.{Signal, last, once_within}
+use Rattle.ecam_spec.specs.Places.{first_of}
 use Rattle.ecam_spec.specs.Word.{label, sdi, is_odd}
 use Rattle.ecam_spec.specs.Reading.{discrete, binary, decimal}
 use Rattle.ecam_spec.specs.Book.{Source, Parameter}
@@ -51,11 +52,6 @@ reading Bcd s word = decimal word
 unfoldable pub source_value : Kind → ℕ → Source → (ℕ → List BusWord) → ℕ → Option ℤ
 source_value kind stale s words k =
     if is_fresh stale s words k then option_and_then (reading kind s) (word_of s words k) else None
-
--- the first that is there
-abbrev pub first_of : List (Option ℤ) → Option ℤ
-first_of [] = None
-first_of (v ∷ vs) = option_or v (first_of vs)
 
 -- the value of a parameter now, where `words` tells the words of each moment in order
 unfoldable pub value : Parameter → (ℕ → List BusWord) → ℕ → Option ℤ

@@ -107,7 +107,7 @@ pub enum Standing {
     Dead,
     /// It isn't present.
     Quiet,
-    /// It is present, and an inhibited phase holds it back.
+    /// It is present, and neither active nor shown: an inhibited phase holds it back.
     Waiting,
     /// Its system stands in the right zone, since this primary failure explains it.
     Starred { primary: u32 },

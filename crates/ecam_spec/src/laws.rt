@@ -6,4 +6,8 @@ pub mod conditions;
 pub mod crew;
 pub mod failures;
 pub mod history;
+pub mod lamps;
 pub mod phases;
+pub mod rows;
+pub mod selection;
+pub mod worlds;

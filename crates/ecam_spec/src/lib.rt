@@ -4,7 +4,9 @@
 
 mod kinds;
 pub mod laws;
+pub mod limits;
 pub mod replay_laws;
+mod term_steps;
 mod terms;
 pub mod title_laws;
 
@@ -12,4 +14,5 @@ pub use kinds::{
     BookFault, Choice, Colour, Event, FaultKind, Key, Kind, Level, Op, RecordFault, Section, Sound,
     Standing,
 };
-pub use terms::{Expected, Listed, NameRole, NumberRole, Reserved, Span, Step, Token};
+pub use term_steps::{Expected, Listed, NameRole, NumberRole, Step};
+pub use terms::{Reserved, Span, Token};

@@ -7,7 +7,7 @@ ghost use Rattle.ecam_spec.specs.History.{both_up, changes_computers, flags_afte
 ghost use Rattle.ecam_spec.specs.Output.{block};
 ghost use Rattle.ecam_spec.specs.Replay.{is_tick, tick_count, moment_of, picture_at, last_picture, history_blocks, reply};
 ghost use Rattle.ecam_spec.specs.Record.{fault};
-ghost use Rattle.ecam_spec.specs.Stage.{is_read, fault_read, reply_read};
+ghost use Rattle.ecam_spec.specs.Scope.{is_read, fault_read, reply_read};
 ghost use Rattle.ecam_spec.specs.Screen.{picture_in};
 
 /// What was written of a history stays, whatever comes after it.
@@ -30,7 +30,7 @@ pub fn a_tick_writes_what_changed()
     ensures compared_next { (b : Book) (h : List Event) → last_picture b (h ++ Tick ∷ []) ≡ picture_at b (h ++ Tick ∷ []) }
 {}
 
-/// While no computer fails or comes up, both are up and the history is one era from its begin.
+/// While no computer fails or comes up, both are up and the history is one era from its start.
 #[tactic(auto, using(crate::proofs::MomentSteps::both_stay_up, crate::proofs::MomentSteps::one_era))]
 pub fn a_history_without_failures_is_one_era()
     ensures up { (h : List Event) → All (λ e. changes_computers e ≡ false) h → flags_after h ≡ both_up }
@@ -38,7 +38,7 @@ pub fn a_history_without_failures_is_one_era()
 {}
 
 /// Where each line before a record's first fault is read, what is told and written of it is that of the whole record.
-#[tactic(auto, using(crate::proofs::StageLaws::fault_read_all, crate::proofs::StageLaws::reply_read_all))]
+#[tactic(auto, using(crate::proofs::ScopeLaws::fault_read_all, crate::proofs::ScopeLaws::reply_read_all))]
 pub fn a_record_that_is_read_has_its_whole_reply()
     ensures fault { (text : Text) (limit : ℕ) → is_read text limit ≡ true → fault_read text limit ≡ fault text limit }
     ensures reply { (b : Book) (text : Text) (limit : ℕ) → is_read text limit ≡ true → reply_read b text limit ≡ reply b text limit }

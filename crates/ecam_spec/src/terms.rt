@@ -1,5 +1,4 @@
-// How the text of a condition is read, token by token: plain data that the definitions and the program both
-// speak of.
+// The tokens of a condition's text: plain data that the definitions and the program both speak of.
 use crate::{Key, Op};
 
 /// The bytes of a text from one place up to another, counted from 0.
@@ -46,81 +45,4 @@ pub enum Token {
     Close,
     /// What fits nowhere.
     Stray,
-}
-
-/// A condition over a list of conditions; `AtLeast` has the place of its number.
-#[derive(Clone, Copy)]
-pub enum Listed {
-    All,
-    Any,
-    AtLeast(Span),
-}
-
-/// What a name is read for.
-#[derive(Clone, Copy)]
-pub enum NameRole {
-    Valid,
-    Alert,
-}
-
-/// What a number is read for.
-#[derive(Clone, Copy)]
-pub enum NumberRole {
-    Compared(Op),
-    Computer,
-    Phase,
-    AlsoPhase,
-    Confirmed,
-    Held,
-}
-
-/// What was read of a condition, in the order in which its parts are whole: a node comes after its children.
-/// `Compared` makes a comparison of the name before it, and `AlsoPhase` adds to the phases before it.
-#[derive(Clone, Copy)]
-pub enum Step {
-    Constant(bool),
-    Named(Span),
-    Compared(Op, Span),
-    Valid(Span),
-    Alerted(Span),
-    Pressed(Key),
-    Computer(Span),
-    Phase(Span),
-    AlsoPhase(Span),
-    Negation,
-    Risen,
-    /// Over so many of the conditions before it.
-    Over(Listed, usize),
-    Confirmed(Span),
-    Held(Span),
-    Latched,
-}
-
-/// What is still expected of a condition's text.
-#[derive(Clone, Copy)]
-pub enum Expected {
-    /// A condition.
-    Condition,
-    /// After a name, a comparison or nothing.
-    Tail,
-    /// An opening bracket.
-    Opening,
-    /// A comma.
-    Separator,
-    /// A closing bracket.
-    Closing,
-    /// The closing bracket with which this step is made.
-    Finish(Step),
-    /// A name.
-    AName(NameRole),
-    /// A key's word.
-    AKey,
-    /// A number.
-    ANumber(NumberRole),
-    /// The number of `atleast`, and all that follows it.
-    Least,
-    /// After a condition of a list, of which there were so many: further ones, and the closing bracket.
-    Others(Listed, usize),
-    /// After a phase's number: further ones, and the closing bracket.
-    Phases,
 }

@@ -1,12 +1,14 @@
 -- The step of the climb.
 use Rattle.std.proofs.Common.{◌≡◌, ℕ, suc, ◌≤◌, Bool, true, false, not, ◌&&◌, ◌||◌, cond, refl, ◌∙◌, ap, IsTrue, arith}
 use Rattle.std.specs.Prelude.{Some, unwrap_or}
+use Rattle.std.proofs.lemmas.Bool.{and_right}
 use Rattle.ecam_spec.specs.Past.{previous, rise, last, once_from}
-use Rattle.ecam_spec.specs.Phase.{Flight, airborne, low_marked, climb_begins, climb_begin}
-use Rattle.ecam_spec.proofs.PastSteps.{since-now, once_from-here, once_from-now, once_from-suc, last-here, last-le, last-suc}
+use Rattle.ecam_spec.specs.Phase.{Flight, airborne, low_marked, high_last, climb_begins, climb_start, climbed}
+use Rattle.ecam_spec.proofs.PhaseLaws.{high_last-now}
+use Rattle.ecam_spec.proofs.PastSteps.{once_from-here, once_from-now, once_from-suc, last-here, last-le, last-suc}
 use Rattle.flight_phases.specs.declared.climb.Climb.{Climb}
 use Rattle.flight_phases.specs.declared.climb.Climb.TheVariants.{Initial, Above, Below}
-use Rattle.flight_phases.specs.Climbs.{climb_of, climb_at, has_high_mark, is_latest_high}
+use Rattle.flight_phases.specs.Climbs.{climb_of, climb_at}
 
 -- whether a climb begins, by the inputs of the moment and whether the one before was in the air
 abbrev begins_of : Bool → Bool → Bool → Bool → Bool → Bool
@@ -44,65 +46,65 @@ begins-lift_off f k air before = begins-now f k ∙ lift_off-begins (airborne f 
 pub begins-go_around : (f : Flight) (k : ℕ) → IsTrue (airborne f k) → f.high k ≡ false → f.low k ≡ true → f.tp k ≡ true → IsTrue (climb_begins f k)
 begins-go_around f k air h l t = begins-now f k ∙ go_around-begins (airborne f k) (previous (airborne f) k) (f.low k) (f.high k) (f.tp k) air l h t
 
-climb_begin-here : (f : Flight) (k : ℕ) → climb_begins f k ≡ true → climb_begin f k ≡ k
-unfolding climb_begin
-climb_begin-here f k h = ap (λ s. unwrap_or s 0) (last-here (climb_begins f) k h)
+climb_start-here : (f : Flight) (k : ℕ) → climb_begins f k ≡ true → climb_start f k ≡ k
+unfolding climb_start
+climb_start-here f k h = ap (λ s. unwrap_or s 0) (last-here (climb_begins f) k h)
 
-climb_begin-on : (f : Flight) (j : ℕ) → climb_begins f (suc j) ≡ false → climb_begin f (suc j) ≡ climb_begin f j
-unfolding climb_begin
-climb_begin-on f j h =
+climb_start-on : (f : Flight) (j : ℕ) → climb_begins f (suc j) ≡ false → climb_start f (suc j) ≡ climb_start f j
+unfolding climb_start
+climb_start-on f j h =
     ap (λ s. unwrap_or s 0) (last-suc (climb_begins f) j ∙ ap (λ b. cond b (Some (suc j)) (last (climb_begins f) j)) h)
 
-climb_begin-le : (f : Flight) (k : ℕ) → climb_begin f k ≤ k
-unfolding climb_begin
-climb_begin-le f k = last-le (climb_begins f) k
+climb_start-le : (f : Flight) (k : ℕ) → climb_start f k ≤ k
+unfolding climb_start
+climb_start-le f k = last-le (climb_begins f) k
 
-has_high_mark-here : (f : Flight) (k : ℕ) → climb_begins f k ≡ true → has_high_mark f k ≡ f.high k
-has_high_mark-here f k h = ap (λ s. once_from s f.high k) (climb_begin-here f k h) ∙ once_from-here f.high k
+climbed-here : (f : Flight) (k : ℕ) → climb_begins f k ≡ true → climbed f k ≡ f.high k
+unfolding climbed
+climbed-here f k h = ap (λ s. once_from s f.high k) (climb_start-here f k h) ∙ once_from-here f.high k
 
-has_high_mark-on : (f : Flight) (j : ℕ) → climb_begins f (suc j) ≡ false → has_high_mark f (suc j) ≡ (f.high (suc j) || has_high_mark f j)
-has_high_mark-on f j h =
-    let within : climb_begin f j ≤ suc j = omega (arith, climb_begin-le f j) in
-    ap (λ s. once_from s f.high (suc j)) (climb_begin-on f j h) ∙ once_from-suc (climb_begin f j) f.high j within
-
-latest-now : (f : Flight) (k : ℕ) → is_latest_high f k ≡ (f.high k || (not (low_marked f k) && previous (is_latest_high f) k))
-latest-now f k = since-now f.high (λ i. not (low_marked f i)) k
+climbed-on : (f : Flight) (j : ℕ) → climb_begins f (suc j) ≡ false → climbed f (suc j) ≡ (f.high (suc j) || climbed f j)
+unfolding climbed
+climbed-on f j h =
+    let within : climb_start f j ≤ suc j = omega (arith, climb_start-le f j) in
+    ap (λ s. once_from s f.high (suc j)) (climb_start-on f j h) ∙ once_from-suc (climb_start f j) f.high j within
 
 marks-on : (high low before : Bool) → high ≡ false → (high || (not (low && not high) && before)) ≡ (not low && before)
 marks-on false true before h = refl
 marks-on false false before h = refl
 marks-on true low before h = cc
 
-latest-on : (f : Flight) (j : ℕ) → f.high (suc j) ≡ false → is_latest_high f (suc j) ≡ (not (f.low (suc j)) && is_latest_high f j)
+latest-on : (f : Flight) (j : ℕ) → f.high (suc j) ≡ false → high_last f (suc j) ≡ (not (f.low (suc j)) && high_last f j)
 unfolding previous
-latest-on f j h = latest-now f (suc j) ∙ marks-on (f.high (suc j)) (f.low (suc j)) (is_latest_high f j) h
+latest-on f j h = high_last-now f (suc j) ∙ marks-on (f.high (suc j)) (f.low (suc j)) (high_last f j) h
 
 -- a high mark
 pub climb-high : (f : Flight) (k : ℕ) → f.high k ≡ true → climb_at f k ≡ Above
+unfolding climbed
 climb-high f k h =
-    let passed : has_high_mark f k ≡ true = once_from-now (climb_begin f k) f.high k (climb_begin-le f k) h in
-    let latest : is_latest_high f k ≡ true = latest-now f k ∙ ap (λ b. b || (not (low_marked f k) && previous (is_latest_high f) k)) h in
+    let passed : climbed f k ≡ true = once_from-now (climb_start f k) f.high k (climb_start-le f k) h in
+    let latest : high_last f k ≡ true = high_last-now f k ∙ ap (λ b. b || (not (low_marked f k) && previous (high_last f) k)) h in
     rw (passed, latest) refl
 
 -- a climb begins without a high mark
 pub climb-begins : (f : Flight) (k : ℕ) → IsTrue (climb_begins f k) → f.high k ≡ false → climb_at f k ≡ Initial
 climb-begins f k begins h =
-    let passed : has_high_mark f k ≡ false = has_high_mark-here f k begins ∙ h in
-    ap (λ b. climb_of b (is_latest_high f k)) passed
+    let passed : climbed f k ≡ false = climbed-here f k begins ∙ h in
+    ap (λ b. climb_of b (high_last f k)) passed
 
 -- the climb goes on without a high mark
-climb-on : (f : Flight) (k : ℕ) → IsTrue (airborne f k) → f.high (suc k) ≡ false → (f.low (suc k) && f.tp (suc k)) ≡ false → climb_at f (suc k) ≡ climb_of (has_high_mark f k) (not (f.low (suc k)) && is_latest_high f k)
+climb-on : (f : Flight) (k : ℕ) → IsTrue (airborne f k) → f.high (suc k) ≡ false → (f.low (suc k) && f.tp (suc k)) ≡ false → climb_at f (suc k) ≡ climb_of (climbed f k) (not (f.low (suc k)) && high_last f k)
 unfolding previous
 climb-on f k before h marks =
     let on : climb_begins f (suc k) ≡ false =
     begins-now f (suc k) ∙ none-begins (airborne f (suc k)) (airborne f k) (f.low (suc k)) (f.high (suc k)) (f.tp (suc k)) before marks in
-    let passed : has_high_mark f (suc k) ≡ has_high_mark f k = has_high_mark-on f k on ∙ ap (λ b. b || has_high_mark f k) h in
+    let passed : climbed f (suc k) ≡ climbed f k = climbed-on f k on ∙ ap (λ b. b || climbed f k) h in
     rw (passed, latest-on f k h) refl
 
 -- no mark
 pub climb-unmarked : (f : Flight) (k : ℕ) → IsTrue (airborne f k) → f.high (suc k) ≡ false → f.low (suc k) ≡ false → climb_at f (suc k) ≡ climb_at f k
 climb-unmarked f k before h l =
-    climb-on f k before h (ap (λ b. b && f.tp (suc k)) l) ∙ ap (λ b. climb_of (has_high_mark f k) (not b && is_latest_high f k)) l
+    climb-on f k before h (ap (λ b. b && f.tp (suc k)) l) ∙ ap (λ b. climb_of (climbed f k) (not b && high_last f k)) l
 
 -- the climb after a low mark
 abbrev pub lowered : Climb → Climb
@@ -115,13 +117,9 @@ lowered-of false latest = refl
 lowered-of true true = refl
 lowered-of true false = refl
 
-and-false : (a b : Bool) → b ≡ false → (a && b) ≡ false
-and-false true b h = h
-and-false false b h = refl
-
 -- a low mark
 pub climb-low : (f : Flight) (k : ℕ) → IsTrue (airborne f k) → f.high (suc k) ≡ false → f.low (suc k) ≡ true → f.tp (suc k) ≡ false → climb_at f (suc k) ≡ lowered (climb_at f k)
 climb-low f k before h l t =
-    climb-on f k before h (and-false (f.low (suc k)) (f.tp (suc k)) t)
-    ∙ ap (λ b. climb_of (has_high_mark f k) (not b && is_latest_high f k)) l
-    ∙ lowered-of (has_high_mark f k) (is_latest_high f k)
+    climb-on f k before h (and_right (f.low (suc k)) (f.tp (suc k)) t)
+    ∙ ap (λ b. climb_of (climbed f k) (not b && high_last f k)) l
+    ∙ lowered-of (climbed f k) (high_last f k)

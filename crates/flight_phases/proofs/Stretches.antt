@@ -1,24 +1,24 @@
 -- The step of the stretch on ground with no engine running.
 use Rattle.std.proofs.Common.{◌≡◌, ℕ, suc, ◌+◌, ◌-◌, ◌≤◌, min, Bool, true, false, not, ◌&&◌, ◌⊎◌, inl, inr, refl, sym, ◌∙◌, ap, IsTrue, arith}
-use Rattle.ecam_spec.specs.Past.{previous, begin_of}
+use Rattle.ecam_spec.specs.Past.{previous, start_of}
 use Rattle.ecam_spec.specs.Phase.{Flight, parked, airborne, trip}
-use Rattle.ecam_spec.proofs.PastSteps.{begin_of-on, begin_of-rise, begin_of-on-le}
-use Rattle.flight_phases.specs.declared.situation.Situation.{Situation}
-use Rattle.flight_phases.specs.declared.situation.Situation.TheVariants.{Parked, Running}
-use Rattle.flight_phases.specs.Situations.{StandsAs}
+use Rattle.ecam_spec.proofs.PastSteps.{start_of-on, start_of-rise, start_of-on-le}
+use Rattle.flight_phases.specs.declared.regime.Regime.{Regime}
+use Rattle.flight_phases.specs.declared.regime.Regime.TheVariants.{Parked, Running}
+use Rattle.flight_phases.specs.Regimes.{StandsAs}
 
 -- it goes on
 pub parked-on : (f : Flight) (k : ℕ) (age next_age : ℕ) (after_trip : Bool) → StandsAs f k (Parked age after_trip) → next_age ≡ min (age + 1) 3000 → IsTrue (parked f (suc k)) → StandsAs f (suc k) (Parked next_age after_trip)
 parked-on f k age next_age after_trip before counted now =
-    let same : begin_of (parked f) (suc k) ≡ begin_of (parked f) k = begin_of-on (parked f) k now in
-    let within : begin_of (parked f) k ≤ k = begin_of-on-le (parked f) k before.0 in
-    let age_is : age ≡ min (k - begin_of (parked f) k) 3000 = before.1 in
+    let same : start_of (parked f) (suc k) ≡ start_of (parked f) k = start_of-on (parked f) k now in
+    let within : start_of (parked f) k ≤ k = start_of-on-le (parked f) k before.0 in
+    let age_is : age ≡ min (k - start_of (parked f) k) 3000 = before.1 in
     (now, omega arith, before.2 ∙ ap (previous (trip f)) (sym same))
 
 -- it begins
 pub parked-begins : (f : Flight) (k : ℕ) → previous (parked f) k ≡ false → IsTrue (parked f k) → StandsAs f k (Parked 0 (previous (trip f) k))
 parked-begins f k before now =
-    let here : begin_of (parked f) k ≡ k = begin_of-rise (parked f) k now before in
+    let here : start_of (parked f) k ≡ k = start_of-rise (parked f) k now before in
     (now, omega arith, ap (previous (trip f)) (sym here))
 
 -- it begins with the first moment
@@ -59,6 +59,6 @@ on_ground true run h = refl
 on_ground false run h = cc
 
 -- a moment that stands as on ground isn't in the air
-pub airborne-ground : (f : Flight) (k : ℕ) (s : Situation) → ((age : ℕ) × (after_trip : Bool) × (s ≡ Parked age after_trip)) ⊎ ((tripped : Bool) × (s ≡ Running tripped)) → StandsAs f k s → airborne f k ≡ false
+pub airborne-ground : (f : Flight) (k : ℕ) (s : Regime) → ((age : ℕ) × (after_trip : Bool) × (s ≡ Parked age after_trip)) ⊎ ((tripped : Bool) × (s ≡ Running tripped)) → StandsAs f k s → airborne f k ≡ false
 airborne-ground f k s (inl (age, after_trip, is)) stands = on_ground (f.gnd k) (f.run k) (rw is at stands).0
 airborne-ground f k s (inr (tripped, is)) stands = ap not (rw is at stands).0

@@ -1,16 +1,17 @@
 -- The step of the trip bit.
 use Rattle.std.proofs.Common.{◌≡◌, ℕ, suc, Bool, true, false, not, ◌&&◌, ◌||◌, refl, sym, ◌∙◌, ap, IsTrue}
+use Rattle.std.proofs.Math.Bool.{or-true, or-false}
 use Rattle.ecam_spec.specs.Past.{previous}
-use Rattle.ecam_spec.specs.Phase.{Flight, parked, airborne, trip}
+use Rattle.ecam_spec.specs.Phase.{Flight, parked, running, airborne, trip}
 use Rattle.ecam_spec.proofs.PastSteps.{since-now}
 
 -- the trip bit in a moment, by the inputs of the moment and the trip bit in the one before
 abbrev trip_of : Bool → Bool → Bool → Bool → Bool
-trip_of gnd run fast before = (not gnd || (run && fast)) || (not (gnd && not run) && before)
+trip_of gnd run fast before = (not gnd || ((gnd && run) && fast)) || (not (gnd && not run) && before)
 
 trip-now : (f : Flight) (k : ℕ) → trip f k ≡ trip_of (f.gnd k) (f.run k) (f.fast k) (previous (trip f) k)
 unfolding trip
-trip-now f k = since-now (λ i. airborne f i || (f.run i && f.fast i)) (λ i. not (parked f i)) k
+trip-now f k = since-now (λ i. airborne f i || (running f i && f.fast i)) (λ i. not (parked f i)) k
 
 parked-resets : (gnd run fast before : Bool) → (gnd && not run) ≡ true → trip_of gnd run fast before ≡ false
 parked-resets true false fast before h = refl
@@ -21,18 +22,10 @@ pub trip-parked : (f : Flight) (k : ℕ) → IsTrue (parked f k) → trip f k �
 trip-parked f k h = trip-now f k ∙ parked-resets (f.gnd k) (f.run k) (f.fast k) (previous (trip f) k) h
 
 pub trip-airborne : (f : Flight) (k : ℕ) → IsTrue (airborne f k) → trip f k ≡ true
-trip-airborne f k h = trip-now f k ∙ ap (λ b. (b || (f.run k && f.fast k)) || (not (parked f k) && previous (trip f) k)) h
+trip-airborne f k h = trip-now f k ∙ ap (λ b. (b || (running f k && f.fast k)) || (not (parked f k) && previous (trip f) k)) h
 
 pub trip-running : (f : Flight) (k : ℕ) → f.gnd k ≡ true → f.run k ≡ true → trip f k ≡ (f.fast k || previous (trip f) k)
 trip-running f k on running = trip-now f k ∙ ap (λ g. trip_of g (f.run k) (f.fast k) (previous (trip f) k)) on ∙ ap (λ r. trip_of true r (f.fast k) (previous (trip f) k)) running
-
-or-false : (b : Bool) → (b || false) ≡ b
-or-false true = refl
-or-false false = refl
-
-or-true : (b : Bool) → (b || true) ≡ true
-or-true true = refl
-or-true false = refl
 
 -- an engine runs on ground, and the trip bit in the moment before is known
 pub trip-runs : (f : Flight) (k : ℕ) (bit : Bool) → bit ≡ trip f k → IsTrue (f.gnd (suc k)) → IsTrue (f.run (suc k)) → trip f (suc k) ≡ (f.fast (suc k) || bit)

@@ -1,4 +1,4 @@
 pub mod Inputs
 pub mod Climbs
-pub mod Situations
+pub mod Regimes
 pub mod State

@@ -1,12 +1,12 @@
 -- What the state says of the moments so far.
 use Rattle.std.specs.Prelude.{◌≡◌, ℕ, suc, Option, Some, None}
 use Rattle.ecam_spec.specs.Phase.{Flight}
-use Rattle.flight_phases.specs.declared.situation.Situation.{Situation}
+use Rattle.flight_phases.specs.declared.regime.Regime.{Regime}
 use Rattle.flight_phases.specs.declared.state.PhaseState.{PhaseState}
-use Rattle.flight_phases.specs.Situations.{StandsAs}
+use Rattle.flight_phases.specs.Regimes.{StandsAs}
 
 -- this is how the last of k moments stands, if there was one
-abbrev pub IsLast : Flight → ℕ → Option Situation → Type 0
+abbrev pub IsLast : Flight → ℕ → Option Regime → Type 0
 IsLast f k None = k ≡ 0
 IsLast f k (Some s) = (j : ℕ) × (k ≡ suc j) × StandsAs f j s
 

@@ -5,7 +5,7 @@
 
 mod climb;
 mod inputs;
-mod situation;
+mod regime;
 mod state;
 #[cfg(test)]
 mod tests;

@@ -2,18 +2,18 @@
 ghost use Rattle.std.specs.Prelude.{◌≡◌, ◌≤◌, ℕ, suc};
 ghost use Rattle.ecam_spec.specs.Phase.{Flight, phase};
 ghost use Rattle.flight_phases.specs.Inputs.{AreInputs};
-ghost use Rattle.flight_phases.specs.Situations.{StandsAs};
+ghost use Rattle.flight_phases.specs.Regimes.{StandsAs};
 ghost use Rattle.flight_phases.specs.State.{Stands};
 
 use crate::inputs::PhaseInputs;
-use crate::situation::Situation;
+use crate::regime::Regime;
 use ecam_kinds::Phase;
 
 /// What the phases so far leave for the next: how the last moment stands among those before it. It has
 /// the same few bytes whatever the history.
 #[derive(Clone, Copy, Debug, PartialEq, Eq)]
 pub struct PhaseState {
-    last: Option<Situation>,
+    last: Option<Regime>,
 }
 
 impl PhaseState {
@@ -34,19 +34,19 @@ impl PhaseState {
         ensures stands { (f : Flight) (k : ℕ) → Stands f k self.old → AreInputs f k inputs.now
             → Stands f (suc k) self.new }
     {
-        let situation = self.next_situation(inputs);
-        self.last = Some(situation);
+        let regime = self.next_regime(inputs);
+        self.last = Some(regime);
         Phase {
-            number: situation.number(inputs),
+            number: regime.number(inputs),
         }
     }
 
-    // The situation of the next moment.
-    fn next_situation(&self, inputs: &PhaseInputs) -> Situation
+    // The regime of the next moment.
+    fn next_regime(&self, inputs: &PhaseInputs) -> Regime
         ensures { (f : Flight) (k : ℕ) → Stands f k self.now → AreInputs f k inputs.now → StandsAs f k result }
     {
         match self.last {
-            None => Situation::first(inputs),
+            None => Regime::first(inputs),
             Some(last) => last.next(inputs),
         }
     }

@@ -11,8 +11,9 @@ use Rattle.ecam_spec.specs.Value.{BusWord, takes, arrives, word_of, is_fresh, re
 use Rattle.ecam_spec.proofs.PastSteps.{last-le}
 use Rattle.ecam_spec.proofs.PastWithin.{once_from-last}
 use Rattle.param_table.specs.declared.table.Received.{Received}
-use Rattle.param_table.specs.Standing.{SourceStands, WordComes}
-use Rattle.param_table.specs.Steps.{held_value, set_back}
+use Rattle.param_table.specs.TableState.{SourceStands}
+use Rattle.ecam_spec.specs.History.{OneMore}
+use Rattle.param_table.specs.HeldValues.{held_value, set_back}
 use Rattle.param_table.proofs.Moments.{word_of-push, last-push, word_of-moment, last-moment, word_of-start, last-start}
 
 -- the age of a word by the clock, and by the moment in which it came
@@ -79,7 +80,7 @@ module _ (stale : ℕ) (s : Source) where
     past = set_back_past received stands.past;
   }
 
-  pub word_stands : (old new : ℕ → List BusWord) (k clock : ℕ) (w : BusWord) (received : Option Received) → WordComes old new k w
+  pub word_stands : (old new : ℕ → List BusWord) (k clock : ℕ) (w : BusWord) (received : Option Received) → OneMore old new k w
       → SourceStands stale s old k clock received
       → SourceStands stale s new k clock (cond (takes s w) (Some (record { bits = w.bits; at = clock })) received)
   word_stands old new k clock w received on stands = elim (cases_Bool (takes s w)) [

@@ -4,10 +4,10 @@ use Rattle.std.specs.Prelude.{min, option_map}
 use Rattle.std.specs.List.{list_any}
 use Rattle.ecam_spec.specs.Book.{Source, Book}
 use Rattle.ecam_spec.specs.Value.{BusWord, takes, arrives}
-use Rattle.ecam_spec.proofs.HistoryLaws.{last-below}
+use Rattle.ecam_spec.proofs.PastAgree.{last-below}
 use Rattle.ecam_spec.proofs.ValueAgree.{word_of-below}
 use Rattle.param_table.specs.Places.{parameter_with}
-use Rattle.param_table.specs.Standing.{SourceStands, ParamsStand}
+use Rattle.param_table.specs.TableState.{SourceStands, ParamsStand}
 use Rattle.param_table.specs.declared.table.Received.{Received}
 use Rattle.param_table.specs.declared.table.Params.{Params}
 

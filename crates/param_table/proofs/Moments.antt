@@ -7,9 +7,9 @@ use Rattle.ecam_spec.specs.Past.{last}
 use Rattle.ecam_spec.specs.Book.{Source}
 use Rattle.ecam_spec.specs.Value.{BusWord, takes, last_taken, arrives, word_of}
 use Rattle.ecam_spec.proofs.PastSteps.{last-zero, last-suc}
-use Rattle.ecam_spec.proofs.HistoryLaws.{last-below}
+use Rattle.ecam_spec.proofs.PastAgree.{last-below}
 use Rattle.ecam_spec.proofs.ValueAgree.{word_of-below}
-use Rattle.param_table.specs.Standing.{WordComes}
+use Rattle.ecam_spec.specs.History.{OneMore}
 
 -- a word in its place, if it is taken
 abbrev if_taken : Source → BusWord → Option ℕ
@@ -72,10 +72,10 @@ either false b m p = refl
 
 -- one more word comes
 module _ (s : Source) (old new : ℕ → List BusWord) (w : BusWord) where
-  arrives-push : (k : ℕ) → WordComes old new k w → arrives s new k ≡ (takes s w || arrives s old k)
+  arrives-push : (k : ℕ) → OneMore old new k w → arrives s new k ≡ (takes s w || arrives s old k)
   arrives-push k on = ap (list_any (takes s)) on.now ∙ any-push s (old k) w
 
-  pub word_of-push : (k : ℕ) → WordComes old new k w → word_of s new k ≡ option_or (if_taken s w) (word_of s old k)
+  pub word_of-push : (k : ℕ) → OneMore old new k w → word_of s new k ≡ option_or (if_taken s w) (word_of s old k)
   word_of-push zero on =
       word_of-zero s new ∙ ap (last_taken s) on.now ∙ taken-push s (old 0) w ∙ ap (option_or (if_taken s w)) (sym (word_of-zero s old))
   word_of-push (suc k) on =
@@ -86,7 +86,7 @@ module _ (s : Source) (old new : ℕ → List BusWord) (w : BusWord) where
       ∙ or-assoc (if_taken s w) (last_taken s (old (suc k))) (word_of s old k)
       ∙ ap (option_or (if_taken s w)) (sym (word_of-suc s old k))
 
-  pub last-push : (k : ℕ) → WordComes old new k w → last (arrives s new) k ≡ cond (takes s w) (Some k) (last (arrives s old) k)
+  pub last-push : (k : ℕ) → OneMore old new k w → last (arrives s new) k ≡ cond (takes s w) (Some k) (last (arrives s old) k)
   last-push zero on =
       last-zero (arrives s new) ∙ ap (λ b. cond b (Some 0) None) (arrives-push 0 on)
       ∙ either (takes s w) (arrives s old 0) 0 None ∙ ap (cond (takes s w) (Some 0)) (sym (last-zero (arrives s old)))

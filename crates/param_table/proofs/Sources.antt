@@ -8,7 +8,7 @@ use Rattle.std.proofs.lemmas.List.Elements.{All-get_or}
 use Rattle.std.proofs.lemmas.Option.{slice_get_within, get_or_from_slice_get, none-some}
 use Rattle.ecam_spec.specs.Book.{Source, Parameter}
 use Rattle.ecam_spec.specs.Situation.{no_parameter}
-use Rattle.ecam_spec.specs.Sound.{IsSoundParameter, IsSoundSource}
+use Rattle.ecam_spec.specs.KeepsLimits.{IsSoundParameter, IsSoundSource}
 use Rattle.ecam_spec.specs.Word.{label, is_odd}
 use Rattle.ecam_spec.specs.Value.{BusWord, takes, has_sdi}
 use Rattle.param_table.specs.Places.{parameter_with, source_at, listens, takes_at}

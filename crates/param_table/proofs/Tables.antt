@@ -1,46 +1,27 @@
 -- A table of a book as a whole, step by step.
-use Rattle.std.proofs.Common.{◌≡◌, ℕ, zero, suc, ◌-◌, ◌^◌, ◌<◌, ◌≤◌, List, [], ◌∷◌, false, length, map, get_or, replicate, Option, Some, None, All, cond, refl, sym, ap, ◌∙◌, subst, arith}
+use Rattle.std.proofs.Common.{◌≡◌, ℕ, zero, suc, ◌-◌, ◌^◌, List, [], ◌∷◌, false, map, get_or, replicate, Option, Some, None, All, cond, refl, sym, ap, ◌∙◌, subst}
 use Rattle.std.specs.Option.{option_map_or}
-use Rattle.std.proofs.lemmas.List.{length-map, get_or-map}
 use Rattle.ecam_spec.specs.Book.{Source, Book}
 use Rattle.ecam_spec.specs.Draft.{book_of}
-use Rattle.ecam_spec.specs.Sound.{IsSoundParameter}
+use Rattle.ecam_spec.specs.KeepsLimits.{IsSoundParameter}
 use Rattle.ecam_spec.specs.Word.{is_odd}
 use Rattle.ecam_spec.specs.Value.{BusWord, takes}
 use Rattle.book_model.specs.declared.draft.Draft.{Draft}
-use Rattle.book_model.specs.declared.draft.Param.{Param}
-use Rattle.ecam_spec.specs.Situation.{no_parameter, parameter_at}
-use Rattle.book_model.specs.View.{draft_of, parameter_of}
 use Rattle.book_model.specs.Sealed.{the_book, IsSealed}
 use Rattle.param_table.specs.declared.table.Received.{Received}
 use Rattle.param_table.specs.declared.table.Params.{Params}
 use Rattle.param_table.specs.Places.{parameter_with, source_at, takes_at}
-use Rattle.param_table.specs.Standing.{SourceStands, ParamsFit, ParamsStand, WordComes}
-use Rattle.param_table.specs.Steps.{set_back}
+use Rattle.param_table.specs.TableState.{SourceStands, ParamsFit, ParamsStand}
+use Rattle.ecam_spec.specs.History.{OneMore}
+use Rattle.param_table.specs.HeldValues.{set_back}
 use Rattle.param_table.proofs.Sources.{sound_parameter, not_even}
 use Rattle.param_table.proofs.Entering.{none_replicate}
 use Rattle.param_table.proofs.Ages.{start_stands, moment_stands, set_back_stands, word_stands}
 
--- the parameters of a book are those of its draft, which are sound
-pub book_parameters : (d : Draft) → (the_book d).parameters ≡ map parameter_of d.params.items
-unfolding book_of draft_of
-book_parameters d = refl
-
+-- the parameters of a book are sound
 pub book_sound : (d : Draft) → IsSealed d → All IsSoundParameter (the_book d).parameters
 unfolding book_of
 book_sound d sealed = sealed.sound.parameters
-
-pub book_count : (d : Draft) → IsSealed d → length d.params.items ≤ 1024
-unfolding draft_of
-book_count d sealed = omega (arith, sealed.sound.parameter_count, length-map d.params.items parameter_of)
-
--- the parameter at a place that is read
-pub parameter_is : (d : Draft) (i : ℕ) (x : Param) → i < length d.params.items → x ≡ get_or d.params.items i x → parameter_at (the_book d) i ≡ parameter_of x
-parameter_is d i x within is =
-    ap (λ ps. get_or ps i no_parameter) (book_parameters d) ∙ get_or-map parameter_of d.params.items i x no_parameter within ∙ ap parameter_of (sym is)
-
-pub parameter_count : (d : Draft) → length (the_book d).parameters ≡ length d.params.items
-parameter_count d = ap length (book_parameters d) ∙ length-map d.params.items parameter_of
 
 -- before any word
 pub start : (b : Book) (words : ℕ → List BusWord) (p : Params) (n : ℕ) → ParamsFit b p → words 0 ≡ [] → p.received.items ≡ replicate n None → ParamsStand b words 0 p
@@ -86,7 +67,7 @@ clock_back b words k old new fits full half same stands = record {
 }
 
 -- a word comes, which is taken where a source takes it
-pub word : (b : Book) (before after : ℕ → List BusWord) (k : ℕ) (w : BusWord) (old new : Params) → ParamsFit b new → WordComes before after k w
+pub word : (b : Book) (before after : ℕ → List BusWord) (k : ℕ) (w : BusWord) (old new : Params) → ParamsFit b new → OneMore before after k w
     → new.clock ≡ old.clock
     → ((q : ℕ) → get_or new.received.items q None ≡ cond (takes_at b.parameters w q) (Some (record { bits = w.bits; at = old.clock })) (get_or old.received.items q None))
     → ParamsStand b before k old → ParamsStand b after k new
@@ -99,7 +80,7 @@ word b before after k w old new fits on clock places stands = record {
 }
 
 -- a word of even parity comes, which no source takes
-pub even_word : (b : Book) (before after : ℕ → List BusWord) (k : ℕ) (w : BusWord) (p : Params) → WordComes before after k w → is_odd w.bits ≡ false
+pub even_word : (b : Book) (before after : ℕ → List BusWord) (k : ℕ) (w : BusWord) (p : Params) → OneMore before after k w → is_odd w.bits ≡ false
     → ParamsStand b before k p → ParamsStand b after k p
 even_word b before after k w p on even stands =
     word b before after k w p p stands.fits on refl (λ q. sym (ap (λ t. cond t (Some (record { bits = w.bits; at = p.clock })) (get_or p.received.items q None)) (none_takes (source_at b.parameters q)))) stands where

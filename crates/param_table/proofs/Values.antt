@@ -6,12 +6,13 @@ use Rattle.std.proofs.lemmas.Option.{slice_get_within}
 use Rattle.ecam_spec.specs.declared.kinds.Kind.{Kind}
 use Rattle.ecam_spec.specs.Book.{Source, Book}
 use Rattle.ecam_spec.specs.Situation.{no_parameter, parameter_at}
-use Rattle.ecam_spec.specs.Value.{BusWord, source_value, first_of, value}
+use Rattle.ecam_spec.specs.Value.{BusWord, source_value, value}
+use Rattle.ecam_spec.specs.Places.{first_of}
 use Rattle.param_table.specs.declared.table.Received.{Received}
 use Rattle.param_table.specs.declared.table.Params.{Params}
 use Rattle.param_table.specs.Places.{source_at}
-use Rattle.param_table.specs.Standing.{SourceStands, ParamsStand}
-use Rattle.param_table.specs.Steps.{first_held}
+use Rattle.param_table.specs.TableState.{SourceStands, ParamsStand}
+use Rattle.param_table.specs.HeldValues.{first_held}
 use Rattle.param_table.proofs.Ages.{held_is}
 
 -- sources that stand from a place on give what the definitions say

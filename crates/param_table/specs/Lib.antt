@@ -1,4 +1,4 @@
 pub mod Places
 pub mod Listening
-pub mod Standing
-pub mod Steps
+pub mod TableState
+pub mod HeldValues

@@ -1,11 +1,12 @@
 // Which sources listen to a bus and a label.
 ghost use Rattle.std.specs.Prelude.{◌≡◌, ◌*◌, ◌+◌, ◌<◌, ◌≤◌, map, length, vec_len, slice_index_or, slice_set, None, Some, IfOk, All, MatchOption, ⊤};
-ghost use Rattle.ecam_spec.specs.Sound.{IsSoundParameter};
+ghost use Rattle.ecam_spec.specs.declared.limits.TheConstants.{PARAMETERS};
+ghost use Rattle.ecam_spec.specs.KeepsLimits.{IsSoundParameter};
 ghost use Rattle.book_model.specs.View.{parameter_of};
 ghost use Rattle.param_table.specs.Listening.{key_of};
 
 use crate::place::source_at;
-use book_model::{From, Param};
+use book_model::{Param, WordSource};
 use std::alloc::{AllocError, Global};
 
 /// How many keys there are: 256 labels on each of 16 buses.
@@ -26,7 +27,7 @@ impl Index {
 
     /// The index of a book's parameters. An error is want of memory.
     pub fn new(alloc: Global, params: &[Param]) -> Result<Index, AllocError>
-        requires few { length params.now ≤ 1024 }
+        requires few { length params.now ≤ PARAMETERS }
         requires sound { All IsSoundParameter (map parameter_of params.now) }
         ensures { IfOk result (IsIndex (map parameter_of params.now)) }
     {
@@ -62,7 +63,7 @@ fn at(places: &[Option<u16>], i: usize) -> Option<u16>
 }
 
 // Puts a place in front of the chain of its source, and answers what was in front.
-fn enter(last: &mut Vec<Option<u16>>, source: Option<From>, place: u16) -> Option<u16>
+fn enter(last: &mut Vec<Option<u16>>, source: Option<WordSource>, place: u16) -> Option<u16>
     requires { MatchOption source ⊤ (λ s. key_of s.bus s.label < vec_len last.old) }
     ensures result { MatchOption source (result ≡ None)
         (λ s. result ≡ slice_index_or last.old.items (key_of s.bus s.label) None) }

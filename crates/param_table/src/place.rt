@@ -3,10 +3,10 @@ ghost use Rattle.std.specs.Prelude.{◌≡◌, map, option_map};
 ghost use Rattle.book_model.specs.View.{source_of, parameter_of};
 ghost use Rattle.param_table.specs.Places.{source_at};
 
-use book_model::{From, Param};
+use book_model::{Param, WordSource};
 
 /// The source at a place: those of parameter p stand at the places from 3p on, in order.
-pub fn source_at(params: &[Param], place: usize) -> Option<From>
+pub fn source_at(params: &[Param], place: usize) -> Option<WordSource>
     ensures { option_map source_of result ≡ source_at (map parameter_of params.now) place }
 {
     let param = params.get(place / 3)?;

@@ -6,16 +6,17 @@ ghost use Rattle.ecam_spec.specs.Book as plain;
 ghost use Rattle.ecam_spec.specs.Situation.{parameter_at};
 ghost use Rattle.book_model.specs.Sealed.{the_book};
 ghost use Rattle.book_model.specs.View.{source_of, parameter_of};
-ghost use Rattle.ecam_spec.specs.Sound.{IsSoundParameter, IsSoundSource};
+ghost use Rattle.ecam_spec.specs.KeepsLimits.{IsSoundParameter, IsSoundSource};
 ghost use Rattle.param_table.specs.Places.{takes_at};
 ghost use Rattle.param_table.specs.Listening.{IsIndex};
-ghost use Rattle.param_table.specs.Standing.{ParamsFit, ParamsStand, WordComes, IsValueOf};
-ghost use Rattle.param_table.specs.Steps.{held_value, first_held, set_back};
+ghost use Rattle.param_table.specs.TableState.{ParamsFit, ParamsStand, IsValueOf};
+ghost use Rattle.ecam_spec.specs.History.{OneMore};
+ghost use Rattle.param_table.specs.HeldValues.{held_value, first_held, set_back};
 
 use crate::index::Index;
 use crate::words::{has_sdi, reading};
 use arinc_words::Word;
-use book_model::{Book, From, Param};
+use book_model::{Book, Param, WordSource};
 use std::alloc::{AllocError, Global};
 
 /// How far the clock is set back at its end.
@@ -84,7 +85,7 @@ impl Params {
         requires { ParamsFit (the_book book.now) self.old }
         ensures fits { ParamsFit (the_book book.now) self.new }
         ensures stands { (old new : ℕ → List BusWord) (k : ℕ)
-            → WordComes old new k (record { bus = bus; bits = bits })
+            → OneMore old new k (record { bus = bus; bits = bits })
             → ParamsStand (the_book book.now) old k self.old → ParamsStand (the_book book.now) new k self.new }
     {
         let word = Word::new(bits);
@@ -162,7 +163,7 @@ impl Params {
     }
 
     // The value of one source.
-    fn source_value(&self, parameter: &Param, source: &From, place: usize) -> Option<i64>
+    fn source_value(&self, parameter: &Param, source: &WordSource, place: usize) -> Option<i64>
         requires sound { IsSoundSource (source_of source.now) }
         requires place { place < length self.now.received.items }
         ensures value { result ≡ held_value parameter.now.kind parameter.now.stale (source_of source.now) self.now.clock

@@ -1,12 +1,12 @@
 // Words on the buses of a small book. The expected values were worked out by hand.
 ghost use Rattle.std.specs.Prelude.{◌≡◌, ◌≤◌, [], ◌∷◌, length, map, codes, IfOk, Some, None};
 ghost use Rattle.ecam_spec.specs.Book.{constant};
-ghost use Rattle.ecam_spec.specs.Sound.{IsSound};
+ghost use Rattle.ecam_spec.specs.KeepsLimits.{IsSound};
 ghost use Rattle.ecam_spec.specs.DraftFaults.{draft_fault};
 ghost use Rattle.book_model.specs.View.{draft_of, tree_in, source_of, parameter_of};
 
 use crate::Params;
-use book_model::{Book, Draft, From, Kind, Name, Param, PhaseTerms, Term};
+use book_model::{Book, Draft, Kind, Name, Param, PhaseTerms, Term, WordSource};
 use std::alloc::{AllocError, Global};
 use std::test::Fail;
 use term_tree::Cond;
@@ -29,11 +29,11 @@ fn term(holds: bool) -> Term
     }
 }
 
-fn source(bus: u8, label: u8, sdi: Option<u8>) -> From
+fn source(bus: u8, label: u8, sdi: Option<u8>) -> WordSource
     ensures { source_of result
         ≡ record { bus = bus; label = label; sdi = sdi; bit = 11; low = 11; range = 1 } }
 {
-    From {
+    WordSource {
         bus,
         label,
         sdi,

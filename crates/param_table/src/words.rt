@@ -1,19 +1,19 @@
 // What words say to sources.
 ghost use Rattle.std.specs.Prelude.{◌≡◌, map, IfSome};
 ghost use Rattle.std.specs.Option.{option_map_or};
-ghost use Rattle.ecam_spec.specs.Sound.{IsSoundSource};
+ghost use Rattle.ecam_spec.specs.KeepsLimits.{IsSoundSource};
 ghost use Rattle.ecam_spec.specs.Value.{reading, has_sdi};
 ghost use Rattle.book_model.specs.View.{source_of, parameter_of};
 ghost use Rattle.param_table.specs.Places.{source_at, passes};
-ghost use Rattle.param_table.specs.Standing.{IsValueOf};
+ghost use Rattle.param_table.specs.TableState.{IsValueOf};
 
 use crate::place::source_at;
 use arinc_words::Word;
-use book_model::{From, Kind, Param};
+use book_model::{Kind, Param, WordSource};
 
 /// What a word says to a source of a parameter of this kind.
 #[tactic(auto, unfolding(ecam_spec::specs::Value::reading))]
-pub fn reading(kind: Kind, source: &From, word: &Word) -> Option<i64>
+pub fn reading(kind: Kind, source: &WordSource, word: &Word) -> Option<i64>
     requires { IsSoundSource (source_of source.now) }
     ensures value { result ≡ reading kind (source_of source.now) word.now }
     ensures bound { IfSome result (IsValueOf kind) }

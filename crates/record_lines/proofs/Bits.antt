@@ -1,10 +1,11 @@
 -- Eight hexadecimal digits, as `hex` decodes them.
-use Rattle.std.proofs.Common.{◌≡◌, ℕ, zero, suc, ◌+◌, ◌*◌, Bool, true, false, ◌&&◌, ◌⊎◌, inl, inr, List, [], ◌∷◌, length, Some, None, refl, sym, ◌∙◌, ap, subst, arith, w32, Ok, Err, Result}
+use Rattle.std.proofs.Common.{◌≡◌, ℕ, zero, suc, ◌+◌, ◌*◌, Bool, true, false, ◌⊎◌, inl, inr, List, [], ◌∷◌, length, Some, None, refl, sym, ◌∙◌, ap, subst, arith, w32, Ok, Err, Result}
 use Rattle.std.proofs.lemmas.Bool.{cases_eq}
 use Rattle.std.proofs.lemmas.Bool.Decides.{nat_tests}
 use Rattle.std.specs.Prelude.{fold, MatchResult, nat_le}
 use Rattle.std.specs.List.{list_all}
 use Rattle.std.specs.Int.{from_be_bytes}
+use Rattle.std.proofs.Math.Bool.{and-false}
 use Rattle.hex.specs.declared.error.FromHexError.{FromHexError}
 use Rattle.hex.specs.Hex.{◌>>=◌, decode_pairs, decode_sized, hex_digit_value}
 use Rattle.ecam_spec.specs.RecordLine.{digit_of, bits_of}
@@ -54,14 +55,10 @@ pairs i (suc n) (high ∷ low ∷ rest) len =
     elim (digit_cases high) [
       | inl h ↦ elim (digit_cases low) [
         | inl l ↦ rw (h.0, l.0) (one_pair n high low rest (decode_pairs (i + 2) rest) h.1 l.1 (pairs (i + 2) n rest (omega arith)))
-        | inr l ↦ rw (h.0, l.0, l.1) (and_false (nat_le (digit_of high) 15))
+        | inr l ↦ rw (h.0, l.0, l.1) (and-false (nat_le (digit_of high) 15))
       ]
       | inr h ↦ rw (h.0, h.1) refl
     ]
-  where
-    and_false : (b : Bool) → (b && false) ≡ false
-    and_false true = refl
-    and_false false = refl
 
 -- four bytes, highest first
 four_bytes : (bytes : List ℕ) → length bytes ≡ 4 → bytes_after 0 bytes ≡ from_be_bytes w32 bytes

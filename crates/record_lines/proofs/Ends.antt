@@ -1,4 +1,4 @@
--- Sound texts at the end of the input, and what their events are the begin of.
+-- Sound texts at the end of the input, and what their events are the start of.
 use Rattle.std.proofs.Common.{◌≡◌, ℕ, zero, suc, ◌+◌, ◌-◌, ◌<◌, ◌≤◌, Bool, true, false, List, [], ◌++◌, length, drop, Option, Some, None, cond, refl, sym, ◌∙◌, ap, arith, length-append, append-nil, append_assoc, add-zero, length-drop}
 use Rattle.std.proofs.lemmas.Bool.{lt-ltb, le-ltb}
 use Rattle.std.proofs.lemmas.List.{take_all}
@@ -7,19 +7,19 @@ use Rattle.std.specs.Prelude.{unwrap_or, nat_lt}
 use Rattle.ecam_spec.specs.declared.kinds.Event.{Event}
 use Rattle.ecam_spec.specs.declared.kinds.FaultKind.TheVariants.{Cut, NoEnd}
 use Rattle.ecam_spec.specs.Places.{first_place}
-use Rattle.ecam_spec.specs.Record.{is_feed, line_begin, line_before, is_wrong, wrong_place, sound_length, wrong_end, fault_at, fault, events}
+use Rattle.ecam_spec.specs.Record.{is_feed, line_start, line_before, is_wrong, wrong_place, sound_length, wrong_end, fault_at, fault, events}
 use Rattle.record_lines.specs.Reads.{last_line, last_number, is_over, BeginEvents}
 use Rattle.record_lines.proofs.Prefix.{first_place-suc}
-use Rattle.record_lines.proofs.Steps.{said, said-suc, said-prefix, line_events}
-use Rattle.record_lines.proofs.Sound.{sound-prefix, events-sound}
+use Rattle.record_lines.proofs.LinesSaid.{said, said-suc, said-prefix, line_events}
+use Rattle.record_lines.proofs.SoundLines.{sound-prefix, events-sound}
 
 -- ---- at the end of the input
 
-length-last_line : (text : List ℕ) → length (last_line text) ≡ length text - line_begin text (length text)
+length-last_line : (text : List ℕ) → length (last_line text) ≡ length text - line_start text (length text)
 unfolding line_before
 length-last_line text =
-    ap (λ l. length (drop (line_begin text (length text)) l)) (take_all (length text) text (omega arith))
-    ∙ length-drop (line_begin text (length text)) text
+    ap (λ l. length (drop (line_start text (length text)) l)) (take_all (length text) text (omega arith))
+    ∙ length-drop (line_start text (length text)) text
 
 module _ (limit : ℕ) (text : List ℕ) (sound : wrong_place text limit ≡ None) where
   -- nothing is wrong before the end
@@ -32,14 +32,14 @@ module _ (limit : ℕ) (text : List ℕ) (sound : wrong_place text limit ≡ Non
   unfolding wrong_end
   fault-cut begun =
       let len = length-last_line text in
-      let inside : nat_lt (line_begin text (length text)) (length text) ≡ true = lt-ltb (line_begin text (length text)) (length text) (omega arith) in
+      let inside : nat_lt (line_start text (length text)) (length text) ≡ true = lt-ltb (line_start text (length text)) (length text) (omega arith) in
       fault-end ∙ rw inside refl
 
-  whole_lines : last_line text ≡ [] → nat_lt (line_begin text (length text)) (length text) ≡ false
+  whole_lines : last_line text ≡ [] → nat_lt (line_start text (length text)) (length text) ≡ false
   whole_lines whole =
       let len = length-last_line text in
       let none = ap length whole in
-      le-ltb (line_begin text (length text)) (length text) (omega arith)
+      le-ltb (line_start text (length text)) (length text) (omega arith)
 
   -- all lines are whole, and one ended the record
   pub fault-none : last_line text ≡ [] → is_over text ≡ true → fault text limit ≡ None
@@ -78,6 +78,13 @@ first_place-after p n (suc m) none =
     later None false k d n h low top = top
 
 module _ (limit : ℕ) (text : List ℕ) (sound : wrong_place text limit ≡ None) where
+  -- nothing is wrong in it where more stands behind it
+  pub sound_reaches : (more : List ℕ) → length text ≤ sound_length (text ++ more) limit
+  unfolding sound_length wrong_place
+  sound_reaches more =
+      let len : length (text ++ more) ≡ length text + length more = length-append text more in
+      rw len (first_place-after (is_wrong (text ++ more) limit) (length text) (length more) (sound-prefix limit text sound more))
+
   pub begin_events : BeginEvents limit text (events text limit)
   unfolding events sound_length wrong_place said
   begin_events more =

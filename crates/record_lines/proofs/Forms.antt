@@ -4,10 +4,11 @@ use Rattle.std.proofs.lemmas.Bool.{ne_eqb, cases_lt, lt-ltb, le-ltb}
 use Rattle.std.proofs.lemmas.List.{drop_all, get_or-take}
 use Rattle.std.specs.Option.{option_map, option_and_then}
 use Rattle.std.specs.List.{position, position_or_len, before_first, after_first}
+use Rattle.std.proofs.Math.Bool.{and-false}
 use Rattle.ecam_spec.specs.declared.kinds.Event.TheVariants.{Word, Tick, Press, Release, Fail, Up, End}
 use Rattle.ecam_spec.specs.RecordLine.{event_of, is_end, word_event, bits_of, bus_of, key_of, computer_of}
 use Rattle.record_lines.specs.Line.{number_within}
-use Rattle.record_lines.proofs.Numbers.{and-false, AreBytes, bus_of-within}
+use Rattle.record_lines.proofs.Numbers.{AreBytes, bus_of-within}
 
 pub event_of-none : event_of [] ≡ None
 unfolding event_of is_end

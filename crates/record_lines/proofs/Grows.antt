@@ -6,14 +6,15 @@ use Rattle.std.specs.Option.{option_to_list, option_map, option_and_then}
 use Rattle.std.specs.Str.{bytes_eq}
 use Rattle.std.specs.Prelude.{codes, if◌then◌else◌, drop}
 use Rattle.std.proofs.lemmas.Slice.Eq.{bytes_eq-Decides}
+use Rattle.std.proofs.Math.Bool.{or-false}
 use Rattle.ecam_spec.specs.declared.kinds.Event.{Event}
 use Rattle.ecam_spec.specs.declared.kinds.Event.TheVariants.{Word, Tick, Press, Release, Fail, Up, End}
 use Rattle.ecam_spec.specs.declared.kinds.FaultKind.TheVariants.{Long, Form, AfterEnd, Limit}
 use Rattle.ecam_spec.specs.RecordLine.{event_of, is_end, is_end_event, begins_with, word_event, key_of, computer_of, bits_of, bus_of}
 use Rattle.ecam_spec.specs.Record.{wrong_place, events}
 use Rattle.record_lines.specs.Reads.{last_line, last_number, is_over}
-use Rattle.record_lines.proofs.Steps.{said, line_events}
-use Rattle.record_lines.proofs.Sound.{verdict, sound-more, events-sound, last_line-more, last_number-more, is_over-more, said-more}
+use Rattle.record_lines.proofs.LinesSaid.{said, line_events}
+use Rattle.record_lines.proofs.SoundLines.{verdict, sound-more, events-sound, last_line-more, last_number-more, is_over-more, said-more}
 
 -- ---- the verdict on a byte
 
@@ -80,7 +81,7 @@ unfolding word_event
 no_end-word words = no_end-bus (bus_of _) (bits_of _)
 
 -- the forms after the first two
-forms_after : List ℕ → Option Event
+pub forms_after : List ℕ → Option Event
 forms_after line =
     if begins_with (codes "W ") line then word_event (drop 2 line)
     else (if begins_with (codes "P ") line then option_map Press (key_of (drop 2 line))
@@ -98,7 +99,7 @@ no_end-after line =
     (no_end-cond _ _ _ (no_end-map Fail (computer_of (drop 2 line)) (λ k. refl))
     (no_end-cond _ _ _ (no_end-map Up (computer_of (drop 2 line)) (λ k. refl)) no_end-none))))
 
-event_of-cases : (line : List ℕ) → event_of line ≡ cond (bytes_eq line (codes "T")) (Some Tick) (cond (is_end line) (Some End) (forms_after line))
+pub event_of-cases : (line : List ℕ) → event_of line ≡ cond (bytes_eq line (codes "T")) (Some Tick) (cond (is_end line) (Some End) (forms_after line))
 unfolding event_of forms_after
 event_of-cases line = refl
 
@@ -195,7 +196,3 @@ module _ (limit : ℕ) where
         events_are = events-sound limit (text ++ 10 ∷ []) longer ∙ said-more text 10 ∙ ap (λ l. said text (length text) ++ l) (line_events-some (last_line text) event some)
             ∙ ap (λ l. l ++ added event) (sym (events-sound limit text sound));
       }
-    where
-      or-false : (b : Bool) → (b || false) ≡ b
-      or-false true = refl
-      or-false false = refl

@@ -1,7 +1,7 @@
 -- Lemmas on texts and on readers.
 pub mod Prefix
-pub mod Steps
-pub mod Sound
+pub mod LinesSaid
+pub mod SoundLines
 pub mod Grows
 pub mod Ends
 pub mod Numbers
@@ -13,3 +13,5 @@ pub mod Refusals
 pub mod Progress
 pub mod Calls
 pub mod FirstByte
+pub mod Needs
+pub mod Asking

@@ -8,6 +8,7 @@ use Rattle.std.specs.Option.{option_or}
 use Rattle.std.specs.Prelude.{find, map, decimal, codes, option_map}
 use Rattle.std.specs.Fmt.{digits}
 use Rattle.std.specs.Str.{bytes_eq}
+use Rattle.std.proofs.Math.Bool.{and-false}
 use Rattle.ecam_spec.specs.declared.kinds.Key.{Key}
 use Rattle.ecam_spec.specs.declared.kinds.Key.TheVariants.{Clr, Rcl, Sts, All, Emer, ToCfg, Mw, Mc, Page}
 use Rattle.ecam_spec.specs.Places.{below}
@@ -41,10 +42,6 @@ options_agree-at f g (suc n) k same within =
       | inl here ↦ rw here (same_option-true (f n) (g n) parts.0)
       | inr other ↦ options_agree-at f g n k parts.1 (omega arith)
     ]
-
-pub and-false : (b : Bool) → (b && false) ≡ false
-and-false true = refl
-and-false false = refl
 
 -- ---- the three lists
 

@@ -1,45 +1,16 @@
 -- What the record's definitions say of a place does not hang on the bytes from that place on.
-use Rattle.std.proofs.Common.{◌≡◌, ℕ, zero, suc, ◌+◌, ◌<◌, ◌≤◌, Bool, true, false, ◌&&◌, ◌==◌, List, ◌++◌, length, take, drop, Option, Some, None, cond, refl, sym, ◌∙◌, ap, arith, add-zero}
+use Rattle.std.proofs.Common.{◌≡◌, ℕ, zero, suc, ◌+◌, ◌<◌, ◌≤◌, Bool, true, false, ◌&&◌, ◌==◌, List, ◌++◌, length, take, drop, Some, None, cond, refl, sym, ◌∙◌, ap, arith, add-zero}
 use Rattle.std.proofs.Math.ListN.{get_or-append}
 use Rattle.std.proofs.lemmas.List.{take-append-le}
 use Rattle.std.specs.Option.{option_or}
-use Rattle.ecam_spec.specs.Past.{Signal, once, previous, last, next, count_up_to}
+use Rattle.ecam_spec.specs.Past.{once, previous, moment_after}
 use Rattle.ecam_spec.specs.Places.{first_place}
 use Rattle.ecam_spec.specs.RecordLine.{is_end}
-use Rattle.ecam_spec.specs.Record.{is_feed, line_begin, line_before, line_number, ends_record, wrong_at}
-use Rattle.ecam_spec.proofs.PastSteps.{last-suc, once-below}
+use Rattle.ecam_spec.specs.Record.{is_feed, line_start, line_before, line_number, ends_record, wrong_at}
+use Rattle.ecam_spec.proofs.PastSteps.{once-below}
+use Rattle.ecam_spec.proofs.PastAgree.{last-below, count_up_to-below}
 
--- ---- signals that agree
-
-pub last-zero : (p : Signal) → last p 0 ≡ cond {A = Option ℕ} (p 0) (Some 0) None
-unfolding last
-last-zero p = elim (p 0) as (λ b. ◌≡◌ {A = Option ℕ} (elim b [ true ↦ Some 0 | false ↦ None ]) (cond b (Some 0) None)) [ true ↦ refl | false ↦ refl ]
-
-pub last-below : (p q : Signal) (k : ℕ) → ((i : ℕ) → i ≤ k → p i ≡ q i) → last p k ≡ last q k
-last-below p q zero same =
-    let now : p 0 ≡ q 0 = same 0 (omega arith) in
-    cc (last-zero p, last-zero q)
-last-below p q (suc k) same =
-    let earlier : last p k ≡ last q k = last-below p q k (λ i h. same i (omega arith)) in
-    let now : p (suc k) ≡ q (suc k) = same (suc k) (omega arith) in
-    cc (last-suc p k, last-suc q k)
-
-pub count-zero : (p : Signal) → count_up_to p 0 ≡ cond {A = ℕ} (p 0) 1 0
-unfolding count_up_to
-count-zero p = elim (p 0) as (λ b. ◌≡◌ {A = ℕ} (elim b [ true ↦ 1 | false ↦ 0 ]) (cond b 1 0)) [ true ↦ refl | false ↦ refl ]
-
-pub count-suc : (p : Signal) (k : ℕ) → count_up_to p (suc k) ≡ cond (p (suc k)) (count_up_to p k + 1) (count_up_to p k)
-unfolding count_up_to
-count-suc p k = elim (p (suc k)) as (λ b. elim b [ true ↦ count_up_to p k + 1 | false ↦ count_up_to p k ] ≡ cond b (count_up_to p k + 1) (count_up_to p k)) [ true ↦ refl | false ↦ refl ]
-
-pub count-below : (p q : Signal) (k : ℕ) → ((i : ℕ) → i ≤ k → p i ≡ q i) → count_up_to p k ≡ count_up_to q k
-count-below p q zero same =
-    let now : p 0 ≡ q 0 = same 0 (omega arith) in
-    cc (count-zero p, count-zero q)
-count-below p q (suc k) same =
-    let earlier : count_up_to p k ≡ count_up_to q k = count-below p q k (λ i h. same i (omega arith)) in
-    let now : p (suc k) ≡ q (suc k) = same (suc k) (omega arith) in
-    cc (count-suc p k, count-suc q k)
+-- ---- places
 
 pub first_place-suc : (p : ℕ → Bool) (n : ℕ) → first_place p (suc n) ≡ option_or (first_place p n) (cond (p n) (Some n) None)
 unfolding first_place
@@ -73,23 +44,23 @@ module _ (text more : List ℕ) where
   unfolding is_feed
   is_feed-prefix i within = ap (λ b. b == 10) (get_or-append text more 0 i within)
 
-  pub line_begin-prefix : (i : ℕ) → i ≤ length text → line_begin (text ++ more) i ≡ line_begin text i
-  unfolding line_begin
-  line_begin-prefix zero within = refl
-  line_begin-prefix (suc i) within =
-      ap next (last-below (is_feed (text ++ more)) (is_feed text) i (λ j h. is_feed-prefix j (omega arith)))
+  pub line_start-prefix : (i : ℕ) → i ≤ length text → line_start (text ++ more) i ≡ line_start text i
+  unfolding line_start
+  line_start-prefix zero within = refl
+  line_start-prefix (suc i) within =
+      ap moment_after (last-below (is_feed (text ++ more)) (is_feed text) i (λ j h. is_feed-prefix j (omega arith)))
 
   pub line_before-prefix : (i : ℕ) → i ≤ length text → line_before (text ++ more) i ≡ line_before text i
   unfolding line_before
   line_before-prefix i within =
-      ap (λ b. drop b (take i (text ++ more))) (line_begin-prefix i within)
-      ∙ ap (drop (line_begin text i)) (take-append-le i text more within)
+      ap (λ b. drop b (take i (text ++ more))) (line_start-prefix i within)
+      ∙ ap (drop (line_start text i)) (take-append-le i text more within)
 
   pub line_number-prefix : (i : ℕ) → i ≤ length text → line_number (text ++ more) i ≡ line_number text i
   unfolding line_number
   line_number-prefix zero within = refl
   line_number-prefix (suc i) within =
-      ap (λ n. 1 + n) (count-below (is_feed (text ++ more)) (is_feed text) i (λ j h. is_feed-prefix j (omega arith)))
+      ap (λ n. 1 + n) (count_up_to-below (is_feed (text ++ more)) (is_feed text) i (λ j h. is_feed-prefix j (omega arith)))
 
   pub ends_record-prefix : (i : ℕ) → i < length text → ends_record (text ++ more) i ≡ ends_record text i
   unfolding ends_record

@@ -12,7 +12,9 @@ use Rattle.ecam_spec.specs.Record.{events}
 use Rattle.record_lines.specs.declared.outcome.Stage.TheVariants.{Lines, Closing, Ended}
 use Rattle.record_lines.specs.Reader.{ReaderState, room, settled, settled_at, cost, carried, filled}
 use Rattle.record_lines.specs.Reads.{last_line, IsWhole, BeginEvents, WentThrough, ReadsAt, Reads, TellsAfter, Goes, Gives, Advances}
-use Rattle.record_lines.proofs.Grows.{added, grow, grow_line}
+use Rattle.ecam_spec.proofs.RecordEvents.{event_of-IsEvent}
+use Rattle.record_lines.proofs.Grows.{added, grow, grow_line, is_end-event}
+use Rattle.record_lines.proofs.Needs.{needs-ended, needs-carried}
 use Rattle.record_lines.proofs.Ends.{fault-none}
 use Rattle.record_lines.proofs.Forms.{event_of-empty}
 use Rattle.record_lines.proofs.Went.{feedless-nowhere, feedless-before, split_at, inside, is_closing, went, reads_from, taken_is, counts, all_gone, BeginEvents-here}
@@ -66,6 +68,7 @@ module _ (at : ℕ) (old new : ReaderState) (event : Event) (feed : position (λ
             ∙ sym (append_assoc text (10 ∷ []) (drop (at + 1) old.pending)) ∙ ap (λ l. (text ++ 10 ∷ []) ++ l) (sym past.pending_is);
         allowance_is = past.allowance_is ∙ w.allowance_is;
         over_is = past.over_is ∙ w.over_is;
+        near = omega (arith, w.near, text_len, length-append text (10 ∷ []));
       }
 
   -- an event costs two bytes
@@ -99,6 +102,7 @@ module _ (at : ℕ) (old new : ReaderState) (event : Event) (feed : position (λ
         subst P (sym (append-nil taken)) (rw other (record { reads = now; begin = begin }));
     settled_is = ap settled_at after ∙ sym (ap (λ b. cond b (Some (Ok event)) None) other);
     room_is = let two : cost (Ok event) ≡ 2 = ap (λ b. cond b 0 2) other in let less = two_bytes in omega arith;
+    event_is = event_of-IsEvent (old.line ++ take at old.pending) event some;
   }
 
   -- the line that ends the record
@@ -116,6 +120,9 @@ module _ (at : ℕ) (old new : ReaderState) (event : Event) (feed : position (λ
     room_is = let less = two_bytes in omega arith;
     allowance_is = past.allowance_is;
     over_is = past.over_is;
+    needs_is = needs-ended at old new before after feed past.over_is
+        (omega (arith, inside old.pending at feed, ap length past.pending_is, length-drop (at + 1) old.pending))
+        (is_end-event (old.line ++ take at old.pending) event some ∙ end);
   }
 
 -- what is left goes to the line
@@ -137,6 +144,7 @@ carries r stage none fits = record {
         pending_is = w.pending_is ∙ sym (append-nil (gone ++ r.pending));
         allowance_is = w.allowance_is;
         over_is = w.over_is;
+        near = omega (arith, w.near, length-append gone r.pending);
       } in
       let P : List ℕ → Type 0 = λ l. Reads limit l answered (carried r) in
       subst P (sym (append-nil taken)) (subst (λ s. ReadsAt s limit taken answered (carried r)) (sym stage) (gone ++ r.pending, now));
@@ -144,11 +152,12 @@ carries r stage none fits = record {
   room_is = let len = length-append r.line r.pending in omega arith;
   allowance_is = refl;
   over_is = refl;
+  needs_is = needs-carried r stage none fits;
 }
 
 -- a piece was read
-pub goes_filled : (r : ReaderState) (bytes : List ℕ) → settled r ≡ None → r.pending ≡ [] → r.over ≡ false → Goes r (filled bytes r) bytes
-goes_filled r bytes unsettled none within limit taken answered reads =
+pub goes_filled : (r : ReaderState) (bytes : List ℕ) → length bytes ≤ 4096 → settled r ≡ None → r.pending ≡ [] → r.over ≡ false → Goes r (filled bytes r) bytes
+goes_filled r bytes piece unsettled none within limit taken answered reads =
     let through = went r.stage limit taken answered r unsettled reads in
     let gone = through.0 in
     let w = through.1 in
@@ -166,6 +175,7 @@ goes_filled r bytes unsettled none within limit taken answered reads =
       pending_is = ap (λ n. take n (taken ++ bytes)) whole ∙ take-append-add taken bytes r.allowance ∙ ap (λ l. l ++ take r.allowance bytes) all;
       allowance_is = omega arith;
       over_is = grind (arith, nat_tests);
+      near = omega (arith, piece, len, ap length all);
     })
 
 -- the source is at its end after the line that ended the record
@@ -185,4 +195,5 @@ ends old new before after less none within whole = record {
       subst P (sym (append-nil taken)) (record { reads = subst (λ s. ReadsAt s limit taken answered new) (sym after) is_taken; whole = is_taken });
   settled_is = ap settled_at after;
   room_is = omega arith;
+  event_is = tt;
 }

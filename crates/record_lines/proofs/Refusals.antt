@@ -15,22 +15,25 @@ use Rattle.record_lines.specs.declared.outcome.LineError.{LineError}
 use Rattle.record_lines.specs.declared.outcome.LineError.TheVariants.{Record}
 use Rattle.record_lines.specs.Reader.{ReaderState, room, settled, settled_at, fault_in}
 use Rattle.record_lines.specs.Reads.{last_line, is_over, HasFault, ReadsAt, Reads, TellsAfter, Gives}
-use Rattle.record_lines.proofs.Sound.{verdict}
+use Rattle.record_lines.proofs.SoundLines.{verdict}
 use Rattle.record_lines.proofs.Grows.{verdict-limit, verdict-after_end, verdict-long, verdict-form, grow}
 use Rattle.record_lines.proofs.Ends.{fault-cut, fault-no_end}
-use Rattle.record_lines.proofs.Went.{cons_at, feedless-nowhere, feedless-before, split_at, inside, is_closing, went, taken_is, counts, all_gone, HasFault-here}
+use Rattle.record_lines.proofs.Went.{cons_at, feedless-nowhere, feedless-before, split_at, inside, is_closing, went, taken_is, counts, near_wrong, all_gone, HasFault-here}
 
 -- a reader refuses what has this fault whatever it took before
-pub refused : (old new : ReaderState) (f : RecordFault) → new.stage ≡ Faulty f → room new ≤ room old
+pub refused : (old new : ReaderState) (f : RecordFault) → settled old ≡ None → new.stage ≡ Faulty f → room new ≤ room old
     → ((limit : ℕ) (taken : List ℕ) (answered : List Event) → Reads limit taken answered old → HasFault limit taken answered f) → Gives old new (Err (Record f))
-refused old new f stage less told = record {
+refused old new f unsettled stage less told = record {
   tells = λ limit taken answered reads.
       let faulty = told limit taken answered reads in
-      let now : ReadsAt new.stage limit taken answered new = subst (λ s. ReadsAt s limit taken answered new) (sym stage) faulty in
+      let through = went old.stage limit taken answered old unsettled reads in
+      let near = near_wrong limit through.0 taken answered (is_closing old.stage) old through.1 in
+      let now : ReadsAt new.stage limit taken answered new = subst (λ s. ReadsAt s limit taken answered new) (sym stage) (faulty, near) in
       let P : List ℕ → Type 0 = λ l. TellsAfter limit l answered (Err (Record f)) new in
-      subst P (sym (append-nil taken)) (record { reads = now; faulty = faulty });
+      subst P (sym (append-nil taken)) (record { reads = now; faulty = faulty; near = near });
   settled_is = ap settled_at stage;
   room_is = omega arith;
+  event_is = tt;
 }
 
 -- a fault of the right kind, events and number
@@ -40,14 +43,14 @@ same_fault limit taken a b kind n m events_same number_same h =
     subst (λ k. H b k) number_same (subst (λ e. H e n) events_same h)
 
 -- a reader fails with a fault of its line
-pub fails : (old mid new : ReaderState) (kind : FaultKind) (e : LineError) → e ≡ Record (fault_in kind mid) → new ≡ record mid { stage = Faulty (fault_in kind mid) } → mid.number ≡ old.number → room mid ≤ room old
+pub fails : (old mid new : ReaderState) (kind : FaultKind) (e : LineError) → settled old ≡ None → e ≡ Record (fault_in kind mid) → new ≡ record mid { stage = Faulty (fault_in kind mid) } → mid.number ≡ old.number → room mid ≤ room old
     → ((limit : ℕ) (taken : List ℕ) (answered : List Event) → Reads limit taken answered old → HasFault limit taken answered (fault_in kind old)) → Gives old new (Err e)
-fails old mid new kind e is state number less told =
+fails old mid new kind e unsettled is state number less told =
     let P : LineError → Type 0 = λ x. Gives old new (Err x) in
     let F : ℕ → Type 0 = λ n. Gives old new (Err (Record (record { kind = kind; line = n }))) in
     let same : new.stage ≡ Faulty (fault_in kind old) = ap (λ r. r.stage) state ∙ ap (λ n. Faulty (record { kind = kind; line = n })) number in
     let size : room new ≡ room mid = ap room state in
-    subst P (sym is) (subst F (sym number) (refused old new (fault_in kind old) same (omega arith) told))
+    subst P (sym is) (subst F (sym number) (refused old new (fault_in kind old) unsettled same (omega arith) told))
 
 pub after_end : (r : ReaderState) → r.stage ≡ Closing → 0 < length r.pending → (limit : ℕ) (taken : List ℕ) (answered : List Event) → Reads limit taken answered r → HasFault limit taken answered (fault_in AfterEnd r)
 after_end r stage some limit taken answered reads =

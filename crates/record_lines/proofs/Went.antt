@@ -1,5 +1,5 @@
 -- A reader that went through some bytes: what was taken, and what is wrong or right after them.
-use Rattle.std.proofs.Common.{◌≡◌, ℕ, zero, suc, ◌+◌, ◌<◌, ◌≤◌, min, Bool, true, false, ◌==◌, List, [], ◌∷◌, ◌++◌, length, get_or, take, drop, Some, None, refl, sym, ◌∙◌, ap, arith, length-append, length-take, append-nil, append_assoc, take-append-drop}
+use Rattle.std.proofs.Common.{◌≡◌, ℕ, zero, suc, ◌+◌, ◌<◌, ◌≤◌, min, Bool, true, false, ◌==◌, List, [], ◌∷◌, ◌++◌, length, get_or, take, drop, Some, None, refl, sym, ◌∙◌, ap, subst, arith, length-append, length-take, append-nil, append_assoc, take-append-drop}
 use Rattle.std.proofs.lemmas.Bool.{ltb-false, eqb-true, le-ltb}
 use Rattle.std.proofs.lemmas.List.{take_all, drop_more, get_or-take}
 use Rattle.std.proofs.lemmas.List.Quantifiers.{position-Some}
@@ -7,16 +7,16 @@ use Rattle.std.proofs.lemmas.List.Sums.{fails_before_first}
 use Rattle.std.specs.List.{position}
 use Rattle.ecam_spec.specs.declared.kinds.Event.{Event}
 use Rattle.ecam_spec.specs.declared.kinds.FaultKind.{FaultKind}
-use Rattle.ecam_spec.specs.Record.{wrong_place, sound_length, line_begin, line_before, line_number, events}
+use Rattle.ecam_spec.specs.Record.{wrong_place, sound_length, line_start, line_before, line_number, events}
 use Rattle.ecam_spec.specs.Past.{previous}
 use Rattle.ecam_spec.specs.Places.{below, first_place}
 use Rattle.record_lines.specs.declared.outcome.Stage.{Stage}
 use Rattle.record_lines.specs.declared.outcome.Stage.TheVariants.{Lines, Closing, Ended, Faulty}
 use Rattle.record_lines.specs.Reader.{ReaderState, settled_at}
-use Rattle.record_lines.specs.Reads.{last_line, last_number, is_over, HasFault, BeginEvents, WentThrough, ReadsAt}
-use Rattle.record_lines.proofs.Sound.{verdict, fault-here, events-here}
+use Rattle.record_lines.specs.Reads.{last_line, last_number, is_over, HasFault, IsNear, BeginEvents, WentThrough, ReadsAt}
+use Rattle.record_lines.proofs.SoundLines.{verdict, fault-here, events-here}
 use Rattle.record_lines.proofs.Grows.{IsFeedless}
-use Rattle.record_lines.proofs.Ends.{begin_events}
+use Rattle.record_lines.proofs.Ends.{begin_events, sound_reaches}
 use Rattle.record_lines.proofs.Forms.{nowhere-len}
 
 pub cons_at : (xs : List ℕ) → 0 < length xs → xs ≡ get_or xs 0 0 ∷ drop 1 xs
@@ -71,6 +71,13 @@ module _ (limit : ℕ) (gone taken : List ℕ) (answered : List Event) (closing 
   pub counts : length gone + length r.pending ≡ min limit (length taken)
   counts = sym (length-append gone r.pending) ∙ sym (ap length w.pending_is) ∙ length-take limit taken
 
+  -- it took no more than a piece behind the first that is wrong
+  pub near_wrong : IsNear limit taken
+  near_wrong =
+      let rest = r.pending ++ drop limit taken in
+      let reach : length gone ≤ sound_length taken limit = subst (λ t. length gone ≤ sound_length t limit) (sym taken_is) (sound_reaches limit gone w.sound rest) in
+      omega (arith, reach, w.near)
+
   -- it went through all bytes that were taken
   pub all_gone : r.pending ≡ [] → r.over ≡ false → taken ≡ gone
   all_gone none within =
@@ -96,7 +103,7 @@ BeginEvents-here limit text rest taken sound split more =
 
 -- nothing was taken yet
 pub begins : (limit : ℕ) (r : ReaderState) → r.pending ≡ [] → r.line ≡ [] → r.number ≡ 1 → r.allowance ≡ limit → r.over ≡ false → WentThrough limit [] [] [] false r
-unfolding wrong_place events sound_length line_before line_number line_begin first_place previous below
+unfolding wrong_place events sound_length line_before line_number line_start first_place previous below
 begins limit r pending line number allowance over = record {
   sound = refl;
   closing_is = refl;
@@ -106,6 +113,7 @@ begins limit r pending line number allowance over = record {
   pending_is = take_all limit [] (omega arith) ∙ sym pending;
   allowance_is = omega arith;
   over_is = over ∙ sym (le-ltb limit 0 (omega arith));
+  near = omega arith;
 }
 
 -- a number by a test

@@ -1,7 +1,7 @@
 -- The parts of a line's words.
 use Rattle.std.specs.Prelude.{ℕ, ◌+◌, ◌-◌, ◌==◌, ◌&&◌, nat_le, List, [], ◌∷◌, take, find, Option, None, Some, option_map, if◌then◌else◌}
 use Rattle.ecam_spec.specs.declared.kinds.Key.{Key}
-use Rattle.ecam_spec.specs.Picture.{same_text}
+use Rattle.ecam_spec.specs.Bytes.{same_text}
 use Rattle.ecam_spec.specs.RecordLine.{key_words}
 
 -- what a decimal digit is worth

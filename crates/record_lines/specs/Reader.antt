@@ -1,10 +1,10 @@
 -- What callers see of a reader.
-use Rattle.std.specs.Prelude.{if◌then◌else◌, ◌==◌, ◌&&◌, not, ℕ, ◌+◌, ◌-◌, ◌*◌, Bool, nat_lt, List, [], ◌++◌, length, take, Option, None, Some, Result, Ok, Err}
+use Rattle.std.specs.Prelude.{if◌then◌else◌, ◌==◌, ◌&&◌, not, ℕ, ◌+◌, ◌-◌, ◌*◌, Bool, false, nat_le, nat_lt, List, [], ◌++◌, length, take, position, Option, None, Some, Result, Ok, Err}
 use Rattle.ecam_spec.specs.declared.kinds.Event.{Event}
 use Rattle.ecam_spec.specs.declared.kinds.Event.TheVariants.{End}
 use Rattle.ecam_spec.specs.declared.kinds.FaultKind.{FaultKind}
 use Rattle.ecam_spec.specs.declared.kinds.RecordFault.{RecordFault}
-use Rattle.ecam_spec.specs.RecordLine.{is_end_event}
+use Rattle.ecam_spec.specs.RecordLine.{is_end, is_end_event}
 use Rattle.record_lines.specs.declared.outcome.Stage.{Stage}
 use Rattle.record_lines.specs.declared.outcome.Stage.TheVariants.{Lines, Closing, Ended, Faulty}
 use Rattle.record_lines.specs.declared.outcome.LineError.{LineError}
@@ -39,6 +39,24 @@ abbrev pub kept_answer : Result Event LineError → Option (Result Event LineErr
 kept_answer (Ok e) = if is_end_event e then Some (Ok e) else None
 kept_answer (Err Failed) = None
 kept_answer (Err (Record f)) = Some (Err (Record f))
+
+-- ---- whether the next call has to read
+
+-- in the lines of the record: what is left has no end of a line and its line is no longer than a line may be, or all that
+-- is left is the line that ends the record
+abbrev pub lacks_line : Option ℕ → ReaderState → Bool
+lacks_line None r = nat_le (length r.pending) (32 - length r.line)
+lacks_line (Some at) r = length r.pending == at + 1 && is_end (r.line ++ take at r.pending)
+
+abbrev pub lacks_bytes : Stage → ReaderState → Bool
+lacks_bytes Lines r = lacks_line (position (λ b. b == 10) r.pending) r
+lacks_bytes Closing r = length r.pending == 0
+lacks_bytes Ended r = false
+lacks_bytes (Faulty f) r = false
+
+-- nothing that it has decides its next answer
+abbrev pub reads_next : ReaderState → Bool
+reads_next r = not r.over && lacks_bytes r.stage r
 
 -- how many bytes an answer costs at least
 abbrev pub cost : Result Event LineError → ℕ

@@ -1,5 +1,5 @@
 -- What a reader that stands somewhere in a record has told of it.
-use Rattle.std.specs.Prelude.{◌≡◌, ℕ, ◌+◌, ◌-◌, ◌≤◌, Bool, true, false, nat_lt, List, [], ◌∷◌, ◌++◌, length, take, Option, None, Some, Result, Ok, Err, MatchBool}
+use Rattle.std.specs.Prelude.{◌≡◌, ℕ, ◌+◌, ◌-◌, ◌<◌, ◌≤◌, Bool, true, false, nat_lt, List, [], ◌∷◌, ◌++◌, length, take, All, Option, None, Some, Result, Ok, Err, IfOk, MatchBool, if◌then◌else◌}
 use Rattle.std.specs.Io.KnownBytes.{Consumes, IsAtEnd}
 use Rattle.ecam_spec.specs.declared.kinds.Event.{Event}
 use Rattle.ecam_spec.specs.declared.kinds.FaultKind.{FaultKind}
@@ -7,12 +7,14 @@ use Rattle.ecam_spec.specs.declared.kinds.FaultKind.TheVariants.{Cut, NoEnd}
 use Rattle.ecam_spec.specs.declared.kinds.RecordFault.{RecordFault}
 use Rattle.ecam_spec.specs.Past.{once, previous}
 use Rattle.ecam_spec.specs.RecordLine.{is_end_event}
-use Rattle.ecam_spec.specs.Record.{line_before, line_number, ends_record, wrong_place, fault, events}
+use Rattle.ecam_spec.specs.Keys.{IsEvent}
+use Rattle.ecam_spec.specs.Record.{line_before, line_number, ends_record, wrong_place, sound_length, fault, events}
+use Rattle.ecam_io.specs.Outside.{ReadCall, Appended}
 use Rattle.record_lines.specs.declared.outcome.Stage.{Stage}
 use Rattle.record_lines.specs.declared.outcome.Stage.TheVariants.{Lines, Closing, Ended, Faulty}
 use Rattle.record_lines.specs.declared.outcome.LineError.{LineError}
 use Rattle.record_lines.specs.declared.outcome.LineError.TheVariants.{Failed, Record}
-use Rattle.record_lines.specs.Reader.{ReaderState, room, settled, kept_answer, cost}
+use Rattle.record_lines.specs.Reader.{ReaderState, room, settled, kept_answer, cost, reads_next}
 
 -- ---- what stands at the end of a text
 
@@ -46,6 +48,10 @@ is_shown_at_end Cut = true
 is_shown_at_end NoEnd = true
 is_shown_at_end _ = false
 
+-- no more bytes were taken behind the first that is wrong than one call of `read` asks for
+abbrev pub IsNear : ℕ → List ℕ → Type 0
+IsNear limit bytes = length bytes ≤ sound_length bytes limit + 4096
+
 -- each text that begins with these bytes has this fault, or, where only the end of the input shows it, these bytes have
 abbrev pub HasFault : ℕ → List ℕ → List Event → RecordFault → Type 0
 HasFault limit bytes answered f =
@@ -69,12 +75,13 @@ pub record WentThrough (limit : ℕ) (gone taken : List ℕ) (answered : List Ev
   pub pending_is : take limit taken ≡ gone ++ r.pending
   pub allowance_is : r.allowance ≡ limit - length taken
   pub over_is : r.over ≡ nat_lt limit (length taken)
+  pub near : length taken ≤ length gone + 4096
 
 abbrev pub ReadsAt : Stage → ℕ → List ℕ → List Event → ReaderState → Type 0
 ReadsAt Lines limit taken answered r = (gone : List ℕ) × WentThrough limit gone taken answered false r
 ReadsAt Closing limit taken answered r = (gone : List ℕ) × WentThrough limit gone taken answered true r
 ReadsAt Ended limit taken answered r = IsWhole limit taken answered
-ReadsAt (Faulty f) limit taken answered r = HasFault limit taken answered f
+ReadsAt (Faulty f) limit taken answered r = HasFault limit taken answered f × IsNear limit taken
 
 -- a reader under this limit took these bytes from its source so far, and answered these events
 abbrev pub Reads : ℕ → List ℕ → List Event → ReaderState → Type 0
@@ -96,6 +103,7 @@ pub record TellsEnd (limit : ℕ) (bytes : List ℕ) (answered : List Event) (r 
 pub record TellsFault (limit : ℕ) (bytes : List ℕ) (answered : List Event) (f : RecordFault) (r : ReaderState) : Type 0 where
   pub reads : Reads limit bytes answered r
   pub faulty : HasFault limit bytes answered f
+  pub near : IsNear limit bytes
 
 -- after a failure of the source: the events of all bytes that came were answered
 pub record TellsFailure (limit : ℕ) (bytes : List ℕ) (answered : List Event) (r : ReaderState) : Type 0 where
@@ -125,6 +133,35 @@ pub record Takes (old new : Option (List ℕ)) (P : List ℕ → Type 0) : Type 
   pub moved : Consumes old new more
   pub tells : P more
 
+-- ---- which calls of `read` a call of a reader makes
+
+-- such a call that asks for a piece, and what it gave
+abbrev pub piece_call : Option ℕ → ReadCall
+piece_call given = record { asked = 4096; given = given }
+
+-- one that asked for a piece and gave some bytes
+abbrev pub GivesBytes : ReadCall → Type 0
+GivesBytes c = (n : ℕ) × (0 < n) × (c ≡ piece_call (Some n))
+
+-- what an answer tells of the last call: `Failed` that it failed, and what only the end of the input shows that it gave nothing
+abbrev pub last_call : Result Event LineError → List ReadCall
+last_call (Ok e) = if is_end_event e then piece_call (Some 0) ∷ [] else []
+last_call (Err Failed) = piece_call None ∷ []
+last_call (Err (Record f)) = if is_shown_at_end f.kind then piece_call (Some 0) ∷ [] else []
+
+-- a source was called so, and P holds of the calls
+pub record Makes {S : Type 0} (reads : S → List ReadCall → Type 0) (old new : S) (P : List ReadCall → Type 0) : Type 0 where
+  pub calls : List ReadCall
+  pub made : Appended reads old new calls
+  pub so : P calls
+
+-- for this answer: each call gave some bytes but the last that it tells of, and there is one exactly where one is needed
+pub record Asks (needs : Bool) (answer : Result Event LineError) (calls : List ReadCall) : Type 0 where
+  pub pieces : List ReadCall
+  pub full : All GivesBytes pieces
+  pub calls_are : calls ≡ pieces ++ last_call answer
+  pub some : needs ≡ true → 0 < length calls
+
 -- a source that told what was left has nothing left
 abbrev pub IsSpent : Option (List ℕ) → Option (List ℕ) → Type 0
 IsSpent None new = Unit {0}
@@ -143,6 +180,7 @@ pub record Gives (old new : ReaderState) (answer : Result Event LineError) : Typ
   pub tells : Tells old new [] answer
   pub settled_is : settled new ≡ kept_answer answer
   pub room_is : room new + cost answer ≤ room old
+  pub event_is : IfOk answer IsEvent
 
 -- it shows no end of the source, and no failure
 abbrev pub IsFromBytes : Result Event LineError → Type 0
@@ -157,3 +195,4 @@ pub record Advances (old new : ReaderState) : Type 0 where
   pub room_is : room new ≤ room old
   pub allowance_is : new.allowance ≡ old.allowance
   pub over_is : new.over ≡ old.over
+  pub needs_is : reads_next new ≡ reads_next old

@@ -1,8 +1,8 @@
 // A piece of the input.
-ghost use Rattle.std.specs.Prelude.{◌≡◌, ◌≤◌, ◌+◌, [], take, drop, length, OnOk, OnErr};
+ghost use Rattle.std.specs.Prelude.{◌≡◌, ◌≤◌, ◌+◌, [], ◌∷◌, take, drop, length, Some, None, OnOk, OnErr};
 ghost use Rattle.std.specs.Io.KnownBytes.{Consumes};
-ghost use Rattle.ecam_io.specs.Outside.{Rose};
-ghost use Rattle.record_lines.specs.Reads.{IsSpent};
+ghost use Rattle.ecam_io.specs.Outside.{Rose, Appended};
+ghost use Rattle.record_lines.specs.Reads.{IsSpent, piece_call};
 
 use ecam_io::{Failed, Source};
 use std::marker::Model;
@@ -74,7 +74,10 @@ impl Piece {
         ensures is_open { S.is_open source.new ≡ S.is_open source.old }
         ensures files { S.files source.new ≡ S.files source.old }
         ensures opens { S.opens source.new ≡ S.opens source.old }
+        ensures gave { OnOk result (Appended S.reads source.old source.new (piece_call (Some (length self.new)) ∷ [])) }
+        ensures failed { OnErr result (Appended S.reads source.old source.new (piece_call None ∷ [])) }
         ensures faults { S.faults source.old ≤ S.faults source.new }
+        ensures quiet { OnOk result (S.faults source.new ≡ S.faults source.old) }
         ensures cause { OnErr result (Rose (S.faults source.old) (S.faults source.new)) }
     {
         self.start = 0;

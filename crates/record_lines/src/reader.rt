@@ -1,10 +1,11 @@
 // The reader of a record's lines.
-ghost use Rattle.std.specs.Prelude.{◌≡◌, ◌≢◌, ℕ, ◌+◌, ◌*◌, ◌<◌, ◌≤◌, ◌==◌, true, false, List, [], ◌++◌, take, length, position, IfOk, IfSome, IfNone, OnErr};
+ghost use Rattle.std.specs.Prelude.{◌≡◌, ◌≢◌, ℕ, ◌+◌, ◌*◌, ◌<◌, ◌≤◌, ◌==◌, true, false, List, [], ◌∷◌, ◌++◌, take, length, position, is_none, IfOk, IfSome, IfNone, OnOk, OnErr};
 ghost use Rattle.arrayvec.specs.ArrayVec.{array_vec_len};
-ghost use Rattle.ecam_io.specs.Outside.{Rose};
-ghost use Rattle.ecam_spec.specs.RecordLine.{event_of, is_end_event};
-ghost use Rattle.record_lines.specs.Reader.{room, settled, kept_answer, cost, fault_in, carried, filled, wait};
-ghost use Rattle.record_lines.specs.Reads.{Reads, Tells, Takes, MeetsEnd, Gives, IsFromBytes, Advances, IsSpent};
+ghost use Rattle.ecam_io.specs.Outside.{Rose, Appended};
+ghost use Rattle.ecam_spec.specs.Keys.{IsEvent};
+ghost use Rattle.ecam_spec.specs.RecordLine.{event_of, is_end, is_end_event};
+ghost use Rattle.record_lines.specs.Reader.{room, settled, kept_answer, cost, fault_in, carried, filled, wait, lacks_line, reads_next};
+ghost use Rattle.record_lines.specs.Reads.{Reads, Tells, Takes, MeetsEnd, Makes, Asks, last_call, piece_call, Gives, IsFromBytes, Advances, IsSpent};
 ghost use Rattle.std.specs.Io.KnownBytes.{Consumes};
 
 use crate::line::{event_of, place_of};
@@ -13,11 +14,11 @@ use crate::piece::Piece;
 use arrayvec::ArrayVec;
 use ecam_io::{Failed, Source};
 use ecam_kinds::Event;
-use ecam_spec::{FaultKind, RecordFault};
+use ecam_spec::{FaultKind, RecordFault, limits};
 use std::marker::Model;
 
 // How many bytes a line has at most, without its line feed.
-const LONGEST: usize = 32;
+const LONGEST: usize = limits::RECORD_LINE;
 
 /// Reads the lines of a record from a source, under a limit on the number of bytes. It holds a piece of 4096 bytes
 /// and a line of 32, reads only where nothing of the piece is left, and takes no memory. Each byte is gone through
@@ -72,9 +73,36 @@ impl LineReader {
         }
     }
 
+    /// Whether the next call of `next` reads from its source: what the reader has decides no answer yet. It costs a look
+    /// for the line feed in what is left of the piece.
+    pub fn reads_next(&self) -> bool
+        ensures { result ≡ reads_next self.now }
+    {
+        if self.over {
+            return false;
+        }
+        match self.stage {
+            Stage::Lines => self.lacks_line(),
+            Stage::Closing => self.piece.bytes().is_empty(),
+            Stage::Ended | Stage::Faulty(_) => false,
+        }
+    }
+
+    // Whether the piece has no whole line, or the one that ends the record and no more.
+    fn lacks_line(&self) -> bool
+        ensures { result ≡ lacks_line (position (λ b. b == 10) self.now.pending) self.now }
+    {
+        let bytes = self.piece.bytes();
+        match place_of(b'\n', bytes) {
+            None => bytes.len() <= LONGEST - self.line.len(),
+            Some(at) => bytes.len() == at + 1 && ends_record(self.line.as_slice(), &bytes[..at]),
+        }
+    }
+
     /// The next event of the record. `End` comes only once the record's last line was read and the source answered
     /// its end; it is answered again without reading, as is a fault of the record. After `Failed` all bytes taken
-    /// so far are kept, and the next call reads again.
+    /// so far are kept, and the next call reads again. It reads where `reads_next` says so and not else, asks for 4096
+    /// bytes each time, and takes none behind the piece in which the record's fault stands.
     pub fn next<S: Source>(&mut self, source: &mut S) -> Result<Event, LineError>
         // Some bytes were taken, which tell this, whatever bytes were taken and events answered before.
         ensures told { Takes (S.left source.old) (S.left source.new) (λ more. Tells self.old self.new more result) }
@@ -87,6 +115,12 @@ impl LineReader {
         // Each event costs two bytes of the limit at least.
         ensures fewer { room self.new + cost result ≤ room self.old }
 
+        // What it has decides the answer, or it asks for pieces until they do.
+        ensures spared { reads_next self.old ≡ false → source.new ≡ source.old }
+        ensures asks { settled self.old ≡ None → Makes S.reads source.old source.new (Asks (reads_next self.old) result) }
+
+        ensures event { IfOk result IsEvent }
+        ensures quiet { result ≢ Err LineError.Failed → S.faults source.new ≡ S.faults source.old }
         ensures cause { result ≡ Err LineError.Failed → Rose (S.faults source.old) (S.faults source.new) }
         ensures faults { S.faults source.old ≤ S.faults source.new }
         ensures is_open { S.is_open source.new ≡ S.is_open source.old }
@@ -124,10 +158,12 @@ impl LineReader {
         requires { settled self.old ≡ None }
         ensures given { IfSome result (Gives self.old self.new) }
         ensures from_bytes { IfSome result IsFromBytes }
+        ensures whole { IfSome result (λ _. reads_next self.old ≡ false) }
         ensures none { IfNone result (Advances self.old self.new) }
         ensures empty { IfNone result (self.new.pending ≡ []) }
         ensures within { IfNone result (self.new.over ≡ false) }
         ensures nearer { IfNone result (2 * self.new.allowance < wait self.old) }
+        ensures needs { IfNone result (reads_next self.old ≡ true) }
     {
         if let Some(answer) = self.next_line() {
             return Some(answer);
@@ -140,6 +176,7 @@ impl LineReader {
         requires { settled self.old ≡ None }
         ensures given { IfSome result (Gives self.old self.new) }
         ensures from_bytes { IfSome result IsFromBytes }
+        ensures whole { IfSome result (λ _. reads_next self.old ≡ false) }
         ensures none { IfNone result (Advances self.old self.new) }
         ensures gone { IfNone result (self.new.stage ≡ Stage.Lines → self.new.pending ≡ []) }
     {
@@ -158,6 +195,7 @@ impl LineReader {
         ensures same { IfNone result (self.new ≡ self.old) }
         ensures empty { IfNone result (self.old.pending ≡ []) }
         ensures within { IfNone result (self.old.over ≡ false) }
+        ensures needs { is_none result ≡ reads_next self.old }
     {
         if !self.piece.bytes().is_empty() {
             return Some(Err(self.fail(FaultKind::AfterEnd)));
@@ -173,6 +211,7 @@ impl LineReader {
         requires { self.old.stage ≡ Stage.Lines }
         ensures given { IfSome result (Gives self.old self.new) }
         ensures from_bytes { IfSome result IsFromBytes }
+        ensures whole { IfSome result (λ _. reads_next self.old ≡ false) }
         ensures none { IfNone result (Advances self.old self.new) }
         ensures gone { IfNone result (self.new.stage ≡ Stage.Lines → self.new.pending ≡ []) }
     {
@@ -206,6 +245,7 @@ impl LineReader {
         requires fits { length self.old.line + at ≤ 32 }
         ensures given { IfSome result (Gives self.old self.new) }
         ensures from_bytes { IfSome result IsFromBytes }
+        ensures whole { IfSome result (λ _. reads_next self.old ≡ false) }
         ensures none { IfNone result (Advances self.old self.new) }
         ensures gone { IfNone result (self.new.stage ≡ Stage.Closing) }
     {
@@ -226,7 +266,7 @@ impl LineReader {
     fn fill<S: Source>(&mut self, source: &mut S) -> Result<bool, Failed>
         requires empty { self.old.pending ≡ [] }
         requires within { self.old.over ≡ false }
-        ensures moved { IfOk result (λ _. Takes (S.left source.old) (S.left source.new) (λ more. self.new ≡ filled more self.old)) }
+        ensures moved { IfOk result (λ _. Takes (S.left source.old) (S.left source.new) (λ more. (self.new ≡ filled more self.old) × (length more ≤ 4096))) }
         ensures end { result ≡ Ok false → IsSpent (S.left source.old) (S.left source.new) × (self.new ≡ self.old) × Consumes (S.left source.old) (S.left source.new) [] }
         ensures nearer { result ≡ Ok true → wait self.new ≡ 2 * self.old.allowance }
         ensures same { OnErr result (self.new ≡ self.old) }
@@ -234,7 +274,11 @@ impl LineReader {
         ensures is_open { S.is_open source.new ≡ S.is_open source.old }
         ensures files { S.files source.new ≡ S.files source.old }
         ensures opens { S.opens source.new ≡ S.opens source.old }
+        ensures gave { result ≡ Ok true → (n : ℕ) × (0 < n) × Appended S.reads source.old source.new (piece_call (Some n) ∷ []) }
+        ensures spent { result ≡ Ok false → Appended S.reads source.old source.new (piece_call (Some 0) ∷ []) }
+        ensures failed { OnErr result (Appended S.reads source.old source.new (piece_call None ∷ [])) }
         ensures faults { S.faults source.old ≤ S.faults source.new }
+        ensures quiet { OnOk result (S.faults source.new ≡ S.faults source.old) }
         ensures cause { OnErr result (Rose (S.faults source.old) (S.faults source.new)) }
     {
         self.piece.read(source)?;
@@ -256,6 +300,7 @@ impl LineReader {
         requires within { self.old.over ≡ false }
         ensures given { Gives self.old self.new result }
         ensures answer { result ≢ Err LineError.Failed }
+        ensures last { last_call result ≡ piece_call (Some 0) ∷ [] }
     {
         if !self.line.is_empty() {
             return Err(self.fail(FaultKind::Cut));
@@ -288,6 +333,17 @@ fn is_end(event: &Event) -> bool
     ensures { result ≡ is_end_event event.now }
 {
     matches!(event, Event::End)
+}
+
+// Whether the line that begins with these bytes and ends with the rest ends the record.
+#[tactic(auto, using(crate::proofs::Needs::end_across))]
+fn ends_record(line: &[u8], rest: &[u8]) -> bool
+    ensures { result ≡ is_end (line.now ++ rest.now) }
+{
+    if line.is_empty() {
+        return rest == b"E".as_slice();
+    }
+    line == b"E".as_slice() && rest.is_empty()
 }
 
 // The event of the line that begins with these bytes and ends with the rest; the line is empty afterwards.

@@ -79,8 +79,12 @@ fn forms(rt: HostRuntime) -> Result<(), AllocError> {
         Event::Up(1),
         Event::End,
     ] {
+        // All lines come in one piece, and the end in another.
+        let reads = matches!(event, Event::Word { .. } | Event::End);
+        assert_eq!(rt; reader.reads_next(), reads);
         assert_eq!(rt; reader.next(&mut shelf), Ok(event));
     }
+    assert!(rt; !reader.reads_next());
     Ok(())
 }
 

@@ -1,15 +1,17 @@
 -- The lines of a block, row by row.
-use Rattle.std.proofs.Common.{◌≡◌, ℕ, ◌+◌, ◌<◌, ◌≤◌, Bool, true, false, List, [], ◌∷◌, ◌++◌, length, get_or, drop, leb, ◌&&◌, ◌∙◌, refl, ap, add-one, drop-cons, append_assoc}
+use Rattle.std.proofs.Common.{◌≡◌, ℕ, suc, ◌+◌, ◌<◌, ◌≤◌, Bool, true, false, not, ◌&&◌, ◌||◌, List, [], ◌∷◌, ◌++◌, length, get_or, drop, leb, cond, ◌∙◌, refl, sym, ap, arith, add-one, drop-cons, append_assoc}
 use Rattle.std.specs.Prelude.{decimal, if◌then◌else◌}
+use Rattle.std.specs.List.{list_any}
 use Rattle.std.proofs.lemmas.Bool.{leb-true}
 use Rattle.std.proofs.lemmas.List.Folds.{list_all_at}
-use Rattle.std.proofs.lemmas.Slice.Eq.{bytes_eq-Decides}
 use Rattle.std.proofs.Math.ListN.{drop_of_length-le}
 use Rattle.ecam_spec.specs.Book.{Text}
-use Rattle.ecam_spec.specs.Picture.{Row, colour_letter, same_text, same_row, same_picture}
+use Rattle.ecam_spec.specs.Picture.{Row, same_row, same_picture}
 use Rattle.ecam_spec.specs.Output.{row_names, row_line, changed_lines, block, line}
 use Rattle.ecam_kinds.specs.declared.picture.Row as code
 use Rattle.ecam_kinds.specs.Shown.{row_of, rows_of}
+use Rattle.fwc_lane.specs.ChangedRows.{row_differs}
+use Rattle.replay_core.specs.Flagged.{flagged_lines, NamesRows}
 
 -- no row's name is longer than three bytes
 pub short_names : (i : ℕ) → i < 36 → length (get_or row_names i []) ≤ 3
@@ -19,59 +21,113 @@ short_names i h = by (leb (length (get_or row_names i [])) 3) refl where
   by true e = leb-true (length (get_or row_names i [])) 3 e
   by false e = absurd (let w : ⊥ = cc (list_all_at (λ t. leb (length t) 3) row_names i [] h e) in w)
 
-module _ (olds news : List code.Row) (i : ℕ) where
+module _ (flags : List Bool) (rows : List code.Row) (i : ℕ) where
   -- the line of one more row
-  pub lines_more : (o n : code.Row) → i < length row_names → i < length olds → i < length news
-      → changed_lines (drop i row_names) (rows_of (drop i olds)) (rows_of (drop i news))
-      ≡ (if same_row (row_of (get_or olds i o)) (row_of (get_or news i n)) then [] else row_line (get_or row_names i []) (row_of (get_or news i n)))
-      ++ changed_lines (drop (i + 1) row_names) (rows_of (drop (i + 1) olds)) (rows_of (drop (i + 1) news))
-  unfolding changed_lines
-  lines_more o n h k l = rw (add-one, drop-cons row_names i [] h, drop-cons olds i o k, drop-cons news i n l) refl
+  pub lines_more : (r : code.Row) → i < length row_names → i < length flags → i < length rows
+      → flagged_lines (drop i row_names) (drop i flags) (rows_of (drop i rows))
+      ≡ (if get_or flags i false then row_line (get_or row_names i []) (row_of (get_or rows i r)) else [])
+      ++ flagged_lines (drop (i + 1) row_names) (drop (i + 1) flags) (rows_of (drop (i + 1) rows))
+  unfolding flagged_lines
+  lines_more r h k l = rw (add-one, drop-cons row_names i [] h, drop-cons flags i false k, drop-cons rows i r l) refl
 
   -- no row is left
-  pub lines_all : length row_names ≤ i → changed_lines (drop i row_names) (rows_of (drop i olds)) (rows_of (drop i news)) ≡ []
-  unfolding changed_lines
-  lines_all h = ap (λ names. changed_lines names (rows_of (drop i olds)) (rows_of (drop i news))) (drop_of_length-le row_names h)
-
-  pub same_all : length olds ≤ i → length news ≤ i → same_picture (rows_of (drop i olds)) (rows_of (drop i news)) ≡ true
-  same_all h k = rw (drop_of_length-le olds h, drop_of_length-le news k) refl
+  pub lines_all : length row_names ≤ i → flagged_lines (drop i row_names) (drop i flags) (rows_of (drop i rows)) ≡ []
+  unfolding flagged_lines
+  lines_all h = ap (λ names. flagged_lines names (drop i flags) (rows_of (drop i rows))) (drop_of_length-le row_names h)
 
 pub names_length : length row_names ≡ 36
 unfolding row_names
 names_length = refl
 
 -- the lines so far and those that are left stay together, over one more row
-pub lines_step : (olds news : List code.Row) (i : ℕ) (o n : code.Row) (name before after whole : Text)
-    → i < length row_names → i < length olds → i < length news
-    → o ≡ get_or olds i o → n ≡ get_or news i n → name ≡ get_or row_names i []
-    → after ≡ before ++ (if same_row (row_of o) (row_of n) then [] else row_line name (row_of n))
-    → before ++ changed_lines (drop i row_names) (rows_of (drop i olds)) (rows_of (drop i news)) ≡ whole
-    → after ++ changed_lines (drop (i + 1) row_names) (rows_of (drop (i + 1) olds)) (rows_of (drop (i + 1) news)) ≡ whole
-lines_step olds news i o n name before after whole h k l is_o is_n is_name is_after so_far =
-    let more = lines_more olds news i o n h k l in
-    let regrouped = append_assoc before (if same_row (row_of o) (row_of n) then [] else row_line name (row_of n))
-    (changed_lines (drop (i + 1) row_names) (rows_of (drop (i + 1) olds)) (rows_of (drop (i + 1) news))) in
+pub lines_step : (flags : List Bool) (rows : List code.Row) (i : ℕ) (f : Bool) (r : code.Row) (name before after whole : Text)
+    → i < length row_names → i < length flags → i < length rows
+    → f ≡ get_or flags i false → r ≡ get_or rows i r → name ≡ get_or row_names i []
+    → after ≡ before ++ (if f then row_line name (row_of r) else [])
+    → before ++ flagged_lines (drop i row_names) (drop i flags) (rows_of (drop i rows)) ≡ whole
+    → after ++ flagged_lines (drop (i + 1) row_names) (drop (i + 1) flags) (rows_of (drop (i + 1) rows)) ≡ whole
+lines_step flags rows i f r name before after whole h k l is_f is_r is_name is_after so_far =
+    let more = lines_more flags rows i r h k l in
+    let regrouped = append_assoc before (if f then row_line name (row_of r) else [])
+    (flagged_lines (drop (i + 1) row_names) (drop (i + 1) flags) (rows_of (drop (i + 1) rows))) in
     cc
 
--- a Tick whose picture is that of the Tick before writes nothing
-pub block_same : (t : ℕ) (old new : List Row) → same_picture old new ≡ true → block t old new ≡ []
+-- ---- the flags tell what the definitions compare
+
+-- so the flags name the rows of two lists of one length
+record Names (old new : List Row) (flags : List Bool) : Type 0 where
+  old_long : length old ≡ length new
+  flags_long : length flags ≡ length new
+  each : (i : ℕ) → i < length new → get_or flags i false ≡ row_differs old new i
+
+whole-names : (old new : List Row) (flags : List Bool) → length flags ≡ 36 → NamesRows old new flags → Names old new flags
+whole-names old new flags long names = record {
+  old_long = names.old_whole ∙ sym names.new_whole;
+  flags_long = long ∙ sym names.new_whole;
+  each = λ i within. names.each i (omega (arith, within, names.new_whole));
+}
+
+-- a flag of the first row, and those of the others
+names-rest : (o n : Row) (old new : List Row) (f : Bool) (flags : List Bool) → Names (o ∷ old) (n ∷ new) (f ∷ flags) → Names old new flags
+names-rest o n old new f flags names =
+    record { old_long = omega (arith, names.old_long); flags_long = omega (arith, names.flags_long); each = λ i within. names.each (suc i) (omega (arith, within)) }
+
+names-first : (o n : Row) (old new : List Row) (f : Bool) (flags : List Bool) → Names (o ∷ old) (n ∷ new) (f ∷ flags) → f ≡ not (same_row o n)
+names-first o n old new f flags names = names.each 0 (omega arith)
+
+turned : (b : Bool) (t : Text) → cond (not b) t [] ≡ cond b [] t
+turned true t = refl
+turned false t = refl
+
+flagged-changed : (texts : List Text) (old new : List Row) (flags : List Bool) → Names old new flags
+    → flagged_lines texts flags new ≡ changed_lines texts old new
+unfolding flagged_lines changed_lines
+flagged-changed [] old new flags names = refl
+flagged-changed (text ∷ texts) [] [] [] names = refl
+flagged-changed (text ∷ texts) (o ∷ old) (n ∷ new) (f ∷ flags) names =
+    ap (λ more. cond f (row_line text n) [] ++ more) (flagged-changed texts old new flags (names-rest o n old new f flags names))
+    ∙ ap (λ line. line ++ changed_lines texts old new) (ap (λ b. cond b (row_line text n) []) (names-first o n old new f flags names) ∙ turned (same_row o n) (row_line text n))
+flagged-changed (text ∷ texts) [] (n ∷ new) flags names = absurd (let w : ⊥ = omega (arith, names.old_long) in w)
+flagged-changed (text ∷ texts) (o ∷ old) [] flags names = absurd (let w : ⊥ = omega (arith, names.old_long) in w)
+flagged-changed (text ∷ texts) [] [] (f ∷ flags) names = absurd (let w : ⊥ = omega (arith, names.flags_long) in w)
+flagged-changed (text ∷ texts) (o ∷ old) (n ∷ new) [] names = absurd (let w : ⊥ = omega (arith, names.flags_long) in w)
+
+both : (a b : Bool) → (not a || not b) ≡ not (a && b)
+both true b = refl
+both false b = refl
+
+any-changed : (old new : List Row) (flags : List Bool) → Names old new flags → list_any (λ f. f) flags ≡ not (same_picture old new)
+any-changed [] [] [] names = refl
+any-changed (o ∷ old) (n ∷ new) (f ∷ flags) names =
+    ap (λ b. b || list_any (λ f. f) flags) (names-first o n old new f flags names)
+    ∙ ap (λ b. not (same_row o n) || b) (any-changed old new flags (names-rest o n old new f flags names))
+    ∙ both (same_row o n) (same_picture old new)
+any-changed [] (n ∷ new) flags names = absurd (let w : ⊥ = omega (arith, names.old_long) in w)
+any-changed (o ∷ old) [] flags names = absurd (let w : ⊥ = omega (arith, names.old_long) in w)
+any-changed [] [] (f ∷ flags) names = absurd (let w : ⊥ = omega (arith, names.flags_long) in w)
+any-changed (o ∷ old) (n ∷ new) [] names = absurd (let w : ⊥ = omega (arith, names.flags_long) in w)
+
+-- without a flag a Tick writes nothing
+pub block-none : (t : ℕ) (old new : List Row) (flags : List Bool) → length flags ≡ 36 → NamesRows old new flags → list_any (λ f. f) flags ≡ false → block t old new ≡ []
 unfolding block
-block_same t old new same = rw same refl
+block-none t old new flags long tells none =
+    ap (λ b. cond b [] (line (64 ∷ decimal t) ++ changed_lines row_names old new)) (same (same_picture old new) (sym (any-changed old new flags (whole-names old new flags long tells)) ∙ none)) where
+      same : (b : Bool) → not b ≡ false → b ≡ true
+      same true e = refl
+      same false e = absurd (let w : ⊥ = cc in w)
 
--- a row and a picture are the same as themselves
-row_itself : (r : Row) → same_row r r ≡ true
-row_itself r =
-    let letter = colour_letter r.colour in
-    ap (λ b. b && same_text r.text r.text) ((bytes_eq-Decides letter letter).1 refl) ∙ (bytes_eq-Decides r.text r.text).1 refl
-
-picture_itself : (p : List Row) → same_picture p p ≡ true
-picture_itself [] = refl
-picture_itself (r ∷ p) = ap (λ b. b && same_picture p p) (row_itself r) ∙ picture_itself p
-
--- a Tick whose picture stays writes nothing
-pub block_itself : (t : ℕ) (p : List Row) → block t p p ≡ []
-block_itself t p = block_same t p p (picture_itself p)
-
-pub block_other : (t : ℕ) (old new : List Row) → same_picture old new ≡ false → block t old new ≡ line (64 ∷ decimal t) ++ changed_lines row_names old new
+pub block-some : (t : ℕ) (old new : List Row) (flags : List Bool) → length flags ≡ 36 → NamesRows old new flags → list_any (λ f. f) flags ≡ true
+    → block t old new ≡ line (64 ∷ decimal t) ++ flagged_lines row_names flags new
 unfolding block
-block_other t old new other = rw other refl
+block-some t old new flags long tells some =
+    ap (λ b. cond b [] (line (64 ∷ decimal t) ++ changed_lines row_names old new)) (other (same_picture old new) (sym (any-changed old new flags (whole-names old new flags long tells)) ∙ some))
+    ∙ ap (λ more. line (64 ∷ decimal t) ++ more) (sym (flagged-changed row_names old new flags (whole-names old new flags long tells))) where
+      other : (b : Bool) → not b ≡ true → b ≡ false
+      other false e = refl
+      other true e = absurd (let w : ⊥ = cc in w)
+
+-- ---- a look for a flag
+
+-- none so far, and the rest decides
+pub any-all : (flags : List Bool) (i : ℕ) → length flags ≤ i → list_any (λ f. f) (drop i flags) ≡ false
+any-all flags i past = ap (list_any (λ f. f)) (drop_of_length-le flags past)

@@ -1,7 +1,6 @@
 -- What the reading and the sealing of a book's bytes tell of the bytes.
-use Rattle.std.proofs.Common.{◌≡◌, ◌<◌, ◌≤◌, true, false, Option, Some, None, length, length-take, take, cond, leb, refl, sym, ap, ◌∙◌, subst, inl, inr, arith}
+use Rattle.std.proofs.Common.{◌≡◌, ◌<◌, ◌≤◌, true, false, Option, Some, None, length, length-take, take, cond, leb, refl, sym, ap, ◌∙◌, inl, inr, arith}
 use Rattle.std.specs.Prelude.{is_none, if◌then◌else◌}
-use Rattle.std.specs.Option.{option_or}
 use Rattle.std.proofs.lemmas.List.{take_all}
 use Rattle.std.proofs.lemmas.Bool.{lt-leb}
 use Rattle.std.proofs.lemmas.Bool.Decides.{leb_tells}
@@ -9,10 +8,8 @@ use Rattle.ecam_spec.specs.declared.kinds.BookFault.{BookFault}
 use Rattle.ecam_spec.specs.Book.{Text, Book}
 use Rattle.ecam_spec.specs.Draft.{Draft, book_of}
 use Rattle.ecam_spec.specs.DraftFaults.{draft_fault}
-use Rattle.ecam_spec.specs.Titles.{is_title_book}
 use Rattle.book_spec.specs.DraftOf.{draft_of}
 use Rattle.book_spec.specs.BookBytes.{table_of_text, top_fault, document_fault, text_fault, draft_in, draft_of_bytes, fault_after, book_fault, sealed, book}
-use Rattle.replay_core.specs.Replayed.{unbuilt, taken, unbuilt_in, replayed, replay_fault}
 
 -- ---- a book that is too long is told by its first bytes
 
@@ -105,29 +102,3 @@ sealed-faultless (Some d) f b is = by (draft_fault d) is where
 pub book-faultless : (bytes : Text) (b : Book) → book bytes ≡ Some b → book_fault bytes ≡ None
 unfolding book book_fault
 book-faultless bytes b is = sealed-faultless (draft_of_bytes bytes) (text_fault bytes) b is
-
-taken-is : (o : Option Book) (b : Book) → taken o ≡ Some b → (o ≡ Some b) × (is_title_book b ≡ true)
-taken-is None b is = absurd (let w : ⊥ = cc in w)
-taken-is (Some x) b is =
-    (elim (is_title_book x) as (λ t. is_title_book x ≡ t → cond t (Some x) None ≡ Some b → (Some x ≡ Some b) × (is_title_book b ≡ true)) [
-      | true ↦ λ titles is. (is, subst (λ y. is_title_book y ≡ true) (let same : x ≡ b = cc in same) titles)
-      | false ↦ λ titles is. absurd (let w : ⊥ = cc in w)
-    ])
-    refl is
-
-unbuilt-none : (b : Book) → is_title_book b ≡ true → unbuilt_in (Some b) ≡ None
-unbuilt-none b titles = ap (λ t. cond t None (Some unbuilt)) titles
-
--- a replay refuses no book that it takes
-pub replayed-faultless : (bytes : Text) (b : Book) → replayed bytes ≡ Some b → replay_fault bytes ≡ None
-replayed-faultless bytes b is =
-    let parts = taken-is (book bytes) b is in
-    ap (λ o. option_or o (unbuilt_in (book bytes))) (book-faultless bytes b parts.0) ∙ ap unbuilt_in parts.0 ∙ unbuilt-none b parts.1
-
--- it takes a book of titles, and refuses any other
-pub replayed-titles : (o : Option Book) (b : Book) → o ≡ Some b → is_title_book b ≡ true → taken o ≡ Some b
-replayed-titles o b is titles = ap taken is ∙ ap (λ t. cond t (Some b) None) titles
-
-pub unbuilt-told : (bytes : Text) (b : Book) → book bytes ≡ Some b → is_title_book b ≡ false → replay_fault bytes ≡ Some unbuilt
-unbuilt-told bytes b is more =
-    ap (λ o. option_or o (unbuilt_in (book bytes))) (book-faultless bytes b is) ∙ ap unbuilt_in is ∙ ap (λ t. cond t None (Some unbuilt)) more

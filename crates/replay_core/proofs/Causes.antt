@@ -1,89 +1,193 @@
 -- How the commands end, from how their steps do.
-use Rattle.std.proofs.Common.{◌≡◌, ℕ, ◌≤◌, Bool, true, Option, Some, None, Err, IsSomeAnd, sym, ap, ◌∙◌, subst, inl, inr, arith}
-use Rattle.ecam_io.specs.Outside.{raised, Rose, FileHas, MayRefuse, AppendedPrefix, IsKept}
+use Rattle.std.proofs.Common.{◌≡◌, Result, Ok, Err, ℕ, ◌≤◌, [], Option, Some, None, IsSomeAnd, sym, ap, ◌∙◌, subst, inl, inr}
+use Rattle.ecam_io.specs.Outside.{raised, Rose, FileHas, MayRefuse, IsClosed}
 use Rattle.ecam_io.proofs.Calls.{Rose-earlier, FileHas-weaker}
 use Rattle.ecam_spec.specs.Book.{Text, Book}
-use Rattle.ecam_spec.specs.Stage.{reply_read}
+use Rattle.ecam_spec.specs.Command.{no_limit}
+use Rattle.ecam_spec.specs.Record.{events}
 use Rattle.book_spec.specs.BookBytes.{book}
 use Rattle.book_model.specs.Sealed.{the_book}
-use Rattle.replay_core.specs.Runs.{Runs}
-use Rattle.replay_core.specs.declared.run.RunError.TheVariants as ends
-use Rattle.replay_core.proofs.Endings.{told}
-use Rattle.replay_core.specs.Replayed.{replayed}
-use Rattle.replay_core.specs.Loading.{Files, ReplayedHas, IsUnopened, HasLoaded, Readies}
-use Rattle.replay_core.specs.Answers.{RepliesWhole, RepliesTo, RepliesInPart, Plays, Replays}
+use Rattle.fwc_pair.specs.declared.pair.Pair.{Pair}
+use Rattle.replay_core.specs.Calls.{Files, ShelfCall, OpenedOne, OpenedBoth, SinkCall, Writes, WritesPart, WritesNothing, HasFailedToWrite}
+use Rattle.replay_core.specs.Runs.{HasStopped}
+use Rattle.replay_core.specs.Loading.{BookHas, IsUnopened, HasLoaded, Loads, Readies}
+use Rattle.replay_core.specs.Play.{RepliesInPart, Plays, Tells}
+use Rattle.replay_core.specs.Answers.{Endings, ByBook, ByRecord, BookTold, BookUntold, RepliesWhole, RepliesTo, replaying, Explains, ExplainsInPart, ExplainsNothing, BreaksOff, explaining}
+use Rattle.replay_core.specs.Outcomes.{outcome_of, refusal_of}
+use Rattle.replay_core.specs.declared.load.Loaded.{Loaded}
+use Rattle.replay_core.specs.declared.load.Unready.{Unready}
+use Rattle.replay_core.specs.declared.load.Unready.TheVariants.{Refused, Unread, NoMemory}
 use Rattle.replay_core.specs.declared.outcome.Outcome.{Outcome}
 use Rattle.replay_core.specs.declared.outcome.Outcome.TheVariants as outcomes
-use Rattle.replay_core.specs.declared.load.Loaded.{Loaded}
+use Rattle.replay_core.specs.declared.replay.RunError.{RunError}
+use Rattle.replay_core.specs.declared.replay.RunError.TheVariants.{Read, Write, Record}
 
 -- what follows from the book that a file is
-pub Has-weaker : (of : Text → Option Book) (files : Files) (name : Text) (P Q : Book → Type 0) → ((b : Book) → P b → Q b)
-    → FileHas files name (λ bytes. IsSomeAnd (of bytes) P) → FileHas files name (λ bytes. IsSomeAnd (of bytes) Q)
-Has-weaker of files name P Q then = FileHas-weaker files name (λ bytes. IsSomeAnd (of bytes) P) (λ bytes. IsSomeAnd (of bytes) Q) (λ bytes. each (of bytes)) where
+pub BookHas-weaker : (files : Files) (name : Text) (P Q : Book → Type 0) → ((b : Book) → P b → Q b) → BookHas files name P → BookHas files name Q
+BookHas-weaker files name P Q then = FileHas-weaker files name (λ bytes. IsSomeAnd (book bytes) P) (λ bytes. IsSomeAnd (book bytes) Q) (λ bytes. each (book bytes)) where
   each : (o : Option Book) → IsSomeAnd o P → IsSomeAnd o Q
   each None h = h
   each (Some b) h = then b h
 
 -- an open that failed since a moment failed since any earlier one
-pub unopened-earlier : (files : Files) (name : Text) (before mid now : ℕ) (is_open : Bool) (left : Option Text) → before ≤ mid
-    → IsUnopened files name mid now is_open left → IsUnopened files name before now is_open left
-unopened-earlier files name before mid now is_open left less has = record { cause = since has.cause; shut = has.shut; closed = has.closed } where
-  since : MayRefuse files name mid now → MayRefuse files name before now
-  since (inl rose) = inl (Rose-earlier before mid now less rose)
-  since (inr lacks) = inr lacks
+since : (files : Files) (name : Text) (before mid now : ℕ) → before ≤ mid → MayRefuse files name mid now → MayRefuse files name before now
+since files name before mid now less (inl rose) = inl (Rose-earlier before mid now less rose)
+since files name before mid now less (inr lacks) = inr lacks
 
-module _ (files : Files) (opens mid_opens opens' faults mid_faults faults' : ℕ) (is_open : Bool) (left : Option Text) {S : Type 0} (agrees : S → Text → Type 0) (out_faults out_faults' : ℕ) (old new : S)
-    (book record' : Text) (limit : ℕ) where
-  module _ (l : Loaded) (has : HasLoaded files book l) (less : faults ≤ mid_faults) (first : mid_opens ≡ raised opens) (second : opens' ≡ raised mid_opens) where
-    both : opens' ≡ raised (raised opens)
-    both = second ∙ ap (λ n. raised n) first
+-- ---- no book stands ready
 
-    -- what is known of the loaded book holds of the book that its file is
-    loaded : (P : Book → Type 0) → P (the_book l.book) → ReplayedHas files book P
-    loaded P so = Has-weaker replayed files book (λ b. b ≡ the_book l.book) P (λ b is. subst P (sym is) so) has.book
+module _ {S : Type 0} (f : ShelfCall) (out : SinkCall S) (name : Text) (once : OpenedOne f) (kept : WritesNothing out) where
+  pub unready-book : (writes : Book → Text) (e : Unready) → Readies f name (Err e) → ByBook f out name writes (outcome_of e)
+  unready-book writes (Refused g) faulty = record { count = once; faulty = faulty; kept = kept }
+  unready-book writes Unread unread = record { count = once; unread = unread; kept = kept }
+  unready-book writes NoMemory took = record { count = once; took = took; kept = kept }
 
-    -- a replay by the book ended
-    pub played : (outcome : Outcome) → Plays files mid_faults faults' is_open left agrees out_faults out_faults' old new (the_book l.book) record' limit outcome
-        → Replays files opens opens' faults faults' is_open left agrees out_faults out_faults' old new book record' limit outcome
-    played outcomes.Done plays = (both, loaded (λ b. FileHas files record' (λ text. RepliesWhole agrees old new limit b text left)) plays)
-    played (outcomes.RecordRefused f) plays = (both, loaded (λ b. FileHas files record' (λ text. RepliesTo agrees old new limit b text f)) plays)
-    played outcomes.WriteFault plays = record {
+  pub unloaded-book : (writes : Book → Text) (e : Unready) → Loads f name (Err e) → ByBook f out name writes (outcome_of e)
+  unloaded-book writes (Refused g) faulty = record { count = once; faulty = faulty; kept = kept }
+  unloaded-book writes Unread unread = record { count = once; unread = unread; kept = kept }
+  unloaded-book writes NoMemory took = record { count = once; took = took; kept = kept }
+
+  pub unready-record : (record' : Text) (ends : Endings) (e : Unready) → Readies f name (Err e) → ByRecord f out name record' ends (outcome_of e)
+  unready-record record' ends (Refused g) faulty = record { count = once; faulty = faulty; kept = kept }
+  unready-record record' ends Unread unread = inl (record { count = once; unread = unread; kept = kept })
+  unready-record record' ends NoMemory took = record { count = once; took = took; kept = kept }
+
+-- ---- a book is told of
+
+module _ {S : Type 0} (f : ShelfCall) (out : SinkCall S) (name : Text) (once : OpenedOne f) (b : Book) (has : BookHas f.files name (λ x. (x ≡ b) × (f.left ≡ Some []))) (writes : Book → Text) where
+  pub book-told : Writes out (writes b) → BookTold f out name writes
+  book-told written = record {
+    count = once;
+    told = BookHas-weaker f.files name (λ x. (x ≡ b) × (f.left ≡ Some [])) (λ x. Writes out (writes x) × (f.left ≡ Some []))
+        (λ x is. (subst (λ x. Writes out (writes x)) (sym is.0) written, is.1)) has;
+  }
+
+  pub book-untold : HasFailedToWrite out → WritesPart out (writes b) → BookUntold f out name writes
+  book-untold cause part = record {
+    count = once;
+    cause = cause;
+    told = BookHas-weaker f.files name (λ x. (x ≡ b) × (f.left ≡ Some [])) (λ x. WritesPart out (writes x) × (f.left ≡ Some []))
+        (λ x is. (subst (λ x. WritesPart out (writes x)) (sym is.0) part, is.1)) has;
+  }
+
+-- ---- two calls of a shelf, the first of which loaded a book
+
+-- as one
+abbrev pub joined : ShelfCall → ShelfCall → ShelfCall
+joined a c = record {
+  files = a.files;
+  opens = a.opens;
+  opens_now = c.opens_now;
+  faults = a.faults;
+  faults_now = c.faults_now;
+  is_open = c.is_open;
+  left = c.left;
+}
+
+-- the book was loaded in the first, and the second follows it and opens a file
+pub record Follows (a c : ShelfCall) (name : Text) (l : Loaded) : Type 0 where
+  pub same : c.files ≡ a.files
+  pub faults : c.faults ≡ a.faults_now
+  pub opens : c.opens ≡ a.opens_now
+  pub less : a.faults ≤ a.faults_now
+  pub first : OpenedOne a
+  pub second : OpenedOne c
+  pub has : HasLoaded a name l
+
+module _ (a c : ShelfCall) (name record' : Text) (l : Loaded) (on : Follows a c name l) {S : Type 0} (out : SinkCall S) where
+  both : OpenedBoth (joined a c)
+  both = on.second ∙ ap raised (on.opens ∙ on.first)
+
+  -- what is known of the loaded book holds of the book that its file is
+  loaded : (P : Book → Type 0) → P (the_book l.book) → BookHas a.files name P
+  loaded P so = BookHas-weaker a.files name (λ b. (b ≡ the_book l.book) × (a.left ≡ Some [])) P (λ b is. subst P (sym is.0) so) on.has.book
+
+  -- and what is known of the record's file
+  of-both : (Q : Text → Type 0) (P : Book → Text → Option Text → Type 0) → ((text : Text) → Q text → P (the_book l.book) text c.left)
+      → FileHas c.files record' Q → BookHas a.files name (λ b. FileHas a.files record' (λ text. P b text c.left))
+  of-both Q P then has =
+      loaded (λ b. FileHas a.files record' (λ text. P b text c.left))
+      (subst (λ files. FileHas files record' (λ text. P (the_book l.book) text c.left)) on.same
+      (FileHas-weaker c.files record' Q (λ text. P (the_book l.book) text c.left) then has))
+
+  unopened : IsUnopened c record' → IsUnopened (joined a c) record'
+  unopened un = record {
+    cause = since a.files record' a.faults a.faults_now c.faults_now on.less
+        (subst (λ n. MayRefuse a.files record' n c.faults_now) on.faults (subst (λ files. MayRefuse files record' c.faults c.faults_now) on.same un.cause));
+    shut = un.shut;
+    closed = subst (λ files. IsClosed files c.left) on.same un.closed;
+  }
+
+  rose : Rose c.faults c.faults_now → Rose a.faults c.faults_now
+  rose r = Rose-earlier a.faults a.faults_now c.faults_now on.less (subst (λ n. Rose n c.faults_now) on.faults r)
+
+  -- the replay of the record ended
+  module _ (pair : Pair) (limit : ℕ) where
+    pub replayed : (n : ℕ) → Plays c out (the_book l.book) pair record' limit (Ok n) → ByRecord (joined a c) out name record' (replaying out limit) outcomes.Done
+    replayed n plays = record {
+      count = both;
+      both = of-both _ (RepliesWhole out limit) (λ text h. record { faultless = h.faultless; written = h.written; spent = h.spent }) plays;
+    }
+
+    pub unreplayed : (e : RunError) → Plays c out (the_book l.book) pair record' limit (Err e) → ByRecord (joined a c) out name record' (replaying out limit) (refusal_of e)
+    unreplayed Read (inl (un, kept)) = inr (inl (record { count = both; accepted = loaded (λ b. Unit {0}) tt; unopened = unopened un; kept = kept }))
+    unreplayed Read (inr broken) = inr (inr (record {
+      count = both;
+      cause = rose broken.cause;
+      opened = broken.opened;
+      both = of-both _ (RepliesInPart out limit) (λ text h. h) broken.replies;
+    }))
+    unreplayed Write plays = record {
       count = both;
       cause = plays.0;
-      replies = loaded (λ b. FileHas files record' (λ text. AppendedPrefix agrees old new (reply_read b text limit))) plays.1;
+      both = of-both _ (λ b text left. HasStopped b out.agrees out.old out.new limit text left) (λ text h. h) plays.1;
     }
-    played outcomes.ReadFault (inl (unopened, kept)) = inr (inl (record {
+    unreplayed (Record g) plays = record {
       count = both;
-      taken = loaded (λ b. Unit {0}) tt;
-      unopened = unopened-earlier files record' faults mid_faults faults' is_open left less unopened;
-      kept = kept;
-    }))
-    played outcomes.ReadFault (inr (rose, opened, replies)) = inr (inr (record {
+      both = of-both _ (RepliesTo out limit g) (λ text h. record { fault_is = h.fault_is; written = h.written; took = h.took }) plays;
+    }
+
+  -- the replay went into a sink that never fails, and nothing was written elsewhere
+  module _ {D : Type 0} (dropped : SinkCall D) (never : HasFailedToWrite dropped → ⊥) (pair : Pair) where
+    pub unexplained : (e : RunError) → Plays c dropped (the_book l.book) pair record' no_limit (Err e) → WritesNothing out → ByRecord (joined a c) out name record' (explaining out) (refusal_of e)
+    unexplained Read (inl (un, none)) kept = inr (inl (record { count = both; accepted = loaded (λ b. Unit {0}) tt; unopened = unopened un; kept = kept }))
+    unexplained Read (inr broken) kept = inr (inr (record {
       count = both;
-      cause = Rose-earlier faults mid_faults faults' less rose;
-      opened = opened;
-      replies = loaded (λ b. FileHas files record' (RepliesInPart agrees old new limit b left)) replies;
+      cause = rose broken.cause;
+      opened = broken.opened;
+      both = of-both _ (BreaksOff out) (λ text h. record { taken = h.taken; behind = h.behind; part = h.part; rest = h.rest; kept = kept }) broken.replies;
     }))
-    played outcomes.Usage plays = absurd plays
-    played (outcomes.BookRefused f) plays = absurd plays
-    played outcomes.NoMemory plays = absurd plays
+    unexplained Write plays kept = absurd (never plays.0)
+    unexplained (Record g) plays kept = record {
+      count = both;
+      both = of-both _ (ExplainsNothing out g) (λ text h. record { fault_is = h.fault_is; kept = kept; took = h.took }) plays;
+    }
 
-  -- no replay stood ready
-  pub unloaded : (outcome : Outcome) → Readies files book faults faults' is_open left (Err outcome) → opens' ≡ raised opens → IsKept agrees old new
-      → Replays files opens opens' faults faults' is_open left agrees out_faults out_faults' old new book record' limit outcome
-  unloaded (outcomes.BookRefused f) is once kept = (once, is, kept)
-  unloaded outcomes.ReadFault unread once kept = inl (record { count = once; unread = unread; kept = kept })
-  unloaded outcomes.NoMemory loads once kept = (omega (arith, once), kept)
-  unloaded outcomes.Done loads once kept = absurd loads
-  unloaded outcomes.Usage loads once kept = absurd loads
-  unloaded (outcomes.RecordRefused f) loads once kept = absurd loads
-  unloaded outcomes.WriteFault loads once kept = absurd loads
+    -- and then the standings were written, or a prefix of them
+    pub explained : (n : ℕ) → Plays c dropped (the_book l.book) pair record' no_limit (Ok n) → (o : Outcome) → Tells out (the_book l.book) pair o
+        → ByRecord (joined a c) out name record' (explaining out) o
+    explained n plays outcomes.Done written = record {
+      count = both;
+      both = of-both _ (Explains out) (λ text h. record { faultless = h.faultless; written = written (events text no_limit) h.stands; spent = h.spent }) plays;
+    }
+    explained n plays outcomes.WriteFault (cause, part) = record {
+      count = both;
+      cause = cause;
+      both = of-both _ (ExplainsInPart out) (λ text h. record { faultless = h.faultless; written = part (events text no_limit) h.stands; spent = h.spent }) plays;
+    }
+    explained n plays outcomes.Usage never = absurd never
+    explained n plays (outcomes.BookRefused g) never = absurd never
+    explained n plays (outcomes.RecordRefused g) never = absurd never
+    explained n plays outcomes.ReadFault never = absurd never
+    explained n plays outcomes.NoMemory never = absurd never
 
-module _ (files : Files) (faults mid_faults faults' : ℕ) (is_open : Bool) (left left' : Option Text) {S : Type 0} (agrees : S → Text → Type 0) (out_faults out_faults' : ℕ) (old new : S)
-    (b : Book) (record' : Text) (limit : ℕ) (found : FileHas files record' (λ bytes. left ≡ Some bytes)) where
-  -- the record was opened, and reading it failed
-  pub ran-unread : faults ≤ mid_faults → Rose mid_faults faults' → is_open ≡ true → Runs b agrees old new limit left left' (Err ends.Read)
-      → Plays files faults faults' is_open left' agrees out_faults out_faults' old new b record' limit outcomes.ReadFault
-  ran-unread less rose opened runs = inr (Rose-earlier faults mid_faults faults' less rose, opened, FileHas-weaker files record' (λ bytes. left ≡ Some bytes) _ part found) where
-    part : (text : Text) → left ≡ Some text → RepliesInPart agrees old new limit b left' text
-    part text is = let split = told text left left' runs.taken is runs.moved in record { taken = runs.taken; behind = split.0; part = split.2; rest = split.1; written = runs.written }
+-- ---- what isn't told as a fault counts none
+
+same-error : (e f : RunError) → ◌≡◌ {A = Result ℕ RunError} (Err e) (Err f) → e ≡ f
+same-error e f is = cc
+
+pub not-refused : (e f : RunError) (o p : Outcome) → o ≡ refusal_of e → refusal_of f ≡ p → (o ≡ p → ⊥) → ◌≡◌ {A = Result ℕ RunError} (Err e) (Err f) → ⊥
+not-refused e f o p is told other same = other (is ∙ ap refusal_of (same-error e f same) ∙ told)
+
+pub not-unready : (l : Loaded) (e : Unready) → ◌≡◌ {A = Result Loaded Unready} (Ok l) (Err e) → ⊥
+not-unready l e is = let w : ⊥ = cc in w

@@ -1,174 +1,220 @@
 -- Which ending must come, where a shelf tells its files and nothing failed.
-use Rattle.std.proofs.Common.{◌≡◌, ℕ, Bool, List, Option, Some, None, IsSomeAnd, refl, ap, subst, inl, inr}
-use Rattle.ecam_io.specs.Outside.{Rose, FileHas, LacksFile, file_named}
+use Rattle.std.proofs.Common.{◌≡◌, ℕ, List, Option, Some, None, IsSomeAnd, refl, sym, ap, subst, inl, inr}
+use Rattle.ecam_io.specs.Outside.{FileHas, LacksFile, file_named}
 use Rattle.ecam_spec.specs.declared.kinds.BookFault.{BookFault}
 use Rattle.ecam_spec.specs.declared.kinds.RecordFault.{RecordFault}
 use Rattle.ecam_spec.specs.Book.{Text, Book}
-use Rattle.ecam_spec.specs.Command.{Command, command_of, check, replay}
-use Rattle.ecam_spec.specs.Stage.{fault_read}
+use Rattle.ecam_spec.specs.Command.{no_limit}
+use Rattle.ecam_spec.specs.Record.{fault}
+use Rattle.ecam_spec.specs.Summary.{summary}
 use Rattle.book_spec.specs.BookBytes.{book_fault, book}
-use Rattle.replay_core.specs.Replayed.{replayed, replay_fault}
-use Rattle.replay_core.specs.Loading.{ReplayedHas, IsUnopened, IsUnread}
-use Rattle.replay_core.specs.Answers.{Checks, Replays, Ends, Decides, IsButForMemory}
+use Rattle.replay_core.specs.Calls.{ShelfCall, HasFailed, SinkCall, HasFailedToWrite}
+use Rattle.replay_core.specs.Command.{Command, command_of, check, replay, why, drill}
+use Rattle.replay_core.specs.Drill.{drill_line}
+use Rattle.replay_core.specs.Loading.{BookHas, HasFault, IsUnopened, IsUnread}
+use Rattle.replay_core.specs.Answers.{Endings, ByBook, ByRecord, Ends, replaying, explaining}
+use Rattle.replay_core.specs.Decides.{book_asked, record_asked, IsButForMemory, Decides, DecidesUsage}
 use Rattle.replay_core.specs.Outcomes.{status_of}
 use Rattle.replay_core.specs.declared.outcome.Status.TheVariants as statuses
 use Rattle.replay_core.specs.declared.outcome.Outcome.{Outcome}
 use Rattle.replay_core.specs.declared.outcome.Outcome.TheVariants as outcomes
-use Rattle.replay_core.proofs.BookFacts.{book-faultless, replayed-faultless}
+use Rattle.replay_core.proofs.BookFacts.{book-faultless}
 
-module _ (told : List (Text × Text)) where
+some-pair : (p q : Text × ℕ) → Some p ≡ Some q → p ≡ q
+some-pair p q e = cc
+
+-- ---- words without a form
+
+-- any other outcome has another status
+formed : (o : Outcome) → ((o ≡ outcomes.Usage) → ⊥) → status_of o ≡ statuses.Usage → ⊥
+formed outcomes.Usage not is = not refl
+formed outcomes.Done not is = let never : ⊥ = cc in never
+formed (outcomes.BookRefused g) not is = let never : ⊥ = cc in never
+formed (outcomes.RecordRefused g) not is = let never : ⊥ = cc in never
+formed outcomes.ReadFault not is = let never : ⊥ = cc in never
+formed outcomes.WriteFault not is = let never : ⊥ = cc in never
+formed outcomes.NoMemory not is = let never : ⊥ = cc in never
+
+module _ (f : ShelfCall) {S : Type 0} (out : SinkCall S) where
+  by-book-usage : (name : Text) (writes : Book → Text) (o : Outcome) → ByBook f out name writes o → o ≡ outcomes.Usage → ⊥
+  by-book-usage name writes o ends is = subst (ByBook f out name writes) is ends
+
+  by-record-usage : (name record' : Text) (e : Endings) (o : Outcome) → ByRecord f out name record' e o → o ≡ outcomes.Usage → ⊥
+  by-record-usage name record' e o ends is = subst (ByRecord f out name record' e) is ends
+
+  formless : (c : Option Command) (o : Outcome) → Ends f out c o → status_of o ≡ statuses.Usage → c ≡ None
+  formless None o ends is = refl
+  formless (Some (check name)) o ends is = absurd (formed o (by-book-usage name summary o ends) is)
+  formless (Some (drill name seed moments)) o ends is = absurd (formed o (by-book-usage name (drill_line seed moments) o ends) is)
+  formless (Some (replay name record' limit)) o ends is = absurd (formed o (by-record-usage name record' (replaying out limit) o ends) is)
+  formless (Some (why name record')) o ends is = absurd (formed o (by-record-usage name record' (explaining out) o ends) is)
+
+  pub decided-usage : (words : List Text) (o : Outcome) → Ends f out (command_of words) o → DecidesUsage words (status_of o)
+  decided-usage words o ends = record {
+    usage = λ none. ap status_of (subst (λ c. Ends f out c o) none ends).usage;
+    form = λ is. formless (command_of words) o ends is;
+  }
+
+-- ---- the files decide
+
+module _ (told : List (Text × Text)) (f : ShelfCall) (told-is : f.files ≡ Some told) {S : Type 0} (out : SinkCall S) (quiet : HasFailed f → ⊥) (out-quiet : HasFailedToWrite out → ⊥) where
   -- what is known of a file holds of its bytes
-  file-is : (name bytes : Text) (P : Text → Type 0) → file_named told name ≡ Some bytes → FileHas (Some told) name P → P bytes
-  file-is name bytes P there has = subst (λ o. IsSomeAnd o P) there has
+  file-is : (name bytes : Text) (P : Text → Type 0) → file_named told name ≡ Some bytes → FileHas f.files name P → P bytes
+  file-is name bytes P there has = subst (λ o. IsSomeAnd o P) there (subst (λ files. FileHas files name P) told-is has)
 
   -- where the bytes are a book there is one of which something is known
   found : (o : Option Book) (P : Book → Type 0) → IsSomeAnd o P → (b : Book) × (o ≡ Some b) × P b
   found None P has = absurd has
   found (Some b) P has = (b, refl, has)
 
-  book-in : (of : Text → Option Book) (name bytes : Text) (P : Book → Type 0) → file_named told name ≡ Some bytes
-      → FileHas (Some told) name (λ bytes. IsSomeAnd (of bytes) P) → (b : Book) × (of bytes ≡ Some b) × P b
-  book-in of name bytes P there has = found (of bytes) P (file-is name bytes (λ bytes. IsSomeAnd (of bytes) P) there has)
-
-  -- the bytes are no such book where they have a fault
-  faulty-book : (name bytes : Text) (f : BookFault) (P : Book → Type 0) → file_named told name ≡ Some bytes → book_fault bytes ≡ Some f
-      → FileHas (Some told) name (λ bytes. IsSomeAnd (book bytes) P) → ⊥
-  faulty-book name bytes f P there faulty has =
-      let b = book-in book name bytes P there has in
-      let none = book-faultless bytes b.0 b.1 in
-      let never : ⊥ = cc in never
-
-  faulty-replay : (name bytes : Text) (f : BookFault) (P : Book → Type 0) → file_named told name ≡ Some bytes → replay_fault bytes ≡ Some f → ReplayedHas (Some told) name P → ⊥
-  faulty-replay name bytes f P there faulty has =
-      let b = book-in replayed name bytes P there has in
-      let none = replayed-faultless bytes b.0 b.1 in
-      let never : ⊥ = cc in never
+  book-in : (name bytes : Text) (P : Book → Type 0) → file_named told name ≡ Some bytes → BookHas f.files name P → (b : Book) × (book bytes ≡ Some b) × P b
+  book-in name bytes P there has = found (book bytes) P (file-is name bytes (λ bytes. IsSomeAnd (book bytes) P) there has)
 
   -- a file that is there isn't lacking
-  not-lacking : (name bytes : Text) → file_named told name ≡ Some bytes → LacksFile (Some told) name → ⊥
-  not-lacking name bytes there lacks = let never : ⊥ = cc in never
+  not-lacking : (name bytes : Text) → file_named told name ≡ Some bytes → LacksFile f.files name → ⊥
+  not-lacking name bytes there lacks = let none : file_named told name ≡ None = subst (λ files. LacksFile files name) told-is lacks in let never : ⊥ = cc in never
 
-  module _ (opens opens' faults faults' : ℕ) (is_open : Bool) (left : Option Text) {S : Type 0} (agrees : S → Text → Type 0) (out_faults out_faults' : ℕ) (old new : S)
-      (quiet : Rose faults faults' → ⊥) (out_quiet : Rose out_faults out_faults' → ⊥) where
-    -- where no fault was counted, a file that is there is opened
-    is-opened : (name bytes : Text) → file_named told name ≡ Some bytes → IsUnopened (Some told) name faults faults' is_open left → ⊥
-    is-opened name bytes there has = elim has.cause [ inl rose ↦ quiet rose | inr lacks ↦ not-lacking name bytes there lacks ]
+  -- where no fault was counted, a file that is there is opened
+  is-opened : (name bytes : Text) → file_named told name ≡ Some bytes → IsUnopened f name → ⊥
+  is-opened name bytes there has = elim has.cause [ inl rose ↦ quiet rose | inr lacks ↦ not-lacking name bytes there lacks ]
 
-    -- and read
-    is-read : (name bytes : Text) → file_named told name ≡ Some bytes → IsUnread (Some told) name faults faults' is_open left → ⊥
-    is-read name bytes there (inl has) = is-opened name bytes there has
-    is-read name bytes there (inr has) = quiet has.cause
+  -- and read
+  is-read : (name bytes : Text) → file_named told name ≡ Some bytes → IsUnread f name → ⊥
+  is-read name bytes there (inl has) = is-opened name bytes there has
+  is-read name bytes there (inr has) = quiet has.cause
 
-    abbrev Ending : Text → Text → ℕ → Outcome → Type 0
-    Ending = Replays (Some told) opens opens' faults faults' is_open left agrees out_faults out_faults' old new
+  module _ (name bytes : Text) (there : file_named told name ≡ Some bytes) where
+    -- the book has a fault
+    module _ (g : BookFault) (faulty : book_fault bytes ≡ Some g) where
+      no-book : (P : Book → Type 0) → BookHas f.files name P → ⊥
+      no-book P has =
+          let b = book-in name bytes P there has in
+          let none = book-faultless bytes b.0 b.1 in
+          let never : ⊥ = cc in never
 
-    module _ (name record' : Text) (limit : ℕ) (bytes : Text) (there : file_named told name ≡ Some bytes) where
-      -- a replay refuses the book
-      refuses-book : (f : BookFault) → replay_fault bytes ≡ Some f → (o : Outcome) → Ending name record' limit o → IsButForMemory statuses.BookRefused (status_of o)
-      refuses-book f faulty outcomes.Done has = absurd (faulty-replay name bytes f _ there faulty has.1)
-      refuses-book f faulty outcomes.Usage never = absurd never
-      refuses-book f faulty (outcomes.BookRefused g) has = inl refl
-      refuses-book f faulty (outcomes.RecordRefused g) has = absurd (faulty-replay name bytes f _ there faulty has.1)
-      refuses-book f faulty outcomes.ReadFault (inl has) = absurd (is-read name bytes there has.unread)
-      refuses-book f faulty outcomes.ReadFault (inr (inl has)) = absurd (faulty-replay name bytes f _ there faulty has.taken)
-      refuses-book f faulty outcomes.ReadFault (inr (inr has)) = absurd (quiet has.cause)
-      refuses-book f faulty outcomes.WriteFault has = absurd (out_quiet has.cause)
-      refuses-book f faulty outcomes.NoMemory has = inr refl
+      book-refuses : (writes : Book → Text) (o : Outcome) → ByBook f out name writes o → IsButForMemory statuses.BookRefused (status_of o)
+      book-refuses writes outcomes.Done has = absurd (no-book _ has.told)
+      book-refuses writes outcomes.Usage never = absurd never
+      book-refuses writes (outcomes.BookRefused h) has = inl refl
+      book-refuses writes (outcomes.RecordRefused h) never = absurd never
+      book-refuses writes outcomes.ReadFault has = absurd (is-read name bytes there has.unread)
+      book-refuses writes outcomes.WriteFault has = absurd (out-quiet has.cause)
+      book-refuses writes outcomes.NoMemory has = inr refl
 
-      module _ (faultless_book : replay_fault bytes ≡ None) (text : Text) (behind : file_named told record' ≡ Some text) where
-        -- a replay takes the book, and the record is there
-        unrefused : (f : BookFault) → FileHas (Some told) name (λ bytes. replay_fault bytes ≡ Some f) → ⊥
-        unrefused f has = let some = file-is name bytes (λ bytes. replay_fault bytes ≡ Some f) there has in let never : ⊥ = cc in never
+      record-refuses : (record' : Text) (e : Endings) (o : Outcome) → ByRecord f out name record' e o → IsButForMemory statuses.BookRefused (status_of o)
+      record-refuses record' e outcomes.Done has = absurd (no-book _ has.both)
+      record-refuses record' e outcomes.Usage never = absurd never
+      record-refuses record' e (outcomes.BookRefused h) has = inl refl
+      record-refuses record' e (outcomes.RecordRefused h) has = absurd (no-book _ has.both)
+      record-refuses record' e outcomes.ReadFault (inl has) = absurd (is-read name bytes there has.unread)
+      record-refuses record' e outcomes.ReadFault (inr (inl has)) = absurd (no-book _ has.accepted)
+      record-refuses record' e outcomes.ReadFault (inr (inr has)) = absurd (quiet has.cause)
+      record-refuses record' e outcomes.WriteFault has = absurd (out-quiet has.cause)
+      record-refuses record' e outcomes.NoMemory has = inr refl
 
-        opened : {R : Type 0} → (o : Outcome) → Ending name record' limit outcomes.ReadFault → R
-        opened o (inl has) = absurd (is-read name bytes there has.unread)
-        opened o (inr (inl has)) = absurd (is-opened record' text behind has.unopened)
-        opened o (inr (inr has)) = absurd (quiet has.cause)
+    -- it has none
+    module _ (faultless-book : book_fault bytes ≡ None) where
+      unrefused : (g : BookFault) → FileHas f.files name (λ bytes. HasFault bytes g f.left) → ⊥
+      unrefused g has = let some = (file-is name bytes (λ bytes. HasFault bytes g f.left) there has).fault_is in let never : ⊥ = cc in never
+
+      book-tells : (writes : Book → Text) (o : Outcome) → ByBook f out name writes o → IsButForMemory statuses.Done (status_of o)
+      book-tells writes outcomes.Done has = inl refl
+      book-tells writes outcomes.Usage never = absurd never
+      book-tells writes (outcomes.BookRefused h) has = absurd (unrefused h has.faulty)
+      book-tells writes (outcomes.RecordRefused h) never = absurd never
+      book-tells writes outcomes.ReadFault has = absurd (is-read name bytes there has.unread)
+      book-tells writes outcomes.WriteFault has = absurd (out-quiet has.cause)
+      book-tells writes outcomes.NoMemory has = inr refl
+
+      module _ (record' text : Text) (behind : file_named told record' ≡ Some text) (limit : ℕ) (e : Endings)
+          (sound : (b : Book) (left : Option Text) → e.whole b text left → fault text limit ≡ None)
+          (unsound : (g : RecordFault) (b : Book) (left : Option Text) → e.refused g b text left → fault text limit ≡ Some g) where
+        -- what was reached holds of the book and of the record's bytes
+        reached : (P : Book → Text → Option Text → Type 0) → BookHas f.files name (λ b. FileHas f.files record' (λ text. P b text f.left)) → (b : Book) × P b text f.left
+        reached P has =
+            let b = book-in name bytes (λ b. FileHas f.files record' (λ text. P b text f.left)) there has in
+            (b.0, file-is record' text (λ text. P b.0 text f.left) behind b.2)
 
         -- the record has a fault
-        refuses-record : (f : RecordFault) → fault_read text limit ≡ Some f → (o : Outcome) → Ending name record' limit o → IsButForMemory statuses.RecordRefused (status_of o)
-        refuses-record f faulty outcomes.Done has =
-            let none = (file-is record' text _ behind (book-in replayed name bytes _ there has.1).2).faultless in
-            let never : ⊥ = cc in absurd never
-        refuses-record f faulty outcomes.Usage never = absurd never
-        refuses-record f faulty (outcomes.BookRefused g) has = absurd (unrefused g has.1)
-        refuses-record f faulty (outcomes.RecordRefused g) has = inl refl
-        refuses-record f faulty outcomes.ReadFault has = opened outcomes.ReadFault has
-        refuses-record f faulty outcomes.WriteFault has = absurd (out_quiet has.cause)
-        refuses-record f faulty outcomes.NoMemory has = inr refl
+        refuses-record : (g : RecordFault) → fault text limit ≡ Some g → (o : Outcome) → ByRecord f out name record' e o → IsButForMemory statuses.RecordRefused (status_of o)
+        refuses-record g faulty outcomes.Done has = let r = reached e.whole has.both in let none = sound r.0 f.left r.1 in let never : ⊥ = cc in absurd never
+        refuses-record g faulty outcomes.Usage never = absurd never
+        refuses-record g faulty (outcomes.BookRefused h) has = absurd (unrefused h has.faulty)
+        refuses-record g faulty (outcomes.RecordRefused h) has = inl refl
+        refuses-record g faulty outcomes.ReadFault (inl has) = absurd (is-read name bytes there has.unread)
+        refuses-record g faulty outcomes.ReadFault (inr (inl has)) = absurd (is-opened record' text behind has.unopened)
+        refuses-record g faulty outcomes.ReadFault (inr (inr has)) = absurd (quiet has.cause)
+        refuses-record g faulty outcomes.WriteFault has = absurd (out-quiet has.cause)
+        refuses-record g faulty outcomes.NoMemory has = inr refl
 
         -- it has none
-        does : fault_read text limit ≡ None → (o : Outcome) → Ending name record' limit o → IsButForMemory statuses.Done (status_of o)
+        does : fault text limit ≡ None → (o : Outcome) → ByRecord f out name record' e o → IsButForMemory statuses.Done (status_of o)
         does faultless outcomes.Done has = inl refl
         does faultless outcomes.Usage never = absurd never
-        does faultless (outcomes.BookRefused g) has = absurd (unrefused g has.1)
-        does faultless (outcomes.RecordRefused g) has =
-            let some = (file-is record' text _ behind (book-in replayed name bytes _ there has.1).2).fault_is in
-            let never : ⊥ = cc in absurd never
-        does faultless outcomes.ReadFault has = opened outcomes.ReadFault has
-        does faultless outcomes.WriteFault has = absurd (out_quiet has.cause)
+        does faultless (outcomes.BookRefused h) has = absurd (unrefused h has.faulty)
+        does faultless (outcomes.RecordRefused h) has = let r = reached (e.refused h) has.both in let some = unsound h r.0 f.left r.1 in let never : ⊥ = cc in absurd never
+        does faultless outcomes.ReadFault (inl has) = absurd (is-read name bytes there has.unread)
+        does faultless outcomes.ReadFault (inr (inl has)) = absurd (is-opened record' text behind has.unopened)
+        does faultless outcomes.ReadFault (inr (inr has)) = absurd (quiet has.cause)
+        does faultless outcomes.WriteFault has = absurd (out-quiet has.cause)
         does faultless outcomes.NoMemory has = inr refl
 
-    abbrev Checking : Text → Outcome → Type 0
-    Checking = Checks (Some told) opens opens' faults faults' is_open left agrees out_faults out_faults' old new
+  -- ---- for each command
 
-    module _ (name bytes : Text) (there : file_named told name ≡ Some bytes) where
-      -- the book has a fault
-      refuses-check : (f : BookFault) → book_fault bytes ≡ Some f → (o : Outcome) → Checking name o → IsButForMemory statuses.BookRefused (status_of o)
-      refuses-check f faulty outcomes.Done has = absurd (faulty-book name bytes f _ there faulty has)
-      refuses-check f faulty outcomes.Usage never = absurd never
-      refuses-check f faulty (outcomes.BookRefused g) has = inl refl
-      refuses-check f faulty (outcomes.RecordRefused g) never = absurd never
-      refuses-check f faulty outcomes.ReadFault (unread, _) = absurd (is-read name bytes there unread)
-      refuses-check f faulty outcomes.WriteFault has = absurd (out_quiet has.0)
-      refuses-check f faulty outcomes.NoMemory has = inr refl
+  refused : (c : Command) (o : Outcome) → Ends f out (Some c) o
+      → (bytes : Text) → file_named told (book_asked c) ≡ Some bytes → (g : BookFault) → book_fault bytes ≡ Some g → IsButForMemory statuses.BookRefused (status_of o)
+  refused (check name) o ends bytes there g faulty = book-refuses name bytes there g faulty summary o ends
+  refused (drill name seed moments) o ends bytes there g faulty = book-refuses name bytes there g faulty (drill_line seed moments) o ends
+  refused (replay name record' limit) o ends bytes there g faulty = record-refuses name bytes there g faulty record' (replaying out limit) o ends
+  refused (why name record') o ends bytes there g faulty = record-refuses name bytes there g faulty record' (explaining out) o ends
 
-      -- it has none
-      checks : book_fault bytes ≡ None → (o : Outcome) → Checking name o → IsButForMemory statuses.Done (status_of o)
-      checks faultless outcomes.Done has = inl refl
-      checks faultless outcomes.Usage never = absurd never
-      checks faultless (outcomes.BookRefused g) has =
-          let some = (file-is name bytes _ there has.0).fault_is in
-          let never : ⊥ = cc in absurd never
-      checks faultless (outcomes.RecordRefused g) never = absurd never
-      checks faultless outcomes.ReadFault (unread, _) = absurd (is-read name bytes there unread)
-      checks faultless outcomes.WriteFault has = absurd (out_quiet has.0)
-      checks faultless outcomes.NoMemory has = inr refl
+  tells : (c : Command) (o : Outcome) → Ends f out (Some c) o → record_asked c ≡ None
+      → (bytes : Text) → file_named told (book_asked c) ≡ Some bytes → book_fault bytes ≡ None → IsButForMemory statuses.Done (status_of o)
+  tells (check name) o ends none bytes there faultless = book-tells name bytes there faultless summary o ends
+  tells (drill name seed moments) o ends none bytes there faultless = book-tells name bytes there faultless (drill_line seed moments) o ends
+  tells (replay name record' limit) o ends none bytes there faultless = absurd (let w : ⊥ = cc in w)
+  tells (why name record') o ends none bytes there faultless = absurd (let w : ⊥ = cc in w)
 
-    -- words that have a form end otherwise than by their form
-    no-usage : (name record' : Text) (limit : ℕ) (o : Outcome) → Ending name record' limit o → status_of o ≡ statuses.Usage → ⊥
-    no-usage name record' limit outcomes.Usage never is = never
-    no-usage name record' limit outcomes.Done has is = let never : ⊥ = cc in never
-    no-usage name record' limit (outcomes.BookRefused f) has is = let never : ⊥ = cc in never
-    no-usage name record' limit (outcomes.RecordRefused f) has is = let never : ⊥ = cc in never
-    no-usage name record' limit outcomes.ReadFault has is = let never : ⊥ = cc in never
-    no-usage name record' limit outcomes.WriteFault has is = let never : ⊥ = cc in never
-    no-usage name record' limit outcomes.NoMemory has is = let never : ⊥ = cc in never
+  refused-record : (c : Command) (o : Outcome) → Ends f out (Some c) o
+      → (bytes : Text) → file_named told (book_asked c) ≡ Some bytes → book_fault bytes ≡ None
+      → (name : Text) (limit : ℕ) → record_asked c ≡ Some (name, limit) → (text : Text) → file_named told name ≡ Some text
+      → (g : RecordFault) → fault text limit ≡ Some g → IsButForMemory statuses.RecordRefused (status_of o)
+  refused-record (check name) o ends bytes there faultless r l asks text behind g faulty = absurd (let w : ⊥ = cc in w)
+  refused-record (drill name seed moments) o ends bytes there faultless r l asks text behind g faulty = absurd (let w : ⊥ = cc in w)
+  refused-record (replay name record' limit) o ends bytes there faultless r l asks text behind g faulty =
+      let same : record' ≡ r = ap (λ (p : Text × ℕ). p.0) (some-pair (record', limit) (r, l) asks) in
+      let under : limit ≡ l = ap (λ (p : Text × ℕ). p.1) (some-pair (record', limit) (r, l) asks) in
+      refuses-record name bytes there faultless record' text (subst (λ r. file_named told r ≡ Some text) (sym same) behind) limit (replaying out limit)
+      (λ b left h. h.faultless) (λ g b left h. h.fault_is) g (subst (λ l. fault text l ≡ Some g) (sym under) faulty) o ends
+  refused-record (why name record') o ends bytes there faultless r l asks text behind g faulty =
+      let same : record' ≡ r = ap (λ (p : Text × ℕ). p.0) (some-pair (record', no_limit) (r, l) asks) in
+      let under : no_limit ≡ l = ap (λ (p : Text × ℕ). p.1) (some-pair (record', no_limit) (r, l) asks) in
+      refuses-record name bytes there faultless record' text (subst (λ r. file_named told r ≡ Some text) (sym same) behind) no_limit (explaining out)
+      (λ b left h. h.faultless) (λ g b left h. h.fault_is) g (subst (λ l. fault text l ≡ Some g) (sym under) faulty) o ends
 
-    no-check-usage : (name : Text) (o : Outcome) → Checking name o → status_of o ≡ statuses.Usage → ⊥
-    no-check-usage name outcomes.Usage never is = never
-    no-check-usage name outcomes.Done has is = let never : ⊥ = cc in never
-    no-check-usage name (outcomes.BookRefused f) has is = let never : ⊥ = cc in never
-    no-check-usage name (outcomes.RecordRefused f) has is = let never : ⊥ = cc in never
-    no-check-usage name outcomes.ReadFault has is = let never : ⊥ = cc in never
-    no-check-usage name outcomes.WriteFault has is = let never : ⊥ = cc in never
-    no-check-usage name outcomes.NoMemory has is = let never : ⊥ = cc in never
+  replayed : (c : Command) (o : Outcome) → Ends f out (Some c) o
+      → (bytes : Text) → file_named told (book_asked c) ≡ Some bytes → book_fault bytes ≡ None
+      → (name : Text) (limit : ℕ) → record_asked c ≡ Some (name, limit) → (text : Text) → file_named told name ≡ Some text
+      → fault text limit ≡ None → IsButForMemory statuses.Done (status_of o)
+  replayed (check name) o ends bytes there faultless r l asks text behind sound = absurd (let w : ⊥ = cc in w)
+  replayed (drill name seed moments) o ends bytes there faultless r l asks text behind sound = absurd (let w : ⊥ = cc in w)
+  replayed (replay name record' limit) o ends bytes there faultless r l asks text behind sound =
+      let same : record' ≡ r = ap (λ (p : Text × ℕ). p.0) (some-pair (record', limit) (r, l) asks) in
+      let under : limit ≡ l = ap (λ (p : Text × ℕ). p.1) (some-pair (record', limit) (r, l) asks) in
+      does name bytes there faultless record' text (subst (λ r. file_named told r ≡ Some text) (sym same) behind) limit (replaying out limit)
+      (λ b left h. h.faultless) (λ g b left h. h.fault_is) (subst (λ l. fault text l ≡ None) (sym under) sound) o ends
+  replayed (why name record') o ends bytes there faultless r l asks text behind sound =
+      let same : record' ≡ r = ap (λ (p : Text × ℕ). p.0) (some-pair (record', no_limit) (r, l) asks) in
+      let under : no_limit ≡ l = ap (λ (p : Text × ℕ). p.1) (some-pair (record', no_limit) (r, l) asks) in
+      does name bytes there faultless record' text (subst (λ r. file_named told r ≡ Some text) (sym same) behind) no_limit (explaining out)
+      (λ b left h. h.faultless) (λ g b left h. h.fault_is) (subst (λ l. fault text l ≡ None) (sym under) sound) o ends
 
-    formless : (c : Option Command) (o : Outcome) → Ends (Some told) opens opens' faults faults' is_open left agrees out_faults out_faults' old new c o → status_of o ≡ statuses.Usage → c ≡ None
-    formless None o ends is = refl
-    formless (Some (check name)) o ends is = absurd (no-check-usage name o ends.0 is)
-    formless (Some (replay name record' limit)) o ends is = absurd (no-usage name record' limit o ends is)
-
-    pub decided : (words : List Text) (o : Outcome) → Ends (Some told) opens opens' faults faults' is_open left agrees out_faults out_faults' old new (command_of words) o → Decides words told (status_of o)
-    decided words o ends =
-        let of : (c : Option Command) → command_of words ≡ c → Ends (Some told) opens opens' faults faults' is_open left agrees out_faults out_faults' old new c o =
-        λ c is. subst (λ c. Ends (Some told) opens opens' faults faults' is_open left agrees out_faults out_faults' old new c o) is ends in
-        record {
-          usage = λ none. ap status_of (of None none).0;
-          form = λ is. formless (command_of words) o ends is;
-          check_refused = λ name asked bytes there f faulty. refuses-check name bytes there f faulty o (of (Some (check name)) asked).0;
-          checked = λ name asked bytes there faultless. checks name bytes there faultless o (of (Some (check name)) asked).0;
-          replay_refused = λ name record' limit asked bytes there f faulty. refuses-book name record' limit bytes there f faulty o (of (Some (replay name record' limit)) asked);
-          record_refused = λ name record' limit asked bytes there taken text behind f faulty. refuses-record name record' limit bytes there taken text behind f faulty o (of (Some (replay name record' limit)) asked);
-          replayed = λ name record' limit asked bytes there taken text behind faultless. does name record' limit bytes there taken text behind faultless o (of (Some (replay name record' limit)) asked);
-        }
+  pub decided : (words : List Text) (o : Outcome) → Ends f out (command_of words) o → Decides words told (status_of o)
+  decided words o ends =
+      let of : (c : Command) → command_of words ≡ Some c → Ends f out (Some c) o = λ c is. subst (λ c. Ends f out c o) is ends in
+      record {
+        refused = λ c asks. refused c o (of c asks);
+        told = λ c asks. tells c o (of c asks);
+        record_refused = λ c asks. refused-record c o (of c asks);
+        replayed = λ c asks. replayed c o (of c asks);
+      }

@@ -1,30 +1,31 @@
 -- How a replay goes on from line to line, and how it ends.
-use Rattle.std.proofs.Common.{◌≡◌, ℕ, ◌+◌, ◌^◌, ◌<◌, ◌≤◌, Result, Ok, Err, true, List, [], ◌∷◌, ◌++◌, Option, Some, None, refl, sym, ap, ◌∙◌, subst, arith, length-append, append_assoc, append-nil, cond}
-use Rattle.std.specs.Prelude.{is_none, OnOk, OnErr, IfOk, IfErr}
+use Rattle.std.proofs.Common.{◌≡◌, ℕ, ◌+◌, ◌^◌, ◌<◌, ◌≤◌, Result, Ok, Err, true, false, List, [], ◌∷◌, ◌++◌, Option, Some, None, refl, sym, ap, ◌∙◌, subst, inl, inr, arith, length, length-append, append_assoc, append-nil, cond}
+use Rattle.std.specs.Prelude.{◌&&◌, is_none, OnOk, OnErr, IfOk, IfErr}
 use Rattle.std.proofs.lemmas.List.Sums.{count_by-le-length}
 use Rattle.std.specs.Io.KnownBytes.{Consumes, IsAtEnd}
 use Rattle.std.proofs.KnownBytes.{Consumes-nil, Consumes-trans}
-use Rattle.std.proofs.lemmas.List.Elements.{All-nil, All-push}
 use Rattle.ecam_io.specs.Outside.{Appended, AppendedPrefix}
-use Rattle.ecam_io.proofs.Calls.{Appended-none, Appended-append, Appended-kept, AppendedPrefix-after, AppendedPrefix-longer}
+use Rattle.ecam_io.proofs.Calls.{Appended-none, Appended-append, AppendedPrefix-after, AppendedPrefix-longer}
 use Rattle.ecam_spec.specs.declared.kinds.Event.{Event}
-use Rattle.ecam_spec.specs.declared.kinds.FaultKind.TheVariants.{Form}
+use Rattle.ecam_spec.specs.declared.kinds.Event.TheVariants.{Word, Tick, Press, Release, Fail, Up, End}
 use Rattle.ecam_spec.specs.declared.kinds.RecordFault.{RecordFault}
 use Rattle.ecam_spec.specs.Book.{Text, Book}
+use Rattle.ecam_spec.specs.History.{flags_after, none_up, comes_up, Era, empty_era, era_with, era, begun}
 use Rattle.ecam_spec.specs.Record.{fault, events}
 use Rattle.ecam_spec.specs.Output.{end_line, blocks}
-use Rattle.ecam_spec.specs.Titles.{IsTitleEvent}
-use Rattle.ecam_spec.specs.Replay.{history_blocks, is_tick, tick_count}
-use Rattle.ecam_spec.specs.Stage.{while_built, events_read, fault_read, reply_read}
+use Rattle.ecam_spec.specs.Replay.{history_blocks, is_tick, tick_count, reply}
+use Rattle.ecam_spec.proofs.HistoryLaws.{era_next, era_nil}
+use Rattle.ecam_spec.proofs.MomentSteps.{moments_kept, length_tick}
 use Rattle.ecam_spec.proofs.ReplaySteps.{history_blocks_begun}
+use Rattle.fwc_pair.specs.PairState.{PairStands, moments_of}
+use Rattle.fwc_pair.specs.declared.pair.Pair.{Pair}
 use Rattle.record_lines.specs.Reader.{ReaderState, room, settled}
 use Rattle.record_lines.specs.Reads.{Reads, TellsEvent, TellsEnd, TellsFault, TellsFailure, IsSpent, is_shown_at_end}
-use Rattle.replay_core.specs.declared.replay.Replay.{Replay}
-use Rattle.replay_core.specs.Standing.{Stands}
-use Rattle.replay_core.specs.Runs.{HasRun, HasMetFault, HasBroken, HasFed, HasBegun, HasRefused, Runs, Feeds, IsAt}
-use Rattle.replay_core.specs.declared.run.RunError.{RunError}
-use Rattle.replay_core.specs.declared.run.RunError.TheVariants.{Read, Write, Record}
-use Rattle.replay_core.proofs.Built.{title-built, built-push, read-all, fault-all, read-until, fault-until, read-more}
+use Rattle.record_lines.proofs.Went.{went}
+use Rattle.replay_core.specs.Runs.{HasRun, HasMetFault, HasStopped, StopsIn, HasBroken, HasFed, HasBegun, Runs, IsAt}
+use Rattle.replay_core.proofs.PairMoments.{moments-counted}
+use Rattle.replay_core.specs.declared.replay.RunError.{RunError}
+use Rattle.replay_core.specs.declared.replay.RunError.TheVariants.{Write}
 
 -- what a source that told its bytes has left after some of them
 pub told : (text : Text) (left rest : Option (List ℕ)) (taken : List ℕ) → left ≡ Some text → Consumes left rest taken → (more : List ℕ) × (rest ≡ Some more) × (text ≡ taken ++ more)
@@ -42,48 +43,77 @@ ended rest later before was behind is spent =
     is ∙ ap Some (subst IsAtEnd is (subst (λ r. IsSpent r later) was spent))
 
 -- without the line that ends it, a reply is its blocks
-reply-faulty : (b : Book) (text : Text) (limit : ℕ) (f : RecordFault) → fault_read text limit ≡ Some f → reply_read b text limit ≡ history_blocks b (events_read text limit)
-unfolding reply_read
+reply-faulty : (b : Book) (text : Text) (limit : ℕ) (f : RecordFault) → fault text limit ≡ Some f → reply b text limit ≡ history_blocks b (events text limit)
+unfolding reply
 reply-faulty b text limit f is =
-    ap (λ o. history_blocks b (events_read text limit) ++ cond (is_none o) (end_line (tick_count (events_read text limit))) []) is
-    ∙ append-nil (history_blocks b (events_read text limit))
+    ap (λ o. history_blocks b (events text limit) ++ cond (is_none o) (end_line (tick_count (events text limit))) []) is
+    ∙ append-nil (history_blocks b (events text limit))
+
+-- an event is at most one moment more
+with-moments : (e : Era) (x : Event) → length (era_with e x).moments ≤ length e.moments + 1
+with-moments e Tick = omega (arith, length_tick e)
+with-moments e (Word bus bits) = omega (arith, ap length (moments_kept e (Word bus bits) refl))
+with-moments e (Press k) = omega (arith, ap length (moments_kept e (Press k) refl))
+with-moments e (Release k) = omega (arith, ap length (moments_kept e (Release k) refl))
+with-moments e (Fail n) = omega (arith, ap length (moments_kept e (Fail n) refl))
+with-moments e (Up n) = omega (arith, ap length (moments_kept e (Up n) refl))
+with-moments e End = omega (arith, ap length (moments_kept e End refl))
+
+begun-moments : (h : List Event) (x : Event) → length (begun h x).moments ≤ length (era h).moments
+unfolding begun
+begun-moments h x =
+    elim (comes_up x && none_up (flags_after h)) as (λ b. length (cond b (empty_era (flags_after h)) (era h)).moments ≤ length (era h).moments) [
+      | true ↦ omega arith
+      | false ↦ omega arith
+    ]
+
+-- so are there no more moments in an era than events in its history
+more-moments : (h : List Event) (x : Event) → length (era h).moments ≤ length h → length (era (h ++ x ∷ [])).moments ≤ length (h ++ x ∷ [])
+more-moments h x few =
+    omega (arith, few, ap (λ (e : Era). length e.moments) (era_next h x), with-moments (begun h x) x, begun-moments h x, length-append h (x ∷ []))
 
 module _ (b : Book) {S : Type 0} (agrees : S → List ℕ → Type 0) (old : S) (limit : ℕ) (left : Option (List ℕ)) where
   -- before the first line
-  pub at-start : (reader : ReaderState) (replay : Replay) → Reads limit [] [] reader → room reader ≡ limit → settled reader ≡ None → Stands b [] replay
-      → IsAt b agrees old old limit left left reader replay 1
+  pub at-start : (reader : ReaderState) (pair : Pair) → Reads limit [] [] reader → room reader ≡ limit → settled reader ≡ None → PairStands b [] pair
+      → IsAt b agrees old old limit left left reader pair 0
   unfolding history_blocks tick_count blocks
-  at-start reader replay reads whole unsettled stands = record {
+  at-start reader pair reads whole unsettled stands = record {
     taken = [];
     answered = [];
     moved = Consumes-nil left;
     reads = reads;
     unsettled = unsettled;
-    titles = All-nil IsTitleEvent;
-    built = refl;
     stands = stands;
+    ticks_are = refl;
     written = Appended-none agrees old;
-    line_is = refl;
+    moments = omega (arith, ap (λ (e : Era). length e.moments) era_nil);
     few = omega arith;
   }
 
-  module _ (mid : S) (rest : Option (List ℕ)) (reader : ReaderState) (replay : Replay) (line : ℕ) (at : IsAt b agrees old mid limit left rest reader replay line) where
+  module _ (mid : S) (rest : Option (List ℕ)) (reader : ReaderState) (pair : Pair) (ticks : ℕ) (at : IsAt b agrees old mid limit left rest reader pair ticks) where
     -- after one more line
-    pub at-next : (new : S) (later : Option (List ℕ)) (next : ReaderState) (fed : Replay) (e : Event) (more : List ℕ)
+    pub at-next : (new : S) (later : Option (List ℕ)) (next : ReaderState) (fed : Pair) (now : ℕ) (e : Event) (more : List ℕ)
         → Consumes rest later more → TellsEvent limit (at.taken ++ more) (at.answered ++ e ∷ []) next → settled next ≡ None → room next + 2 ≤ room reader
-        → HasFed b agrees mid new at.answered e fed → IsAt b agrees old new limit left later next fed (line + 1)
-    at-next new later next fed e more moved tells unsettled cost has = record {
+        → HasFed b agrees mid new at.answered e fed now → IsAt b agrees old new limit left later next fed now
+    at-next new later next fed now e more moved tells unsettled cost has = record {
       taken = at.taken ++ more;
       answered = at.answered ++ e ∷ [];
       moved = Consumes-trans left rest later at.taken more at.moved moved;
       reads = tells.reads;
       unsettled = unsettled;
-      titles = All-push IsTitleEvent at.answered e at.titles (title-built e has.built);
-      built = built-push at.answered e at.built has.built;
       stands = has.stands;
+      ticks_are = has.ticks_are;
       written = subst (Appended agrees old new) (sym has.blocks) (Appended-append agrees old mid new (history_blocks b at.answered) has.more at.written has.written);
-      line_is = omega (arith, at.line_is, length-append at.answered (e ∷ []));
+      moments = more-moments at.answered e at.moments;
       few = omega (arith, at.few, length-append at.answered (e ∷ []));
+    }
+
+    -- what follows what is written isn't written whole
+    stopped : (new : S) (follows : Text) → AppendedPrefix agrees mid new follows → StopsIn b agrees old new (history_blocks b at.answered) follows
+    stopped new follows part = record {
+      part = part.part;
+      prefix = part.prefix;
+      written = Appended-append agrees old mid new (history_blocks b at.answered) part.part at.written part.appended;
     }
 
     -- the text is the bytes that came, and more
@@ -92,63 +122,69 @@ module _ (b : Book) {S : Type 0} (agrees : S → List ℕ → Type 0) (old : S) 
     here text is later more moved = told text left later (at.taken ++ more) is (Consumes-trans left rest later at.taken more at.moved moved)
 
     -- the record's end was met, and the last line is written
-    pub at-end : (new : S) (later : Option (List ℕ)) (next : ReaderState) (more : List ℕ) (ticks : ℕ)
+    pub at-end : (new : S) (later : Option (List ℕ)) (next : ReaderState) (more : List ℕ) (n : ℕ)
         → Consumes rest later more → TellsEnd limit (at.taken ++ more) at.answered next → IsSpent rest later
-        → ticks ≡ tick_count at.answered → Appended agrees mid new (end_line (tick_count at.answered))
-        → (text : Text) → left ≡ Some text → HasRun b agrees old new limit text later ticks
-    unfolding reply_read
-    at-end new later next more ticks moved tells spent count written text is =
+        → n ≡ tick_count at.answered → Appended agrees mid new (end_line (tick_count at.answered))
+        → (text : Text) → left ≡ Some text → HasRun b agrees old new pair limit text later n
+    unfolding reply
+    at-end new later next more n moved tells spent count written text is =
         let where_it_is = here text is later more moved in
         let rest_is = told text left rest at.taken is at.moved in
         let nothing : later ≡ Some [] = ended rest later rest_is.0 rest_is.1 where_it_is.0 where_it_is.1 spent in
         let whole : text ≡ at.taken ++ more = where_it_is.2 ∙ ap (λ l. (at.taken ++ more) ++ l) (some_is where_it_is.0 [] (sym where_it_is.1 ∙ nothing)) ∙ append-nil (at.taken ++ more) in
         let events_are : events text limit ≡ at.answered = ap (λ t. events t limit) whole ∙ tells.whole.events in
-        let fault_is : fault_read text limit ≡ None = fault-all text limit at.answered at.built events_are ∙ ap (λ t. fault t limit) whole ∙ tells.whole.fault in
-        let read : events_read text limit ≡ at.answered = read-all text limit at.answered at.built events_are in
+        let fault_is : fault text limit ≡ None = ap (λ t. fault t limit) whole ∙ tells.whole.fault in
         record {
           faultless = fault_is;
-          ticks_are = count ∙ ap tick_count (sym read);
+          ticks_are = count ∙ ap tick_count (sym events_are);
           written = subst (Appended agrees old new)
-              (sym (ap (λ f. history_blocks b (events_read text limit) ++ cond (is_none f) (end_line (tick_count (events_read text limit))) []) fault_is
-              ∙ ap (λ es. history_blocks b es ++ end_line (tick_count es)) read))
+              (sym (ap (λ f. history_blocks b (events text limit) ++ cond (is_none f) (end_line (tick_count (events text limit))) []) fault_is
+              ∙ ap (λ es. history_blocks b es ++ end_line (tick_count es)) events_are))
               (Appended-append agrees old mid new (history_blocks b at.answered) (end_line (tick_count at.answered)) at.written written);
           spent = nothing;
+          stands = subst (λ es. PairStands b es pair) (sym events_are) at.stands;
         }
 
     -- writing the last line failed
     pub at-end-unwritten : (new : S) (later : Option (List ℕ)) (next : ReaderState) (more : List ℕ)
         → Consumes rest later more → TellsEnd limit (at.taken ++ more) at.answered next → IsSpent rest later
         → AppendedPrefix agrees mid new (end_line (tick_count at.answered))
-        → (text : Text) → left ≡ Some text → AppendedPrefix agrees old new (reply_read b text limit)
-    unfolding reply_read
+        → (text : Text) → left ≡ Some text → HasStopped b agrees old new limit text later
+    unfolding reply
     at-end-unwritten new later next more moved tells spent part text is =
         let where_it_is = here text is later more moved in
         let rest_is = told text left rest at.taken is at.moved in
         let nothing : later ≡ Some [] = ended rest later rest_is.0 rest_is.1 where_it_is.0 where_it_is.1 spent in
         let whole : text ≡ at.taken ++ more = where_it_is.2 ∙ ap (λ l. (at.taken ++ more) ++ l) (some_is where_it_is.0 [] (sym where_it_is.1 ∙ nothing)) ∙ append-nil (at.taken ++ more) in
         let events_are : events text limit ≡ at.answered = ap (λ t. events t limit) whole ∙ tells.whole.events in
-        let fault_is : fault_read text limit ≡ None = fault-all text limit at.answered at.built events_are ∙ ap (λ t. fault t limit) whole ∙ tells.whole.fault in
-        let read : events_read text limit ≡ at.answered = read-all text limit at.answered at.built events_are in
-        subst (AppendedPrefix agrees old new)
-        (sym (ap (λ f. history_blocks b (events_read text limit) ++ cond (is_none f) (end_line (tick_count (events_read text limit))) []) fault_is
-        ∙ ap (λ es. history_blocks b es ++ end_line (tick_count es)) read))
-        (AppendedPrefix-after agrees old mid new (history_blocks b at.answered) (end_line (tick_count at.answered)) at.written part)
+        let fault_is : fault text limit ≡ None = ap (λ t. fault t limit) whole ∙ tells.whole.fault in
+        record {
+          written = subst (AppendedPrefix agrees old new)
+              (sym (ap (λ f. history_blocks b (events text limit) ++ cond (is_none f) (end_line (tick_count (events text limit))) []) fault_is
+              ∙ ap (λ es. history_blocks b es ++ end_line (tick_count es)) events_are))
+              (AppendedPrefix-after agrees old mid new (history_blocks b at.answered) (end_line (tick_count at.answered)) at.written part);
+          stops = inr (record {
+            spent = nothing;
+            stops = subst (λ es. StopsIn b agrees old new (history_blocks b es) (end_line (tick_count es))) (sym events_are) (stopped new (end_line (tick_count at.answered)) part);
+          });
+        }
 
     -- the record has a fault
     pub at-fault : (later : Option (List ℕ)) (next : ReaderState) (more : List ℕ) (f : RecordFault)
         → Consumes rest later more → TellsFault limit (at.taken ++ more) at.answered f next → (is_shown_at_end f.kind ≡ true → IsSpent rest later)
-        → (text : Text) → left ≡ Some text → HasMetFault b agrees old mid limit text f
+        → (text : Text) → left ≡ Some text → HasMetFault b agrees old mid limit text later f
     at-fault later next more f moved tells spent text is =
         let where_it_is = here text is later more moved in
         let rest_is = told text left rest at.taken is at.moved in
         let faulty = tells.faulty where_it_is.0
         (λ shown. some_is where_it_is.0 [] (sym where_it_is.1 ∙ ended rest later rest_is.0 rest_is.1 where_it_is.0 where_it_is.1 (spent shown))) in
         let events_are : events text limit ≡ at.answered = ap (λ t. events t limit) where_it_is.2 ∙ faulty.events in
-        let fault_is : fault_read text limit ≡ Some f = fault-all text limit at.answered at.built events_are ∙ ap (λ t. fault t limit) where_it_is.2 ∙ faulty.fault in
+        let fault_is : fault text limit ≡ Some f = ap (λ t. fault t limit) where_it_is.2 ∙ faulty.fault in
         record {
           fault_is = fault_is;
           written = subst (Appended agrees old mid)
-              (sym (reply-faulty b text limit f fault_is ∙ ap (history_blocks b) (read-all text limit at.answered at.built events_are))) at.written;
+              (sym (reply-faulty b text limit f fault_is ∙ ap (history_blocks b) events_are)) at.written;
+          took = record { taken = at.taken ++ more; behind = where_it_is.0; parts = where_it_is.2; rest_is = where_it_is.1; near = tells.near };
         }
 
     -- the source failed
@@ -157,7 +193,7 @@ module _ (b : Book) {S : Type 0} (agrees : S → List ℕ → Type 0) (old : S) 
     at-broken later next more moved tells = record {
       taken = at.taken ++ more;
       moved = Consumes-trans left rest later at.taken more at.moved moved;
-      written = subst (λ es. Appended agrees old mid (history_blocks b es)) (sym (read-all (at.taken ++ more) limit at.answered at.built tells.all)) at.written;
+      written = subst (λ es. Appended agrees old mid (history_blocks b es)) (sym tells.all) at.written;
     }
 
     -- the events of the text go on behind an event
@@ -169,57 +205,57 @@ module _ (b : Book) {S : Type 0} (agrees : S → List ℕ → Type 0) (old : S) 
         let begun = tells.begin where_it_is.0 in
         (begun.0, ap (λ t. events t limit) where_it_is.2 ∙ begun.1 ∙ append_assoc at.answered (e ∷ []) begun.0)
 
-    -- a line isn't read
-    pub at-refused : (new : S) (later : Option (List ℕ)) (next : ReaderState) (e : Event) (more : List ℕ) (f : RecordFault)
-        → Consumes rest later more → TellsEvent limit (at.taken ++ more) (at.answered ++ e ∷ []) next → HasRefused b agrees mid new e line f
-        → (text : Text) → left ≡ Some text → HasMetFault b agrees old new limit text f
-    at-refused new later next e more f moved tells has text is =
-        let on = onward text is later next e more moved tells in
-        let fault_is : fault_read text limit ≡ Some f = fault-until text limit at.answered at.built e on.0 has.unbuilt on.1
-        ∙ ap Some (ap (λ n. record { kind = Form; line = n }) (sym at.line_is) ∙ sym has.fault_is) in
-        record {
-          fault_is = fault_is;
-          written = subst (Appended agrees old new)
-              (sym (reply-faulty b text limit f fault_is ∙ ap (history_blocks b) (read-until text limit at.answered at.built e on.0 has.unbuilt on.1)))
-              (Appended-kept agrees old mid new (history_blocks b at.answered) at.written has.kept);
-        }
-
     -- writing a block failed
     pub at-unwritten : (new : S) (later : Option (List ℕ)) (next : ReaderState) (e : Event) (more : List ℕ)
-        → Consumes rest later more → TellsEvent limit (at.taken ++ more) (at.answered ++ e ∷ []) next → HasBegun b agrees mid new at.answered e
-        → (text : Text) → left ≡ Some text → AppendedPrefix agrees old new (reply_read b text limit)
-    unfolding reply_read
-    at-unwritten new later next e more moved tells has text is =
+        → Consumes rest later more → TellsEvent limit (at.taken ++ more) (at.answered ++ e ∷ []) next → settled next ≡ None → HasBegun b agrees mid new at.answered e
+        → (text : Text) → left ≡ Some text → HasStopped b agrees old new limit text later
+    unfolding reply
+    at-unwritten new later next e more moved tells unsettled has text is =
+        let where_it_is = here text is later more moved in
+        let through = went next.stage limit (at.taken ++ more) (at.answered ++ e ∷ []) next unsettled tells.reads in
         let on = onward text is later next e more moved tells in
-        let read : events_read text limit ≡ (at.answered ++ e ∷ []) ++ while_built on.0 = read-more text limit at.answered at.built e on.0 has.built on.1 in
-        let begun = history_blocks_begun b (at.answered ++ e ∷ []) (while_built on.0) in
-        let ends : Text = cond (is_none (fault_read text limit)) (end_line (tick_count (events_read text limit))) [] in
-        let whole : history_blocks b (events_read text limit) ++ ends ≡ (history_blocks b at.answered ++ has.more) ++ (begun.0 ++ ends) =
+        let read : events text limit ≡ (at.answered ++ e ∷ []) ++ on.0 = on.1 ∙ sym (append_assoc at.answered (e ∷ []) on.0) in
+        let begun = history_blocks_begun b (at.answered ++ e ∷ []) on.0 in
+        let ends : Text = cond (is_none (fault text limit)) (end_line (tick_count (events text limit))) [] in
+        let whole : history_blocks b (events text limit) ++ ends ≡ (history_blocks b at.answered ++ has.more) ++ (begun.0 ++ ends) =
         ap (λ es. history_blocks b es ++ ends) read ∙ ap (λ w. w ++ ends) (begun.1 ∙ ap (λ w. w ++ begun.0) has.blocks)
         ∙ append_assoc (history_blocks b at.answered ++ has.more) begun.0 ends in
-        subst (AppendedPrefix agrees old new) (sym whole)
-        (AppendedPrefix-longer agrees old new (history_blocks b at.answered ++ has.more) (begun.0 ++ ends)
-        (AppendedPrefix-after agrees old mid new (history_blocks b at.answered) has.more at.written has.written))
+        record {
+          written = subst (AppendedPrefix agrees old new) (sym whole)
+              (AppendedPrefix-longer agrees old new (history_blocks b at.answered ++ has.more) (begun.0 ++ ends)
+              (AppendedPrefix-after agrees old mid new (history_blocks b at.answered) has.more at.written has.written));
+          stops = inl (record {
+            taken = at.taken ++ more;
+            behind = where_it_is.0;
+            parts = where_it_is.2;
+            rest_is = where_it_is.1;
+            front = through.0;
+            near = through.1.near;
+            before = at.answered;
+            event = e;
+            events_are = through.1.answered_is;
+            block = has.more;
+            blocks = has.blocks;
+            stops = stopped new has.more has.written;
+          });
+        }
 
-    -- few Ticks were met, since each is a line
-    pub at-few : limit < 2 ^ 32 → tick_count at.answered < 2 ^ 63
+    -- few Ticks were met, and few moments, since each is a line
+    pub at-few : limit < 2 ^ 32 → ticks < 2 ^ 63
     unfolding tick_count
-    at-few small = omega (arith, at.few, small, count_by-le-length is_tick at.answered)
+    at-few small = omega (arith, at.few, small, at.ticks_are, count_by-le-length is_tick at.answered)
 
-    -- an event wasn't taken, or not written
-    pub at-stopped : (new : S) (later : Option (List ℕ)) (next : ReaderState) (fed : Replay) (e : Event) (more : List ℕ) (error : RunError)
-        → Consumes rest later more → TellsEvent limit (at.taken ++ more) (at.answered ++ e ∷ []) next → Feeds b agrees mid new at.answered e line fed (Err error)
-        → Runs b agrees old new limit left later (Err error)
-    at-stopped new later next fed e more Read moved tells fed_so = absurd fed_so
-    at-stopped new later next fed e more Write moved tells fed_so = at-unwritten new later next e more moved tells fed_so
-    at-stopped new later next fed e more (Record f) moved tells fed_so = at-refused new later next e more f moved tells fed_so
+    pub at-few-moments : limit < 2 ^ 32 → moments_of pair < 2 ^ 63
+    at-few-moments small = omega (arith, at.few, small, at.moments, moments-counted b at.answered pair at.stands)
 
     -- the line that ends the output is written, or a prefix of it
     pub at-finished : (new : S) (later : Option (List ℕ)) (next : ReaderState) (more : List ℕ) (result : Result ℕ RunError)
         → Consumes rest later more → TellsEnd limit (at.taken ++ more) at.answered next → IsSpent rest later
-        → IfOk result (λ n. n ≡ tick_count at.answered) → OnOk result (Appended agrees mid new (end_line (tick_count at.answered)))
-        → OnErr result (AppendedPrefix agrees mid new (end_line (tick_count at.answered))) → IfErr result (λ e. e ≡ Write)
-        → Runs b agrees old new limit left later result
-    at-finished new later next more (Ok n) moved tells spent count written part cause = at-end new later next more n moved tells spent count written
+        → IfOk result (λ n. n ≡ ticks) → OnOk result (Appended agrees mid new (end_line ticks))
+        → OnErr result (AppendedPrefix agrees mid new (end_line ticks)) → IfErr result (λ e. e ≡ Write)
+        → Runs b agrees old new pair limit left later result
+    at-finished new later next more (Ok n) moved tells spent count written part cause =
+        at-end new later next more n moved tells spent (count ∙ at.ticks_are) (subst (λ t. Appended agrees mid new (end_line t)) at.ticks_are written)
     at-finished new later next more (Err e) moved tells spent count written part cause =
-        subst (λ x. Runs b agrees old new limit left later (Err x)) (sym cause) (at-end-unwritten new later next more moved tells spent part)
+        subst (λ x. Runs b agrees old new pair limit left later (Err x)) (sym cause)
+        (at-end-unwritten new later next more moved tells spent (subst (λ t. AppendedPrefix agrees mid new (end_line t)) at.ticks_are part))

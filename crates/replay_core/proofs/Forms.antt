@@ -1,7 +1,7 @@
 -- Words by how many they are.
-use Rattle.std.proofs.Common.{◌≡◌, ◌≢◌, List, [], ◌∷◌, map, length, get_or, Some, None, refl, sym, ap, ◌∙◌, arith}
+use Rattle.std.proofs.Common.{◌≡◌, ◌≢◌, List, [], ◌∷◌, map, length, get_or, None, refl, sym, ap, ◌∙◌, arith}
 use Rattle.ecam_spec.specs.Book.{Text}
-use Rattle.ecam_spec.specs.Command.{command_of, check_form, replay_form, limit_form, no_limit}
+use Rattle.replay_core.specs.Command.{command_of, check_form, record_form, drill_form, limit_form}
 
 module _ {W : Type 0} (bytes : W → Text) where
   pub two_words : (ws : List W) (a b : W) → length ws ≡ 2 → a ≡ get_or ws 0 a → b ≡ get_or ws 1 b
@@ -14,26 +14,40 @@ module _ {W : Type 0} (bytes : W → Text) where
   two_words (x ∷ y ∷ z ∷ ws) a b long is_a is_b = absurd (let w : ⊥ = omega arith in w)
 
   pub three_words : (ws : List W) (a b c : W) → length ws ≡ 3 → a ≡ get_or ws 0 a → b ≡ get_or ws 1 b → c ≡ get_or ws 2 c
-      → command_of (map bytes ws) ≡ replay_form (bytes a) (bytes b) (bytes c) (Some no_limit)
+      → command_of (map bytes ws) ≡ record_form (bytes a) (bytes b) (bytes c)
   unfolding command_of
   three_words (x ∷ y ∷ z ∷ []) a b c long is_a is_b is_c =
-      ap (λ a. replay_form (bytes a) (bytes y) (bytes z) (Some no_limit)) (sym is_a)
-      ∙ ap (λ b. replay_form (bytes a) (bytes b) (bytes z) (Some no_limit)) (sym is_b)
-      ∙ ap (λ c. replay_form (bytes a) (bytes b) (bytes c) (Some no_limit)) (sym is_c)
+      ap (λ a. record_form (bytes a) (bytes y) (bytes z)) (sym is_a)
+      ∙ ap (λ b. record_form (bytes a) (bytes b) (bytes z)) (sym is_b)
+      ∙ ap (λ c. record_form (bytes a) (bytes b) (bytes c)) (sym is_c)
   three_words [] a b c long is_a is_b is_c = absurd (let w : ⊥ = omega arith in w)
   three_words (x ∷ []) a b c long is_a is_b is_c = absurd (let w : ⊥ = omega arith in w)
   three_words (x ∷ y ∷ []) a b c long is_a is_b is_c = absurd (let w : ⊥ = omega arith in w)
   three_words (x ∷ y ∷ z ∷ w ∷ ws) a b c long is_a is_b is_c = absurd (let w : ⊥ = omega arith in w)
 
+  pub four_words : (ws : List W) (a b c d : W) → length ws ≡ 4 → a ≡ get_or ws 0 a → b ≡ get_or ws 1 b → c ≡ get_or ws 2 c → d ≡ get_or ws 3 d
+      → command_of (map bytes ws) ≡ drill_form (bytes a) (bytes b) (bytes c) (bytes d)
+  unfolding command_of
+  four_words (w ∷ x ∷ y ∷ z ∷ []) a b c d long is_a is_b is_c is_d =
+      ap (λ a. drill_form (bytes a) (bytes x) (bytes y) (bytes z)) (sym is_a)
+      ∙ ap (λ b. drill_form (bytes a) (bytes b) (bytes y) (bytes z)) (sym is_b)
+      ∙ ap (λ c. drill_form (bytes a) (bytes b) (bytes c) (bytes z)) (sym is_c)
+      ∙ ap (λ d. drill_form (bytes a) (bytes b) (bytes c) (bytes d)) (sym is_d)
+  four_words [] a b c d long is_a is_b is_c is_d = absurd (let w : ⊥ = omega arith in w)
+  four_words (_ ∷ []) a b c d long is_a is_b is_c is_d = absurd (let w : ⊥ = omega arith in w)
+  four_words (_ ∷ _ ∷ []) a b c d long is_a is_b is_c is_d = absurd (let w : ⊥ = omega arith in w)
+  four_words (_ ∷ _ ∷ _ ∷ []) a b c d long is_a is_b is_c is_d = absurd (let w : ⊥ = omega arith in w)
+  four_words (_ ∷ _ ∷ _ ∷ _ ∷ _ ∷ _) a b c d long is_a is_b is_c is_d = absurd (let w : ⊥ = omega arith in w)
+
   pub five_words : (ws : List W) (a b c d e : W) → length ws ≡ 5 → a ≡ get_or ws 0 a → b ≡ get_or ws 1 b → c ≡ get_or ws 2 c → d ≡ get_or ws 3 d → e ≡ get_or ws 4 e
-      → command_of (map bytes ws) ≡ replay_form (bytes a) (bytes b) (bytes c) (limit_form (bytes d) (bytes e))
+      → command_of (map bytes ws) ≡ limit_form (bytes a) (bytes b) (bytes c) (bytes d) (bytes e)
   unfolding command_of
   five_words (v ∷ w ∷ x ∷ y ∷ z ∷ []) a b c d e long is_a is_b is_c is_d is_e =
-      ap (λ a. replay_form (bytes a) (bytes w) (bytes x) (limit_form (bytes y) (bytes z))) (sym is_a)
-      ∙ ap (λ b. replay_form (bytes a) (bytes b) (bytes x) (limit_form (bytes y) (bytes z))) (sym is_b)
-      ∙ ap (λ c. replay_form (bytes a) (bytes b) (bytes c) (limit_form (bytes y) (bytes z))) (sym is_c)
-      ∙ ap (λ d. replay_form (bytes a) (bytes b) (bytes c) (limit_form (bytes d) (bytes z))) (sym is_d)
-      ∙ ap (λ e. replay_form (bytes a) (bytes b) (bytes c) (limit_form (bytes d) (bytes e))) (sym is_e)
+      ap (λ a. limit_form (bytes a) (bytes w) (bytes x) (bytes y) (bytes z)) (sym is_a)
+      ∙ ap (λ b. limit_form (bytes a) (bytes b) (bytes x) (bytes y) (bytes z)) (sym is_b)
+      ∙ ap (λ c. limit_form (bytes a) (bytes b) (bytes c) (bytes y) (bytes z)) (sym is_c)
+      ∙ ap (λ d. limit_form (bytes a) (bytes b) (bytes c) (bytes d) (bytes z)) (sym is_d)
+      ∙ ap (λ e. limit_form (bytes a) (bytes b) (bytes c) (bytes d) (bytes e)) (sym is_e)
   five_words [] a b c d e long is_a is_b is_c is_d is_e = absurd (let w : ⊥ = omega arith in w)
   five_words (_ ∷ []) a b c d e long is_a is_b is_c is_d is_e = absurd (let w : ⊥ = omega arith in w)
   five_words (_ ∷ _ ∷ []) a b c d e long is_a is_b is_c is_d is_e = absurd (let w : ⊥ = omega arith in w)
@@ -42,12 +56,12 @@ module _ {W : Type 0} (bytes : W → Text) where
   five_words (_ ∷ _ ∷ _ ∷ _ ∷ _ ∷ _ ∷ _) a b c d e long is_a is_b is_c is_d is_e = absurd (let w : ⊥ = omega arith in w)
 
   -- any other number of words has no form
-  pub other_words : (ws : List W) → length ws ≢ 2 → length ws ≢ 3 → length ws ≢ 5 → command_of (map bytes ws) ≡ None
+  pub other_words : (ws : List W) → length ws ≢ 2 → length ws ≢ 3 → length ws ≢ 4 → length ws ≢ 5 → command_of (map bytes ws) ≡ None
   unfolding command_of
-  other_words [] two three five = refl
-  other_words (_ ∷ []) two three five = refl
-  other_words (_ ∷ _ ∷ []) two three five = absurd (two refl)
-  other_words (_ ∷ _ ∷ _ ∷ []) two three five = absurd (three refl)
-  other_words (_ ∷ _ ∷ _ ∷ _ ∷ []) two three five = refl
-  other_words (_ ∷ _ ∷ _ ∷ _ ∷ _ ∷ []) two three five = absurd (five refl)
-  other_words (_ ∷ _ ∷ _ ∷ _ ∷ _ ∷ _ ∷ _) two three five = refl
+  other_words [] two three four five = refl
+  other_words (_ ∷ []) two three four five = refl
+  other_words (_ ∷ _ ∷ []) two three four five = absurd (two refl)
+  other_words (_ ∷ _ ∷ _ ∷ []) two three four five = absurd (three refl)
+  other_words (_ ∷ _ ∷ _ ∷ _ ∷ []) two three four five = absurd (four refl)
+  other_words (_ ∷ _ ∷ _ ∷ _ ∷ _ ∷ []) two three four five = absurd (five refl)
+  other_words (_ ∷ _ ∷ _ ∷ _ ∷ _ ∷ _ ∷ _) two three four five = refl

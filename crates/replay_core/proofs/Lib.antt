@@ -1,16 +1,18 @@
 mod Blocks
-mod Limits
 mod Forms
-mod TitleRows
+mod Numbers
 mod Files
-mod Flags
-mod Steps
 mod Counts
-mod Alone
-mod Built
+mod Asked
+mod PictureRows
+mod PairMoments
 mod Endings
+mod Unchanged
+mod StandingLines
+mod Drilled
 pub mod Feeding
 pub mod BookFacts
 pub mod Loads
 pub mod Causes
 pub mod Decided
+pub mod Headlines

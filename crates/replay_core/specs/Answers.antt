@@ -1,138 +1,183 @@
 -- How the commands end: each ending with its cause, and what is written.
-use Rattle.std.specs.Prelude.{◌≡◌, ◌⊎◌, ℕ, ◌≤◌, ◌+◌, Bool, true, List, [], ◌++◌, Option, Some, None}
-use Rattle.ecam_io.specs.Outside.{raised, Rose, FileHas, Appended, AppendedPrefix, IsKept, file_named}
+use Rattle.std.specs.Prelude.{◌≡◌, ◌⊎◌, ℕ, true, [], ◌++◌, Option, Some, None}
+use Rattle.ecam_io.specs.Outside.{FileHas}
 use Rattle.ecam_spec.specs.declared.kinds.BookFault.{BookFault}
 use Rattle.ecam_spec.specs.declared.kinds.RecordFault.{RecordFault}
 use Rattle.ecam_spec.specs.Book.{Text, Book}
-use Rattle.ecam_spec.specs.Replay.{history_blocks}
+use Rattle.ecam_spec.specs.Record.{fault, events}
+use Rattle.ecam_spec.specs.Replay.{reply, standing_lines}
 use Rattle.ecam_spec.specs.Summary.{summary}
-use Rattle.ecam_spec.specs.Command.{Command, command_of, check, replay}
-use Rattle.ecam_spec.specs.Stage.{events_read, fault_read, reply_read}
-use Rattle.book_spec.specs.BookBytes.{book_fault}
-use Rattle.replay_core.specs.Replayed.{replay_fault}
-use Rattle.replay_core.specs.Loading.{Files, BookHas, ReplayedHas, HasFault, IsUnopened, IsUnread}
-use Rattle.replay_core.specs.declared.outcome.Status.{Status}
-use Rattle.replay_core.specs.declared.outcome.Status.TheVariants as statuses
+use Rattle.ecam_spec.specs.Command.{no_limit}
+use Rattle.replay_core.specs.Calls.{ShelfCall, OpenedOne, OpenedBoth, HasFailed, SinkCall, Writes, WritesPart, WritesNothing, HasFailedToWrite}
+use Rattle.replay_core.specs.Command.{Command, check, replay, why, drill}
+use Rattle.replay_core.specs.Drill.{drill_line}
+use Rattle.replay_core.specs.Loading.{BookHas, BookTaken, HasFault, IsUnopened, IsUnread}
+use Rattle.replay_core.specs.Play.{RepliesInPart}
+use Rattle.replay_core.specs.Runs.{TookNear, HasStopped}
 use Rattle.replay_core.specs.declared.outcome.Outcome.{Outcome}
 use Rattle.replay_core.specs.declared.outcome.Outcome.TheVariants as outcomes
 
--- ---- a check
+-- ---- a command that reads a book
 
-module _ (files : Files) (opens opens' faults faults' : ℕ) (is_open : Bool) (left : Option Text) {S : Type 0} (agrees : S → Text → Type 0) (out_faults out_faults' : ℕ) (old new : S) where
-  -- how the check of a book's file ends; `is_open` says whether a file is open then, and `left` what it has left
-  abbrev pub Checks : Text → Outcome → Type 0
-  Checks book outcomes.Done = BookHas files book (λ b. Appended agrees old new (summary b) × (left ≡ Some []))
-  Checks book outcomes.Usage = ⊥
-  Checks book (outcomes.BookRefused f) = FileHas files book (λ bytes. HasFault bytes f left) × IsKept agrees old new
-  Checks book (outcomes.RecordRefused f) = ⊥
-  Checks book outcomes.ReadFault = IsUnread files book faults faults' is_open left × IsKept agrees old new
-  Checks book outcomes.WriteFault = Rose out_faults out_faults' × BookHas files book (λ b. AppendedPrefix agrees old new (summary b) × (left ≡ Some []))
-  Checks book outcomes.NoMemory = (opens' ≤ opens + 1) × IsKept agrees old new
-
--- ---- a replay
-
--- the record has no fault, its whole reply is written, and it was read to its end
-pub record RepliesWhole {S : Type 0} (agrees : S → Text → Type 0) (old new : S) (limit : ℕ) (b : Book) (text : Text) (left : Option Text) : Type 0 where
-  pub faultless : fault_read text limit ≡ None
-  pub written : Appended agrees old new (reply_read b text limit)
-  pub spent : left ≡ Some []
-
--- the record has this fault, and its reply is written
-pub record RepliesTo {S : Type 0} (agrees : S → Text → Type 0) (old new : S) (limit : ℕ) (b : Book) (text : Text) (f : RecordFault) : Type 0 where
-  pub fault_is : fault_read text limit ≡ Some f
-  pub written : Appended agrees old new (reply_read b text limit)
-
--- the bytes of the record that came, which are those before what is left, have their blocks written
-pub record RepliesInPart {S : Type 0} (agrees : S → Text → Type 0) (old new : S) (limit : ℕ) (b : Book) (left : Option Text) (text : Text) : Type 0 where
-  pub taken : Text
-  pub behind : Text
-  pub part : text ≡ taken ++ behind
-  pub rest : left ≡ Some behind
-  pub written : Appended agrees old new (history_blocks b (events_read taken limit))
-
-module _ (files : Files) (faults faults' : ℕ) (is_open : Bool) (left : Option Text) {S : Type 0} (agrees : S → Text → Type 0) (out_faults out_faults' : ℕ) (old new : S) where
-  -- how a replay by a loaded book ends, where `faults` and `out_faults` were the counts of faults and `faults'` and `out_faults'` are
-  abbrev pub Plays : Book → Text → ℕ → Outcome → Type 0
-  Plays b record' limit outcomes.Done = FileHas files record' (λ text. RepliesWhole agrees old new limit b text left)
-  Plays b record' limit (outcomes.RecordRefused f) = FileHas files record' (λ text. RepliesTo agrees old new limit b text f)
-  Plays b record' limit outcomes.ReadFault =
-      (IsUnopened files record' faults faults' is_open left × IsKept agrees old new) ⊎ (Rose faults faults' × (is_open ≡ true) × FileHas files record' (RepliesInPart agrees old new limit b left))
-  Plays b record' limit outcomes.WriteFault =
-      Rose out_faults out_faults' × FileHas files record' (λ text. AppendedPrefix agrees old new (reply_read b text limit))
-  Plays b record' limit outcomes.Usage = ⊥
-  Plays b record' limit (outcomes.BookRefused f) = ⊥
-  Plays b record' limit outcomes.NoMemory = ⊥
-
-module _ (files : Files) (opens opens' faults faults' : ℕ) (is_open : Bool) (left : Option Text) {S : Type 0} (agrees : S → Text → Type 0) (out_faults out_faults' : ℕ) (old new : S) where
-  -- `open` was called once, for the book's file
-  abbrev pub OpenedOne : Type 0
-  OpenedOne = opens' ≡ raised opens
-
-  -- `open` was called once more, for the record's
-  abbrev pub OpenedBoth : Type 0
-  OpenedBoth = opens' ≡ raised (raised opens)
-
+module _ {S : Type 0} (f : ShelfCall) (out : SinkCall S) (book : Text) where
   -- the book's file wasn't read, and nothing is written
-  pub record BookUnread (book : Text) : Type 0 where
-    pub count : OpenedOne
-    pub unread : IsUnread files book faults faults' is_open left
-    pub kept : IsKept agrees old new
+  pub record BookUnread : Type 0 where
+    pub count : OpenedOne f
+    pub unread : IsUnread f book
+    pub kept : WritesNothing out
 
-  -- the book is one that a replay takes, the record's file couldn't be opened, and nothing is written
-  pub record RecordUnopened (book record' : Text) : Type 0 where
-    pub count : OpenedBoth
-    pub taken : ReplayedHas files book (λ b. Unit {0})
-    pub unopened : IsUnopened files record' faults faults' is_open left
-    pub kept : IsKept agrees old new
+  -- the book has this fault, and nothing is written
+  pub record BookFaulty (g : BookFault) : Type 0 where
+    pub count : OpenedOne f
+    pub faulty : FileHas f.files book (λ bytes. HasFault bytes g f.left)
+    pub kept : WritesNothing out
 
-  -- the record's file is open, and reading it failed; the blocks of the part that came are written
-  pub record RecordUnread (book record' : Text) (limit : ℕ) : Type 0 where
-    pub count : OpenedBoth
-    pub cause : Rose faults faults'
-    pub opened : is_open ≡ true
-    pub replies : ReplayedHas files book (λ b. FileHas files record' (RepliesInPart agrees old new limit b left))
+  -- there was too little memory, and nothing is written
+  pub record TooLittle : Type 0 where
+    pub count : OpenedOne f
+    pub took : BookTaken f.files book f.left
+    pub kept : WritesNothing out
 
-  -- writing failed, and a prefix of the reply is written
-  pub record NotWritten (book record' : Text) (limit : ℕ) : Type 0 where
-    pub count : OpenedBoth
-    pub cause : Rose out_faults out_faults'
-    pub replies : ReplayedHas files book (λ b. FileHas files record' (λ text. AppendedPrefix agrees old new (reply_read b text limit)))
+  -- the book has no fault, was read to its end, and this is written of it
+  pub record BookTold (writes : Book → Text) : Type 0 where
+    pub count : OpenedOne f
+    pub told : BookHas f.files book (λ b. Writes out (writes b) × (f.left ≡ Some []))
 
-  -- how a replay of these two files under this limit ends
-  abbrev pub Replays : Text → Text → ℕ → Outcome → Type 0
-  Replays book record' limit outcomes.Done = OpenedBoth × ReplayedHas files book (λ b. FileHas files record' (λ text. RepliesWhole agrees old new limit b text left))
-  Replays book record' limit outcomes.Usage = ⊥
-  Replays book record' limit (outcomes.BookRefused f) = OpenedOne × FileHas files book (λ bytes. replay_fault bytes ≡ Some f) × IsKept agrees old new
-  Replays book record' limit (outcomes.RecordRefused f) = OpenedBoth × ReplayedHas files book (λ b. FileHas files record' (λ text. RepliesTo agrees old new limit b text f))
-  Replays book record' limit outcomes.ReadFault = BookUnread book ⊎ (RecordUnopened book record' ⊎ RecordUnread book record' limit)
-  Replays book record' limit outcomes.WriteFault = NotWritten book record' limit
-  Replays book record' limit outcomes.NoMemory = (opens' ≤ opens + 1) × IsKept agrees old new
+  -- or a prefix of it is, and writing failed
+  pub record BookUntold (writes : Book → Text) : Type 0 where
+    pub count : OpenedOne f
+    pub cause : HasFailedToWrite out
+    pub told : BookHas f.files book (λ b. WritesPart out (writes b) × (f.left ≡ Some []))
 
-  -- how the program ends that has these words
+  -- how a command ends that writes this of a book
+  abbrev pub ByBook : (Book → Text) → Outcome → Type 0
+  ByBook writes outcomes.Done = BookTold writes
+  ByBook writes outcomes.Usage = ⊥
+  ByBook writes (outcomes.BookRefused g) = BookFaulty g
+  ByBook writes (outcomes.RecordRefused g) = ⊥
+  ByBook writes outcomes.ReadFault = BookUnread
+  ByBook writes outcomes.WriteFault = BookUntold writes
+  ByBook writes outcomes.NoMemory = TooLittle
+
+-- ---- a command that reads a record by a book
+
+-- what holds of the book, of the record's bytes and of what is left of them: where the record was read to its end, where
+-- it has this fault, where reading it failed, and where writing failed
+pub record Endings : Type 1 where
+  pub whole : Book → Text → Option Text → Type 0
+  pub refused : RecordFault → Book → Text → Option Text → Type 0
+  pub broken : Book → Text → Option Text → Type 0
+  pub stopped : Book → Text → Option Text → Type 0
+
+module _ {S : Type 0} (f : ShelfCall) (out : SinkCall S) (book record' : Text) where
+  -- the book has no fault, the record's file is there, and this holds of both
+  abbrev pub Both : (Book → Text → Option Text → Type 0) → Type 0
+  Both P = BookHas f.files book (λ b. FileHas f.files record' (λ text. P b text f.left))
+
+  -- both files were opened, and this holds of them
+  pub record Reached (P : Book → Text → Option Text → Type 0) : Type 0 where
+    pub count : OpenedBoth f
+    pub both : Both P
+
+  -- the book has no fault, the record's file couldn't be opened, and nothing is written
+  pub record RecordUnopened : Type 0 where
+    pub count : OpenedBoth f
+    pub accepted : BookHas f.files book (λ b. Unit {0})
+    pub unopened : IsUnopened f record'
+    pub kept : WritesNothing out
+
+  -- the record's file is open, and reading it failed
+  pub record RecordUnread (P : Book → Text → Option Text → Type 0) : Type 0 where
+    pub count : OpenedBoth f
+    pub cause : HasFailed f
+    pub opened : f.is_open ≡ true
+    pub both : Both P
+
+  -- writing failed
+  pub record NotWritten (P : Book → Text → Option Text → Type 0) : Type 0 where
+    pub count : OpenedBoth f
+    pub cause : HasFailedToWrite out
+    pub both : Both P
+
+  -- how a command ends that has these endings of its own
+  abbrev pub ByRecord : Endings → Outcome → Type 0
+  ByRecord e outcomes.Done = Reached e.whole
+  ByRecord e outcomes.Usage = ⊥
+  ByRecord e (outcomes.BookRefused g) = BookFaulty f out book g
+  ByRecord e (outcomes.RecordRefused g) = Reached (e.refused g)
+  ByRecord e outcomes.ReadFault = BookUnread f out book ⊎ (RecordUnopened ⊎ RecordUnread e.broken)
+  ByRecord e outcomes.WriteFault = NotWritten e.stopped
+  ByRecord e outcomes.NoMemory = TooLittle f out book
+
+-- ---- the endings of `replay`
+
+module _ {S : Type 0} (out : SinkCall S) (limit : ℕ) where
+  -- the record has no fault, its whole reply is written, and it was read to its end
+  pub record RepliesWhole (b : Book) (text : Text) (left : Option Text) : Type 0 where
+    pub faultless : fault text limit ≡ None
+    pub written : Writes out (reply b text limit)
+    pub spent : left ≡ Some []
+
+  -- the record has this fault, its reply is written, and no more than a piece was taken from the first wrong byte on
+  pub record RepliesTo (g : RecordFault) (b : Book) (text : Text) (left : Option Text) : Type 0 where
+    pub fault_is : fault text limit ≡ Some g
+    pub written : Writes out (reply b text limit)
+    pub took : TookNear limit text left
+
+  abbrev pub replaying : Endings
+  replaying = record {
+    whole = RepliesWhole;
+    refused = RepliesTo;
+    broken = RepliesInPart out limit;
+    stopped = λ b text left. HasStopped b out.agrees out.old out.new limit text left;
+  }
+
+-- ---- the endings of `why`
+
+module _ {S : Type 0} (out : SinkCall S) where
+  -- the record has no fault, where each alert stands after it is written, and it was read to its end
+  pub record Explains (b : Book) (text : Text) (left : Option Text) : Type 0 where
+    pub faultless : fault text no_limit ≡ None
+    pub written : Writes out (standing_lines b (events text no_limit))
+    pub spent : left ≡ Some []
+
+  -- or a prefix of it is written
+  pub record ExplainsInPart (b : Book) (text : Text) (left : Option Text) : Type 0 where
+    pub faultless : fault text no_limit ≡ None
+    pub written : WritesPart out (standing_lines b (events text no_limit))
+    pub spent : left ≡ Some []
+
+  -- the record has this fault, nothing is written, and no more than a piece was taken from the first wrong byte on
+  pub record ExplainsNothing (g : RecordFault) (b : Book) (text : Text) (left : Option Text) : Type 0 where
+    pub fault_is : fault text no_limit ≡ Some g
+    pub kept : WritesNothing out
+    pub took : TookNear no_limit text left
+
+  -- a part of the record came, that before what is left, and nothing is written
+  pub record BreaksOff (b : Book) (text : Text) (left : Option Text) : Type 0 where
+    pub taken : Text
+    pub behind : Text
+    pub part : text ≡ taken ++ behind
+    pub rest : left ≡ Some behind
+    pub kept : WritesNothing out
+
+  abbrev pub explaining : Endings
+  explaining = record { whole = Explains; refused = ExplainsNothing; broken = BreaksOff; stopped = ExplainsInPart }
+
+-- ---- the program
+
+module _ {S : Type 0} (f : ShelfCall) (out : SinkCall S) where
+  -- the words have none of the forms, nothing is opened, and nothing is written
+  pub record Refuses (outcome : Outcome) : Type 0 where
+    pub usage : outcome ≡ outcomes.Usage
+    pub opens : f.opens_now ≡ f.opens
+    pub faults : f.faults_now ≡ f.faults
+    pub kept : out.new ≡ out.old
+
+  -- how the program ends that was asked for this
   abbrev pub Ends : Option Command → Outcome → Type 0
-  Ends None outcome = (outcome ≡ outcomes.Usage) × (opens' ≡ opens) × (faults' ≡ faults) × (old ≡ new)
-  Ends (Some (check book)) outcome = Checks files opens opens' faults faults' is_open left agrees out_faults out_faults' old new book outcome × (opens' ≡ raised opens)
-  Ends (Some (replay book record' limit)) outcome = Replays book record' limit outcome
-
--- ---- which ending must come
-
--- one of two, but for want of memory
-abbrev pub IsButForMemory : Status → Status → Type 0
-IsButForMemory status result = (result ≡ status) ⊎ (result ≡ statuses.NoMemory)
-
--- where a shelf tells its files, and neither it nor the sink counted a fault, the words and the files say how the program ends
-pub record Decides (words : List Text) (files : List (Text × Text)) (result : Status) : Type 0 where
-  pub usage : command_of words ≡ None → result ≡ statuses.Usage
-  pub form : result ≡ statuses.Usage → command_of words ≡ None
-  pub check_refused : (book : Text) → command_of words ≡ Some (check book)
-      → (bytes : Text) → file_named files book ≡ Some bytes → (f : BookFault) → book_fault bytes ≡ Some f → IsButForMemory statuses.BookRefused result
-  pub checked : (book : Text) → command_of words ≡ Some (check book)
-      → (bytes : Text) → file_named files book ≡ Some bytes → book_fault bytes ≡ None → IsButForMemory statuses.Done result
-  pub replay_refused : (book record' : Text) (limit : ℕ) → command_of words ≡ Some (replay book record' limit)
-      → (bytes : Text) → file_named files book ≡ Some bytes → (f : BookFault) → replay_fault bytes ≡ Some f → IsButForMemory statuses.BookRefused result
-  pub record_refused : (book record' : Text) (limit : ℕ) → command_of words ≡ Some (replay book record' limit)
-      → (bytes : Text) → file_named files book ≡ Some bytes → replay_fault bytes ≡ None
-      → (text : Text) → file_named files record' ≡ Some text → (f : RecordFault) → fault_read text limit ≡ Some f → IsButForMemory statuses.RecordRefused result
-  pub replayed : (book record' : Text) (limit : ℕ) → command_of words ≡ Some (replay book record' limit)
-      → (bytes : Text) → file_named files book ≡ Some bytes → replay_fault bytes ≡ None
-      → (text : Text) → file_named files record' ≡ Some text → fault_read text limit ≡ None → IsButForMemory statuses.Done result
+  Ends None = Refuses
+  Ends (Some (check book)) = ByBook f out book summary
+  Ends (Some (replay book record' limit)) = ByRecord f out book record' (replaying out limit)
+  Ends (Some (why book record')) = ByRecord f out book record' (explaining out)
+  Ends (Some (drill book seed moments)) = ByBook f out book (drill_line seed moments)

@@ -1,30 +1,20 @@
 -- How loading a book ends, each ending with its cause.
-use Rattle.std.specs.Prelude.{◌≡◌, ◌⊎◌, ℕ, ◌≤◌, ◌<◌, ◌++◌, length, Bool, true, false, List, [], Option, Some, Result, Ok, Err, IsSomeAnd}
-use Rattle.ecam_io.specs.Outside.{Rose, FileHas, MayRefuse, IsClosed}
+use Rattle.std.specs.Prelude.{◌≡◌, ◌⊎◌, ℕ, ◌≤◌, ◌<◌, ◌++◌, length, true, false, [], Option, Some, Result, Ok, Err, IsSomeAnd}
+use Rattle.ecam_io.specs.Outside.{FileHas, MayRefuse, IsClosed}
 use Rattle.ecam_spec.specs.declared.kinds.BookFault.{BookFault}
 use Rattle.ecam_spec.specs.Book.{Text, Book}
-use Rattle.ecam_spec.specs.Titles.{is_title_book, IsTitleBook}
 use Rattle.book_spec.specs.BookBytes.{book_fault, book}
 use Rattle.book_model.specs.Sealed.{the_book}
 use Rattle.book_model.specs.declared.draft.Draft.{Draft}
-use Rattle.replay_core.specs.Standing.{Fits, Stands}
-use Rattle.replay_core.specs.Replayed.{unbuilt, replayed, replay_fault}
-use Rattle.replay_core.specs.declared.outcome.Outcome.{Outcome}
-use Rattle.replay_core.specs.declared.outcome.Outcome.TheVariants as outcomes
-use Rattle.replay_core.specs.declared.replay.Replay.{Replay}
+use Rattle.fwc_pair.specs.PairState.{PairFits}
+use Rattle.replay_core.specs.Calls.{Files, ShelfCall, HasFailed}
+use Rattle.replay_core.specs.declared.load.Unready.{Unready}
+use Rattle.replay_core.specs.declared.load.Unready.TheVariants.{Refused, Unread, NoMemory}
 use Rattle.replay_core.specs.declared.load.Loaded.{Loaded}
-
--- the files of a shelf that tells them
-abbrev pub Files : Type 0
-Files = Option (List (Text × Text))
 
 -- where a shelf tells its files, one has that name, and its bytes are a book of which P holds
 abbrev pub BookHas : Files → Text → (Book → Type 0) → Type 0
 BookHas files name P = FileHas files name (λ bytes. IsSomeAnd (book bytes) P)
-
--- such a book, which a replay takes
-abbrev pub ReplayedHas : Files → Text → (Book → Type 0) → Type 0
-ReplayedHas files name P = FileHas files name (λ bytes. IsSomeAnd (replayed bytes) P)
 
 -- the first bytes of a file, up to one more than a book may have, and what is left behind them; fewer come only where nothing is
 pub record IsFront (bytes front : Text) (left : Option Text) : Type 0 where
@@ -42,67 +32,47 @@ pub record TookAtMost (most : ℕ) (bytes : Text) (left : Option Text) : Type 0 
   pub rest : left ≡ Some behind
   pub few : length taken ≤ most
 
+-- where a shelf tells its files, one has that name, and at most one byte more than a book may have was taken of it
+abbrev pub BookTaken : Files → Text → Option Text → Type 0
+BookTaken files name left = FileHas files name (λ bytes. TookAtMost 4194305 bytes left)
+
 -- the bytes of a book's file have this fault, and it was read no further than one byte more than a book may have
 pub record HasFault (bytes : Text) (f : BookFault) (left : Option Text) : Type 0 where
   pub fault_is : book_fault bytes ≡ Some f
   pub took : TookAtMost 4194305 bytes left
 
--- the file couldn't be opened, and none is open
-pub record IsUnopened (files : Files) (name : Text) (before now : ℕ) (is_open : Bool) (left : Option Text) : Type 0 where
-  pub cause : MayRefuse files name before now
-  pub shut : is_open ≡ false
-  pub closed : IsClosed files left
+module _ (s : ShelfCall) (name : Text) where
+  -- the file couldn't be opened, and none is open
+  pub record IsUnopened : Type 0 where
+    pub cause : MayRefuse s.files name s.faults s.faults_now
+    pub shut : s.is_open ≡ false
+    pub closed : IsClosed s.files s.left
 
--- a book's file is open, and reading it failed, no further than one byte more than a book may have
-pub record IsBrokenOff (files : Files) (name : Text) (before now : ℕ) (is_open : Bool) (left : Option Text) : Type 0 where
-  pub cause : Rose before now
-  pub opened : is_open ≡ true
-  pub took : FileHas files name (λ bytes. TookAtMost 4194305 bytes left)
+  -- a book's file is open, and reading it failed, no further than one byte more than a book may have
+  pub record IsBrokenOff : Type 0 where
+    pub cause : HasFailed s
+    pub opened : s.is_open ≡ true
+    pub took : BookTaken s.files name s.left
 
--- a book's file wasn't read
-abbrev pub IsUnread : Files → Text → ℕ → ℕ → Bool → Option Text → Type 0
-IsUnread files name before now is_open left = IsUnopened files name before now is_open left ⊎ IsBrokenOff files name before now is_open left
+  -- a book's file wasn't read
+  abbrev pub IsUnread : Type 0
+  IsUnread = IsUnopened ⊎ IsBrokenOff
 
--- how loading a book ends, where the shelf's count of faults was `before` and is `now`; `is_open` says whether a file is open then, and `left` what it has left
-abbrev pub Loads : Files → Text → ℕ → ℕ → Bool → Option Text → Result Draft Outcome → Type 0
-Loads files name before now is_open left (Ok d) = BookHas files name (λ b. (b ≡ the_book d) × (left ≡ Some []))
-Loads files name before now is_open left (Err (outcomes.BookRefused f)) = FileHas files name (λ bytes. HasFault bytes f left)
-Loads files name before now is_open left (Err outcomes.ReadFault) = IsUnread files name before now is_open left
-Loads files name before now is_open left (Err outcomes.NoMemory) = Unit {0}
-Loads files name before now is_open left (Err outcomes.Done) = ⊥
-Loads files name before now is_open left (Err outcomes.Usage) = ⊥
-Loads files name before now is_open left (Err (outcomes.RecordRefused f)) = ⊥
-Loads files name before now is_open left (Err outcomes.WriteFault) = ⊥
+  -- how loading a book ends
+  abbrev pub Loads : Result Draft Unready → Type 0
+  Loads (Ok d) = BookHas s.files name (λ b. (b ≡ the_book d) × (s.left ≡ Some []))
+  Loads (Err (Refused f)) = FileHas s.files name (λ bytes. HasFault bytes f s.left)
+  Loads (Err Unread) = IsUnread
+  Loads (Err NoMemory) = BookTaken s.files name s.left
 
--- how making a replay by a book ends
-abbrev pub Prepares : Book → Result Replay Outcome → Type 0
-Prepares b (Ok r) = (is_title_book b ≡ true) × Fits b r × Stands b [] r
-Prepares b (Err (outcomes.BookRefused f)) = (f ≡ unbuilt) × (is_title_book b ≡ false)
-Prepares b (Err outcomes.NoMemory) = Unit {0}
-Prepares b (Err outcomes.Done) = ⊥
-Prepares b (Err outcomes.Usage) = ⊥
-Prepares b (Err (outcomes.RecordRefused f)) = ⊥
-Prepares b (Err outcomes.ReadFault) = ⊥
-Prepares b (Err outcomes.WriteFault) = ⊥
+  -- the book of the file stands ready to be replayed
+  pub record HasLoaded (l : Loaded) : Type 0 where
+    pub book : BookHas s.files name (λ b. (b ≡ the_book l.book) × (s.left ≡ Some []))
+    pub fits : PairFits (the_book l.book) l.pair
 
--- a replay by the book stands ready, and nothing came yet
-pub record IsReady (l : Loaded) : Type 0 where
-  pub titles : IsTitleBook (the_book l.book)
-  pub fits : Fits (the_book l.book) l.replay
-  pub stands : Stands (the_book l.book) [] l.replay
-
--- the book of the file stands ready
-pub record HasLoaded (files : Files) (name : Text) (l : Loaded) : Type 0 where
-  pub book : ReplayedHas files name (λ b. b ≡ the_book l.book)
-  pub ready : IsReady l
-
--- how loading a book to replay by it ends
-abbrev pub Readies : Files → Text → ℕ → ℕ → Bool → Option Text → Result Loaded Outcome → Type 0
-Readies files name before now is_open left (Ok l) = HasLoaded files name l
-Readies files name before now is_open left (Err (outcomes.BookRefused f)) = FileHas files name (λ bytes. replay_fault bytes ≡ Some f)
-Readies files name before now is_open left (Err outcomes.ReadFault) = IsUnread files name before now is_open left
-Readies files name before now is_open left (Err outcomes.NoMemory) = Unit {0}
-Readies files name before now is_open left (Err outcomes.Done) = ⊥
-Readies files name before now is_open left (Err outcomes.Usage) = ⊥
-Readies files name before now is_open left (Err (outcomes.RecordRefused f)) = ⊥
-Readies files name before now is_open left (Err outcomes.WriteFault) = ⊥
+  -- how loading a book to replay by it ends
+  abbrev pub Readies : Result Loaded Unready → Type 0
+  Readies (Ok l) = HasLoaded l
+  Readies (Err (Refused f)) = FileHas s.files name (λ bytes. HasFault bytes f s.left)
+  Readies (Err Unread) = IsUnread
+  Readies (Err NoMemory) = BookTaken s.files name s.left

@@ -1,10 +1,14 @@
 -- What a command that ends so tells on standard error, and the number with which the program ends.
-use Rattle.std.specs.Prelude.{◌⊎◌, ℕ, List, [], codes}
-use Rattle.ecam_io.specs.Outside.{Rose, Appended, AppendedPrefix}
+use Rattle.std.specs.Prelude.{◌≡◌, ◌⊎◌, ℕ, [], codes}
 use Rattle.ecam_spec.specs.Book.{Text}
 use Rattle.ecam_spec.specs.Command.{usage}
 use Rattle.ecam_spec.specs.Complaint.{book_complaint, record_complaint}
 use Rattle.ecam_spec.specs.Output.{line}
+use Rattle.replay_core.specs.Calls.{SinkCall, Writes, WritesPart, HasFailedToWrite}
+use Rattle.replay_core.specs.declared.load.Unready.{Unready}
+use Rattle.replay_core.specs.declared.load.Unready.TheVariants.{Refused, Unread, NoMemory}
+use Rattle.replay_core.specs.declared.replay.RunError.{RunError}
+use Rattle.replay_core.specs.declared.replay.RunError.TheVariants as runs
 use Rattle.replay_core.specs.declared.outcome.Status.{Status}
 use Rattle.replay_core.specs.declared.outcome.Status.TheVariants as statuses
 use Rattle.replay_core.specs.declared.outcome.Outcome.{Outcome}
@@ -37,7 +41,19 @@ status_code statuses.ReadFault = 4
 status_code statuses.WriteFault = 5
 status_code statuses.NoMemory = 6
 
--- the line was written, or writing failed and a prefix of it was
-abbrev pub Complains : {S : Type 0} → (S → List ℕ → Type 0) → ℕ → ℕ → S → S → Outcome → Type 0
-Complains agrees before now old new outcome =
-    Appended agrees old new (complaint outcome) ⊎ (Rose before now × AppendedPrefix agrees old new (complaint outcome))
+-- how the program ends where no book stands ready
+abbrev pub outcome_of : Unready → Outcome
+outcome_of (Refused f) = outcomes.BookRefused f
+outcome_of Unread = outcomes.ReadFault
+outcome_of NoMemory = outcomes.NoMemory
+
+-- how it ends where a replay didn't reach the record's end
+abbrev pub refusal_of : RunError → Outcome
+refusal_of runs.Read = outcomes.ReadFault
+refusal_of runs.Write = outcomes.WriteFault
+refusal_of (runs.Record f) = outcomes.RecordRefused f
+
+-- the line was written and no fault was counted, or writing failed and a prefix of it was
+abbrev pub Complains : {S : Type 0} → SinkCall S → Outcome → Type 0
+Complains err outcome =
+    (Writes err (complaint outcome) × (err.faults_now ≡ err.faults)) ⊎ (HasFailedToWrite err × WritesPart err (complaint outcome))

@@ -1,85 +1,133 @@
 -- What a replay, and a step of it, has written when it ends so.
-use Rattle.std.specs.Prelude.{◌≡◌, ℕ, ◌+◌, ◌*◌, ◌≤◌, true, false, List, [], ◌∷◌, ◌++◌, length, All, Option, Some, None, Result, Ok, Err}
-use Rattle.std.specs.List.{list_all}
+use Rattle.std.specs.Prelude.{◌≡◌, ◌⊎◌, ℕ, ◌+◌, ◌*◌, ◌≤◌, List, [], ◌∷◌, ◌++◌, length, All, Option, Some, None, Result, Ok, Err}
 use Rattle.std.specs.Io.KnownBytes.{Consumes}
-use Rattle.ecam_io.specs.Outside.{Appended, AppendedPrefix, IsKept}
+use Rattle.std.specs.Io.{StartsWith}
+use Rattle.ecam_io.specs.Outside.{ReadCall, Appended, AppendedPrefix}
 use Rattle.ecam_spec.specs.declared.kinds.Event.{Event}
-use Rattle.ecam_spec.specs.declared.kinds.FaultKind.TheVariants.{Form}
 use Rattle.ecam_spec.specs.declared.kinds.RecordFault.{RecordFault}
 use Rattle.ecam_spec.specs.Book.{Text, Book}
-use Rattle.ecam_spec.specs.Titles.{IsTitleEvent}
-use Rattle.ecam_spec.specs.Replay.{history_blocks, tick_count}
-use Rattle.ecam_spec.specs.Stage.{is_built, events_read, fault_read, reply_read}
+use Rattle.ecam_spec.specs.History.{era}
+use Rattle.ecam_spec.specs.Output.{end_line}
+use Rattle.ecam_spec.specs.Record.{fault, events}
+use Rattle.ecam_spec.specs.Replay.{history_blocks, tick_count, reply}
+use Rattle.fwc_pair.specs.PairState.{PairStands}
+use Rattle.fwc_pair.specs.declared.pair.Pair.{Pair}
 use Rattle.record_lines.specs.Reader.{ReaderState, room, settled}
-use Rattle.record_lines.specs.Reads.{Reads}
-use Rattle.replay_core.specs.Standing.{Stands}
-use Rattle.replay_core.specs.declared.replay.Replay.{Replay}
-use Rattle.replay_core.specs.declared.run.RunError.{RunError}
-use Rattle.replay_core.specs.declared.run.RunError.TheVariants.{Read, Write, Record}
+use Rattle.record_lines.specs.Reads.{Reads, IsNear, piece_call, GivesBytes, last_call}
+use Rattle.record_lines.specs.declared.outcome.LineError.TheVariants as line_errors
+use Rattle.replay_core.specs.declared.replay.RunError.{RunError}
+use Rattle.replay_core.specs.declared.replay.RunError.TheVariants.{Read, Write, Record}
+
+-- of a record these bytes were taken, those before what is left, and no more than a piece from the first wrong byte on
+pub record TookNear (limit : ℕ) (text : Text) (rest : Option (List ℕ)) : Type 0 where
+  pub taken : Text
+  pub behind : Text
+  pub parts : text ≡ taken ++ behind
+  pub rest_is : rest ≡ Some behind
+  pub near : IsNear limit taken
+
+-- what an ending tells of the last call of `read`
+abbrev pub IsLast : Result ℕ RunError → List ReadCall → Type 0
+IsLast (Ok ticks) last = last ≡ piece_call (Some 0) ∷ []
+IsLast (Err Read) last = last ≡ piece_call None ∷ []
+IsLast (Err Write) last = (last ≡ []) ⊎ (last ≡ piece_call (Some 0) ∷ [])
+IsLast (Err (Record f)) last = last ≡ last_call (Err (line_errors.Record f))
+
+-- a replay that ends so called `read` so: each call asked for a piece and gave some bytes, but for the last that the ending tells of
+pub record HasAsked (result : Result ℕ RunError) (calls : List ReadCall) : Type 0 where
+  pub pieces : List ReadCall
+  pub last : List ReadCall
+  pub full : All GivesBytes pieces
+  pub calls_are : calls ≡ pieces ++ last
+  pub last_is : IsLast result last
 
 module _ (b : Book) {S : Type 0} (agrees : S → List ℕ → Type 0) (old new : S) where
-  -- the record was read to its end, and its whole output is written
-  pub record HasRun (limit : ℕ) (text : Text) (rest : Option (List ℕ)) (ticks : ℕ) : Type 0 where
-    pub faultless : fault_read text limit ≡ None
-    pub ticks_are : ticks ≡ tick_count (events_read text limit)
-    pub written : Appended agrees old new (reply_read b text limit)
+  -- the record was read to its end, its whole output is written, and the pair stands where it ends
+  pub record HasRun (pair : Pair) (limit : ℕ) (text : Text) (rest : Option (List ℕ)) (ticks : ℕ) : Type 0 where
+    pub faultless : fault text limit ≡ None
+    pub ticks_are : ticks ≡ tick_count (events text limit)
+    pub written : Appended agrees old new (reply b text limit)
     pub spent : rest ≡ Some []
+    pub stands : PairStands b (events text limit) pair
 
-  -- the record has this fault, and its reply is written
-  pub record HasMetFault (limit : ℕ) (text : Text) (f : RecordFault) : Type 0 where
-    pub fault_is : fault_read text limit ≡ Some f
-    pub written : Appended agrees old new (reply_read b text limit)
+  -- the record has this fault, its reply is written, and no more than a piece was taken from the first wrong byte on
+  pub record HasMetFault (limit : ℕ) (text : Text) (rest : Option (List ℕ)) (f : RecordFault) : Type 0 where
+    pub fault_is : fault text limit ≡ Some f
+    pub written : Appended agrees old new (reply b text limit)
+    pub took : TookNear limit text rest
+
+  -- all that stands before is written, and a prefix of what follows
+  pub record StopsIn (before follows : Text) : Type 0 where
+    pub part : Text
+    pub prefix : StartsWith follows part
+    pub written : Appended agrees old new (before ++ part)
+
+  -- The block of an event wasn't written whole, and all before it is. The bytes taken are those before what is left, and
+  -- no more than a piece was taken behind the line of that event.
+  pub record StopsAtEvent (limit : ℕ) (text : Text) (rest : Option (List ℕ)) : Type 0 where
+    pub taken : Text
+    pub behind : Text
+    pub parts : text ≡ taken ++ behind
+    pub rest_is : rest ≡ Some behind
+    pub front : Text
+    pub near : length taken ≤ length front + 4096
+    pub before : List Event
+    pub event : Event
+    pub events_are : events front limit ≡ before ++ event ∷ []
+    pub block : Text
+    pub blocks : history_blocks b (before ++ event ∷ []) ≡ history_blocks b before ++ block
+    pub stops : StopsIn (history_blocks b before) block
+
+  -- the record was read to its end, and the line that ends the output wasn't written whole
+  pub record StopsAtEnd (limit : ℕ) (text : Text) (rest : Option (List ℕ)) : Type 0 where
+    pub spent : rest ≡ Some []
+    pub stops : StopsIn (history_blocks b (events text limit)) (end_line (tick_count (events text limit)))
+
+  -- writing failed: a prefix of the reply is written, and nothing was read after it
+  pub record HasStopped (limit : ℕ) (text : Text) (rest : Option (List ℕ)) : Type 0 where
+    pub written : AppendedPrefix agrees old new (reply b text limit)
+    pub stops : StopsAtEvent limit text rest ⊎ StopsAtEnd limit text rest
 
   -- the blocks of the bytes that came are written
   pub record HasBroken (limit : ℕ) (left rest : Option (List ℕ)) : Type 0 where
     pub taken : List ℕ
     pub moved : Consumes left rest taken
-    pub written : Appended agrees old new (history_blocks b (events_read taken limit))
+    pub written : Appended agrees old new (history_blocks b (events taken limit))
 
   -- how a replay of a source ends, where it tells what it has left
-  abbrev pub Runs : ℕ → Option (List ℕ) → Option (List ℕ) → Result ℕ RunError → Type 0
-  Runs limit left rest (Ok ticks) = (text : Text) → left ≡ Some text → HasRun limit text rest ticks
-  Runs limit left rest (Err Read) = HasBroken limit left rest
-  Runs limit left rest (Err Write) = (text : Text) → left ≡ Some text → AppendedPrefix agrees old new (reply_read b text limit)
-  Runs limit left rest (Err (Record f)) = (text : Text) → left ≡ Some text → HasMetFault limit text f
+  abbrev pub Runs : Pair → ℕ → Option (List ℕ) → Option (List ℕ) → Result ℕ RunError → Type 0
+  Runs pair limit left rest (Ok ticks) = (text : Text) → left ≡ Some text → HasRun pair limit text rest ticks
+  Runs pair limit left rest (Err Read) = HasBroken limit left rest
+  Runs pair limit left rest (Err Write) = (text : Text) → left ≡ Some text → HasStopped limit text rest
+  Runs pair limit left rest (Err (Record f)) = (text : Text) → left ≡ Some text → HasMetFault limit text rest f
 
   -- an event was taken, and what it writes is written
-  pub record HasFed (h : List Event) (e : Event) (replay : Replay) : Type 0 where
-    pub built : is_built e ≡ true
-    pub stands : Stands b (h ++ e ∷ []) replay
+  pub record HasFed (h : List Event) (e : Event) (pair : Pair) (ticks : ℕ) : Type 0 where
+    pub stands : PairStands b (h ++ e ∷ []) pair
+    pub ticks_are : ticks ≡ tick_count (h ++ e ∷ [])
     pub more : Text
     pub blocks : history_blocks b (h ++ e ∷ []) ≡ history_blocks b h ++ more
     pub written : Appended agrees old new more
 
   -- a prefix of what it writes is written
   pub record HasBegun (h : List Event) (e : Event) : Type 0 where
-    pub built : is_built e ≡ true
     pub more : Text
     pub blocks : history_blocks b (h ++ e ∷ []) ≡ history_blocks b h ++ more
     pub written : AppendedPrefix agrees old new more
 
-  -- the event isn't read, and nothing is written
-  pub record HasRefused (e : Event) (line : ℕ) (f : RecordFault) : Type 0 where
-    pub unbuilt : is_built e ≡ false
-    pub fault_is : f ≡ record { kind = Form; line = line }
-    pub kept : IsKept agrees old new
-
-  abbrev pub Feeds : List Event → Event → ℕ → Replay → Result (Unit {0}) RunError → Type 0
-  Feeds h e line replay (Ok _) = HasFed h e replay
-  Feeds h e line replay (Err Read) = ⊥
-  Feeds h e line replay (Err Write) = HasBegun h e
-  Feeds h e line replay (Err (Record f)) = HasRefused e line f
+  abbrev pub Feeds : {E : Type 0} → List Event → Event → Pair → ℕ → Result (Unit {0}) E → Type 0
+  Feeds h e pair ticks (Ok _) = HasFed h e pair ticks
+  Feeds h e pair ticks (Err _) = HasBegun h e
 
   -- where a replay is between two lines: these bytes came, and these events were taken
-  pub record IsAt (limit : ℕ) (left rest : Option (List ℕ)) (reader : ReaderState) (replay : Replay) (line : ℕ) : Type 0 where
+  pub record IsAt (limit : ℕ) (left rest : Option (List ℕ)) (reader : ReaderState) (pair : Pair) (ticks : ℕ) : Type 0 where
     pub taken : List ℕ
     pub answered : List Event
     pub moved : Consumes left rest taken
     pub reads : Reads limit taken answered reader
     pub unsettled : settled reader ≡ None
-    pub titles : All IsTitleEvent answered
-    pub built : list_all is_built answered ≡ true
-    pub stands : Stands b answered replay
+    pub stands : PairStands b answered pair
+    pub ticks_are : ticks ≡ tick_count answered
     pub written : Appended agrees old new (history_blocks b answered)
-    pub line_is : line ≡ length answered + 1
+    pub moments : length (era answered).moments ≤ length answered
     pub few : 2 * length answered + room reader ≤ limit

@@ -1,8 +1,18 @@
 -- What a command of the program asks for, as the definitions speak of it.
-use Rattle.ecam_spec.specs.Command as spec
+use Rattle.std.specs.Prelude.{◌≤◌}
+use Rattle.replay_core.specs.Command as spec
 use Rattle.replay_core.specs.declared.words.Command.{Command}
-use Rattle.replay_core.specs.declared.words.Command.TheVariants.{Check, Replay}
+use Rattle.replay_core.specs.declared.words.Command.TheVariants.{Check, Replay, Why, Drill}
 
 abbrev pub asked : Command → spec.Command
 asked (Check book) = spec.check book.now
 asked (Replay book record' limit) = spec.replay book.now record'.now limit
+asked (Why book record') = spec.why book.now record'.now
+asked (Drill book seed moments) = spec.drill book.now seed moments
+
+-- a drill has at most a million moments
+abbrev pub IsShort : Command → Type 0
+IsShort (Drill book seed moments) = moments ≤ 1000000
+IsShort (Check book) = Unit {0}
+IsShort (Replay book record' limit) = Unit {0}
+IsShort (Why book record') = Unit {0}

@@ -1,9 +1,11 @@
 // The block that a Tick writes: the rows that changed.
-ghost use Rattle.std.specs.Prelude.{◌≡◌, ◌≤◌, ◌<◌, ◌+◌, ◌^◌, ◌*◌, ◌++◌, [], ◌∷◌, length, decimal, slice_index_or, map, ℕ, List, if◌then◌else◌};
+ghost use Rattle.std.specs.Prelude.{◌≡◌, ◌≤◌, ◌<◌, ◌+◌, ◌^◌, ◌*◌, ◌++◌, [], ◌∷◌, length, decimal, slice_index_or, map, ℕ, Bool, List, if◌then◌else◌};
+ghost use Rattle.std.specs.List.{list_any};
 ghost use Rattle.std.specs.Borrow.{Bor};
 ghost use Rattle.ecam_spec.specs.Picture as spec;
 ghost use Rattle.ecam_spec.specs.Output as output;
 ghost use Rattle.ecam_kinds.specs.Shown.{row_of, rows_of, picture_of};
+ghost use Rattle.replay_core.specs.Flagged.{flagged_lines, NamesRows};
 
 use arrayvec::ArrayVec;
 use ecam_kinds::{Colour, Picture, ROWS, Row};
@@ -35,24 +37,16 @@ fn letter_of(colour: Colour) -> &'static str
     }
 }
 
-fn is_same(old: &Row, new: &Row) -> bool
-    ensures { result ≡ spec.same_row (row_of old.now) (row_of new.now) }
+// Whether a flag is set.
+fn has_any(flags: &[bool]) -> bool
+    ensures { result ≡ list_any (λ f. f) flags.now }
 {
-    letter_of(old.colour) == letter_of(new.colour) && old.text.as_slice() == new.text.as_slice()
-}
-
-// Whether no row changed.
-fn are_same(old: &[Row], new: &[Row]) -> bool
-    requires old { length old.now ≡ ROWS }
-    requires new { length new.now ≡ ROWS }
-    ensures { result ≡ spec.same_picture (rows_of old.now) (rows_of new.now) }
-{
-    for i in 0..ROWS {
-        if !is_same(&old[i], &new[i]) {
-            return false;
+    for i in 0..flags.len() {
+        if flags[i] {
+            return true;
         }
     }
-    true
+    false
 }
 
 // Appends bytes for which there is room.
@@ -66,7 +60,8 @@ pub(crate) fn put<const CAP: usize>(out: &mut ArrayVec<u8, CAP>, bytes: &[u8])
 // Appends a row's colour letter and its text.
 fn put_text(out: &mut Block, row: &Row)
     requires { length out.old.items + 42 ≤ BLOCK }
-    ensures text { out.new.items ≡ out.old.items ++ output.row_text row.now.colour row.now.text.items }
+    ensures text { out.new.items ≡ out.old.items
+        ++ output.row_text row.now.colour row.now.text.items }
     ensures short { length out.new.items ≤ length out.old.items + 42 }
 {
     let colour = row.colour;
@@ -91,15 +86,16 @@ fn put_row(out: &mut Block, name: &str, row: &Row)
     put(out, b"\n");
 }
 
-// Appends the line of a row that changed.
-fn put_change(out: &mut Block, name: &str, old: &Row, new: &Row)
+// Appends the line of a row if it changed.
+fn put_change(out: &mut Block, name: &str, changed: bool, row: &Row)
     requires room { length out.old.items + 47 ≤ BLOCK }
     requires name { length name.now ≤ 3 }
-    ensures line { out.new.items ≡ out.old.items ++ (if spec.same_row (row_of old.now) (row_of new.now) then [] else output.row_line name.now (row_of new.now)) }
+    ensures line { out.new.items ≡ out.old.items
+        ++ (if changed then output.row_line name.now (row_of row.now) else []) }
     ensures short { length out.new.items ≤ length out.old.items + 47 }
 {
-    if !is_same(old, new) {
-        put_row(out, name, new);
+    if changed {
+        put_row(out, name, row);
     }
 }
 
@@ -132,27 +128,29 @@ fn put_number(out: &mut Block, tick: u64)
     put(out, b"\n");
 }
 
-// Appends the lines of the rows that changed.
-fn put_changes(out: &mut Block, old: &[Row], new: &[Row])
+// Appends the lines of the rows whose flag is set.
+fn put_changes(out: &mut Block, changed: &[bool], rows: &[Row])
     requires room { length out.old.items + 47 * ROWS ≤ BLOCK }
-    requires old { length old.now ≡ ROWS }
-    requires new { length new.now ≡ ROWS }
-    ensures { out.new.items ≡ out.old.items ++ output.changed_lines output.row_names (rows_of old.now) (rows_of new.now) }
+    requires changed { length changed.now ≡ ROWS }
+    requires rows { length rows.now ≡ ROWS }
+    ensures { out.new.items ≡ out.old.items
+        ++ flagged_lines output.row_names changed.now (rows_of rows.now) }
 {
     for i in 0..ROWS {
-        put_change(out, name_of(i), &old[i], &new[i]);
+        put_change(out, name_of(i), changed[i], &rows[i]);
     }
 }
 
-// Appends the block of Tick number `tick`, whose picture is `new` where that of the Tick before was `old`. Its cost is
-// a comparison of each row, and a copy of each that changed.
-pub(crate) fn put_block(out: &mut Block, tick: u64, old: &Picture, new: &Picture)
+// Appends the block of Tick number `tick`, whose picture is this one and which changed the rows whose flag is set. Its
+// cost is a look at each flag, and a copy of each row that changed.
+pub(crate) fn put_block(out: &mut Block, tick: u64, picture: &Picture, changed: &[bool; ROWS])
     requires { length out.old.items + 42 + 47 * ROWS ≤ BLOCK }
-    ensures { out.new.items ≡ out.old.items ++ output.block tick (picture_of old.now) (picture_of new.now) }
+    ensures { (old : spec.Picture) → NamesRows old (picture_of picture.now) changed.now
+        → out.new.items ≡ out.old.items ++ output.block tick old (picture_of picture.now) }
 {
-    if are_same(&old.rows, &new.rows) {
+    if !has_any(changed) {
         return;
     }
     put_number(out, tick);
-    put_changes(out, &old.rows, &new.rows);
+    put_changes(out, changed, &picture.rows);
 }

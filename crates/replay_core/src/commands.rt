@@ -1,30 +1,39 @@
 // The commands of the program.
-ghost use Rattle.std.specs.Prelude.{◌≡◌, ◌≤◌, List, Option, Some, map, string_bytes};
-ghost use Rattle.ecam_io.specs.Outside.{Rose};
-ghost use Rattle.ecam_spec.specs.Command.{command_of};
-ghost use Rattle.replay_core.specs.Outcomes.{status_of, Complains};
-ghost use Rattle.book_model.specs.Sealed.{the_book};
-ghost use Rattle.std.specs.Prelude.{OnOk, OnErr};
-ghost use Rattle.ecam_io.specs.Outside.{raised, Appended, AppendedPrefix};
+ghost use Rattle.std.specs.Prelude.{◌≡◌, ◌≢◌, ◌≤◌, List, Some, map, string_bytes, OnOk, OnErr};
+ghost use Rattle.ecam_io.specs.Outside.{raised, Rose, Appended, AppendedPrefix};
+ghost use Rattle.ecam_spec.specs.declared.kinds.Event.{Event};
+ghost use Rattle.ecam_spec.specs.Book as plain;
 ghost use Rattle.ecam_spec.specs.Summary as spec;
-ghost use Rattle.replay_core.specs.Loading.{IsReady};
-ghost use Rattle.replay_core.specs.Answers.{Checks, Plays, Replays, Ends, Decides};
+ghost use Rattle.book_model.specs.Sealed.{the_book};
+ghost use Rattle.replay_core.specs.Answers.{ByBook, ByRecord, Ends, replaying, explaining};
+ghost use Rattle.replay_core.specs.Calls.{shelf_call, sink_call, HasFailed, HasFailedToWrite, Writes};
+ghost use Rattle.replay_core.specs.Command.{command_of};
+ghost use Rattle.replay_core.specs.Decides.{Decides, DecidesUsage};
+ghost use Rattle.replay_core.specs.Headline.{Replays, all_changes};
+ghost use Rattle.replay_core.specs.Outcomes.{status_of, refusal_of, Complains};
+ghost use Rattle.replay_core.specs.Play.{Tells};
+ghost use Rattle.fwc_pair.specs.PairState.{PairFits};
 ghost use Rattle.replay_core.specs.declared.outcome.Outcome.{Outcome as Ending};
 
+use crate::drill::drill;
 use crate::load::{Loaded, load, load_book};
 use crate::outcome::{Outcome, Status};
-use crate::run::{RunError, run};
+use crate::play::play;
+use crate::replay::RunError;
+use crate::standings::put_standings;
 use crate::summary::summary;
 use crate::words::{Command, parse};
 use book_model::Book;
-use ecam_io::{Failed, Shelf, Sink, put_all};
+use ecam_io::{Discard, Failed, Shelf, Sink, put_all};
 use std::alloc::Global;
 
-/// Runs the command that the words ask for, and answers how the program ends. `words` are the command line's,
-/// without the program's name. `check BOOK` writes to `out` how much the file's book has. `replay BOOK RECORD
-/// [--limit N]` replays the record of the one file by the book of the other, which today must be one of titles, and
-/// writes the blocks of changes. Why the program ends otherwise than `Done` stands as one line on `err`. All memory
-/// is taken before the record is opened.
+/// Runs the command that the words ask for, and answers how the program ends. `words` are the command line's, without
+/// the program's name. `check BOOK` writes to `out` how much the file's book has. `replay BOOK RECORD [--limit N]`
+/// replays the record of the one file by the book of the other, and writes the blocks of changes. `why BOOK RECORD`
+/// replays it too, and writes where each alert stands at the record's end. `drill BOOK SEED MOMENTS` replays the
+/// record that is made of a seed and a number of moments, and writes how much the output has. Why the program ends
+/// otherwise than `Done` stands as one line on `err`. All memory is taken before the record is opened. `Done` comes
+/// only where none of the three counted a fault in this call.
 pub fn ecam<F: Shelf, O: Sink, E: Sink>(
     alloc: Global,
     words: &[String],
@@ -32,16 +41,32 @@ pub fn ecam<F: Shelf, O: Sink, E: Sink>(
     out: &mut O,
     err: &mut E,
 ) -> Status
+    // By an accepted book, the bytes written of a record that is read to its end are exactly the changes between the
+    // pictures that the book's definitions give for the whole history, and the line that ends it.
+    ensures headline { (b : plain.Book) (history : List Event) → result ≡ Status.Done
+        → Replays (F.files files.old) (map string_bytes words.now) b history
+        → Writes (sink_call O.Sink out.old out.new) (all_changes b history) }
+
+    // Each ending of each command has its cause, and says what is written.
     ensures ends { (ending : Ending) × (result ≡ status_of ending)
-        × Ends (F.files files.old) (F.opens files.old) (F.opens files.new) (F.faults files.old) (F.faults files.new) (F.is_open files.new) (F.left files.new) O.agrees (O.faults out.old) (O.faults out.new) out.old out.new
+        × Ends (shelf_call F.Source files.old files.new) (sink_call O.Sink out.old out.new)
         (command_of (map string_bytes words.now)) ending
-        × Complains E.agrees (E.faults err.old) (E.faults err.new) err.old err.new ending }
-    ensures decides { (told : _) → F.files files.old ≡ Some told → (Rose (F.faults files.old) (F.faults files.new) → ⊥) → (Rose (O.faults out.old) (O.faults out.new) → ⊥)
+        × Complains (sink_call E.Sink err.old err.new) ending }
+
+    // The words alone decide on `Usage`, and the words and the files on the rest where nothing failed.
+    ensures usage { DecidesUsage (map string_bytes words.now) result }
+    ensures decides { (told : _) → F.files files.old ≡ Some told
+        → (HasFailed (shelf_call F.Source files.old files.new) → ⊥)
+        → (HasFailedToWrite (sink_call O.Sink out.old out.new) → ⊥)
         → Decides (map string_bytes words.now) told result }
+
     ensures files { F.files files.new ≡ F.files files.old }
     ensures faults { F.faults files.old ≤ F.faults files.new }
+    ensures quiet { result ≢ Status.ReadFault → F.faults files.new ≡ F.faults files.old }
     ensures out_faults { O.faults out.old ≤ O.faults out.new }
+    ensures out_quiet { result ≢ Status.WriteFault → O.faults out.new ≡ O.faults out.old }
     ensures err_faults { E.faults err.old ≤ E.faults err.new }
+    ensures err_quiet { result ≡ Status.Done → E.faults err.new ≡ E.faults err.old }
 {
     let outcome = answer(alloc, words, files, out);
     outcome.tell(err);
@@ -49,11 +74,13 @@ pub fn ecam<F: Shelf, O: Sink, E: Sink>(
 }
 
 fn answer<F: Shelf, O: Sink>(alloc: Global, words: &[String], files: &mut F, out: &mut O) -> Outcome
-    ensures ends { Ends (F.files files.old) (F.opens files.old) (F.opens files.new) (F.faults files.old) (F.faults files.new) (F.is_open files.new) (F.left files.new) O.agrees (O.faults out.old) (O.faults out.new) out.old out.new
+    ensures ends { Ends (shelf_call F.Source files.old files.new) (sink_call O.Sink out.old out.new)
         (command_of (map string_bytes words.now)) result }
     ensures files { F.files files.new ≡ F.files files.old }
     ensures faults { F.faults files.old ≤ F.faults files.new }
+    ensures quiet { result ≢ Outcome.ReadFault → F.faults files.new ≡ F.faults files.old }
     ensures out_faults { O.faults out.old ≤ O.faults out.new }
+    ensures out_quiet { result ≢ Outcome.WriteFault → O.faults out.new ≡ O.faults out.old }
 {
     match parse(words) {
         Some(Command::Check { book }) => check_file(alloc, book, files, out),
@@ -64,39 +91,63 @@ fn answer<F: Shelf, O: Sink>(alloc: Global, words: &[String], files: &mut F, out
                 limit,
             },
         ) => replay_files(alloc, book, record, limit, files, out),
+        Some(Command::Why { book, record }) => explain_files(alloc, book, record, files, out),
+        Some(
+            Command::Drill {
+                book,
+                seed,
+                moments,
+            },
+        ) => drill(alloc, book, seed, moments, files, out),
         None => Outcome::Usage,
     }
 }
 
 // Checks the book of a file, and writes how much it has.
 fn check_file<F: Shelf, O: Sink>(alloc: Global, name: &str, files: &mut F, out: &mut O) -> Outcome
-    ensures checks { Checks (F.files files.old) (F.opens files.old) (F.opens files.new) (F.faults files.old) (F.faults files.new) (F.is_open files.new) (F.left files.new) O.agrees (O.faults out.old) (O.faults out.new) out.old out.new
-        name.now result }
-    ensures opens { F.opens files.new ≡ raised (F.opens files.old) }
+    ensures checks { ByBook (shelf_call F.Source files.old files.new)
+        (sink_call O.Sink out.old out.new)
+        name.now spec.summary result }
     ensures files { F.files files.new ≡ F.files files.old }
     ensures faults { F.faults files.old ≤ F.faults files.new }
+    ensures quiet { result ≢ Outcome.ReadFault → F.faults files.new ≡ F.faults files.old }
     ensures out_faults { O.faults out.old ≤ O.faults out.new }
+    ensures out_quiet { result ≢ Outcome.WriteFault → O.faults out.new ≡ O.faults out.old }
 {
     match load_book(alloc, files, name) {
         Ok(book) => match put_summary(&book, out) {
             Ok(()) => Outcome::Done,
             Err(Failed) => Outcome::WriteFault,
         },
-        Err(outcome) => outcome,
+        Err(unready) => unready.outcome(),
     }
 }
 
 // Writes how much a book has.
 fn put_summary<O: Sink>(book: &Book, out: &mut O) -> Result<(), Failed>
-    ensures all { OnOk result (Appended O.agrees out.old out.new (spec.summary (the_book book.now))) }
-    ensures prefix { OnErr result (AppendedPrefix O.agrees out.old out.new (spec.summary (the_book book.now))) }
+    ensures all { OnOk result (Appended O.agrees out.old out.new
+        (spec.summary (the_book book.now))) }
+    ensures prefix { OnErr result (AppendedPrefix O.agrees out.old out.new
+        (spec.summary (the_book book.now))) }
     ensures faults { O.faults out.old ≤ O.faults out.new }
+    ensures quiet { OnOk result (O.faults out.new ≡ O.faults out.old) }
     ensures cause { OnErr result (Rose (O.faults out.old) (O.faults out.new)) }
 {
     put_all(out, summary(book).as_slice())
 }
 
-// Replays one file by the book of another.
+// How the program ends whose replay didn't reach the record's end.
+fn refusal(error: RunError) -> Outcome
+    ensures { result ≡ refusal_of error }
+{
+    match error {
+        RunError::Read => Outcome::ReadFault,
+        RunError::Write => Outcome::WriteFault,
+        RunError::Record(fault) => Outcome::RecordRefused(fault),
+    }
+}
+
+// Replays one file by the book of another, and writes the blocks of changes.
 fn replay_files<F: Shelf, O: Sink>(
     alloc: Global,
     book_name: &str,
@@ -105,42 +156,63 @@ fn replay_files<F: Shelf, O: Sink>(
     files: &mut F,
     out: &mut O,
 ) -> Outcome
-    ensures replays { Replays (F.files files.old) (F.opens files.old) (F.opens files.new) (F.faults files.old) (F.faults files.new) (F.is_open files.new) (F.left files.new) O.agrees (O.faults out.old) (O.faults out.new) out.old out.new
-        book_name.now record_name.now limit result }
+    ensures replays { ByRecord (shelf_call F.Source files.old files.new)
+        (sink_call O.Sink out.old out.new)
+        book_name.now record_name.now (replaying (sink_call O.Sink out.old out.new) limit) result }
     ensures files { F.files files.new ≡ F.files files.old }
     ensures faults { F.faults files.old ≤ F.faults files.new }
+    ensures quiet { result ≢ Outcome.ReadFault → F.faults files.new ≡ F.faults files.old }
     ensures out_faults { O.faults out.old ≤ O.faults out.new }
+    ensures out_quiet { result ≢ Outcome.WriteFault → O.faults out.new ≡ O.faults out.old }
 {
     match load(alloc, files, book_name) {
-        Ok(mut loaded) => play(&mut loaded, record_name, limit, files, out),
-        Err(outcome) => outcome,
+        Ok(mut loaded) => match play(&mut loaded, record_name, limit, files, out) {
+            Ok(_) => Outcome::Done,
+            Err(error) => refusal(error),
+        },
+        Err(unready) => unready.outcome(),
     }
 }
 
-// Opens the record, and replays it by the loaded book.
-fn play<F: Shelf, O: Sink>(
-    loaded: &mut Loaded,
+// Replays one file by the book of another, and writes where each alert stands at the end.
+fn explain_files<F: Shelf, O: Sink>(
+    alloc: Global,
+    book_name: &str,
     record_name: &str,
-    limit: u32,
     files: &mut F,
     out: &mut O,
 ) -> Outcome
-    requires { IsReady loaded.old }
-    ensures plays { Plays (F.files files.old) (F.faults files.old) (F.faults files.new) (F.is_open files.new) (F.left files.new) O.agrees (O.faults out.old) (O.faults out.new) out.old out.new
-        (the_book loaded.old.book) record_name.now limit result }
-    ensures opens { F.opens files.new ≡ raised (F.opens files.old) }
+    ensures explains { ByRecord (shelf_call F.Source files.old files.new)
+        (sink_call O.Sink out.old out.new)
+        book_name.now record_name.now (explaining (sink_call O.Sink out.old out.new)) result }
     ensures files { F.files files.new ≡ F.files files.old }
     ensures faults { F.faults files.old ≤ F.faults files.new }
+    ensures quiet { result ≢ Outcome.ReadFault → F.faults files.new ≡ F.faults files.old }
     ensures out_faults { O.faults out.old ≤ O.faults out.new }
+    ensures out_quiet { result ≢ Outcome.WriteFault → O.faults out.new ≡ O.faults out.old }
 {
-    match files.open(record_name) {
-        Ok(()) => {}
-        Err(Failed) => return Outcome::ReadFault,
+    match load(alloc, files, book_name) {
+        Ok(mut loaded) => {
+            let mut dropped = Discard;
+            match play(&mut loaded, record_name, u32::MAX, files, &mut dropped) {
+                Ok(_) => explain(&loaded, out),
+                Err(error) => refusal(error),
+            }
+        }
+        Err(unready) => unready.outcome(),
     }
-    match run(&loaded.book, &mut loaded.replay, limit, files, out) {
-        Ok(_) => Outcome::Done,
-        Err(RunError::Read) => Outcome::ReadFault,
-        Err(RunError::Write) => Outcome::WriteFault,
-        Err(RunError::Record(fault)) => Outcome::RecordRefused(fault),
+}
+
+// Writes where each alert stands, and tells whether that was done.
+fn explain<O: Sink>(loaded: &Loaded, out: &mut O) -> Outcome
+    requires { PairFits (the_book loaded.now.book) loaded.now.pair }
+    ensures explains { Tells
+        (sink_call O.Sink out.old out.new) (the_book loaded.now.book) loaded.now.pair result }
+    ensures out_faults { O.faults out.old ≤ O.faults out.new }
+    ensures out_quiet { result ≢ Outcome.WriteFault → O.faults out.new ≡ O.faults out.old }
+{
+    match put_standings(loaded, out) {
+        Ok(()) => Outcome::Done,
+        Err(Failed) => Outcome::WriteFault,
     }
 }

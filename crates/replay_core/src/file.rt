@@ -1,8 +1,9 @@
 // Reads a file whole, as far as a book may go.
-ghost use Rattle.std.specs.Prelude.{◌≡◌, ◌≤◌, ◌<◌, ◌+◌, length, IfOk, Some, Err};
+ghost use Rattle.std.specs.Prelude.{◌≡◌, ◌≢◌, ◌≤◌, ◌<◌, ◌+◌, length, IfOk, Some, Err};
 ghost use Rattle.ecam_io.specs.Outside.{raised, Rose, FileHas};
 ghost use Rattle.ecam_spec.specs.Book.{Text};
-ghost use Rattle.replay_core.specs.Loading.{IsFront, IsUnread, TookAtMost};
+ghost use Rattle.replay_core.specs.Calls.{shelf_call};
+ghost use Rattle.replay_core.specs.Loading.{IsFront, IsUnread, TookAtMost, BookTaken};
 ghost use Rattle.replay_core.specs.declared.file.FileError.{FileError};
 ghost use Rattle.replay_core.specs.declared.file.FileError.TheVariants.{Failed as Unreadable, Memory};
 
@@ -43,8 +44,13 @@ pub(crate) fn read_book_file<F: Shelf>(
     files: &mut F,
     name: &str,
 ) -> Result<Vec<u8>, FileError>
-    ensures front { IfOk result (λ v. FileHas (F.files files.old) name.now (λ bytes. IsFront bytes v.items (F.left files.new))) }
-    ensures failed { result ≡ Err Unreadable → IsUnread (F.files files.old) name.now (F.faults files.old) (F.faults files.new) (F.is_open files.new) (F.left files.new) }
+    ensures front { IfOk result (λ v. FileHas (F.files files.old) name.now
+        (λ bytes. IsFront bytes v.items (F.left files.new))) }
+    ensures failed { result ≡ Err Unreadable
+        → IsUnread (shelf_call F.Source files.old files.new) name.now }
+    ensures took { result ≢ Err Unreadable
+        → BookTaken (F.files files.old) name.now (F.left files.new) }
+    ensures quiet { result ≢ Err Unreadable → F.faults files.new ≡ F.faults files.old }
     ensures files { F.files files.new ≡ F.files files.old }
     ensures opens { F.opens files.new ≡ raised (F.opens files.old) }
     ensures faults { F.faults files.old ≤ F.faults files.new }
@@ -55,9 +61,12 @@ pub(crate) fn read_book_file<F: Shelf>(
 
 // The first bytes that a source has left.
 fn read_up_to<S: Source>(alloc: Global, source: &mut S) -> Result<Vec<u8>, FileError>
-    ensures front { IfOk result (λ v. (bytes : Text) → S.left source.old ≡ Some bytes → IsFront bytes v.items (S.left source.new)) }
+    ensures front { IfOk result (λ v. (bytes : Text) → S.left source.old ≡ Some bytes
+        → IsFront bytes v.items (S.left source.new)) }
     ensures failed { result ≡ Err Unreadable → Rose (S.faults source.old) (S.faults source.new) }
-    ensures took { result ≡ Err Unreadable → (bytes : Text) → S.left source.old ≡ Some bytes → TookAtMost 4194305 bytes (S.left source.new) }
+    ensures took { (bytes : Text) → S.left source.old ≡ Some bytes
+        → TookAtMost 4194305 bytes (S.left source.new) }
+    ensures quiet { result ≢ Err Unreadable → S.faults source.new ≡ S.faults source.old }
     ensures is_open { S.is_open source.new ≡ S.is_open source.old }
     ensures files { S.files source.new ≡ S.files source.old }
     ensures opens { S.opens source.new ≡ S.opens source.old }

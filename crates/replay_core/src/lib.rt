@@ -1,19 +1,21 @@
-//! The program's commands: the check of a book, and the replay of a record by it.
+//! The program's commands: the check of a book, the replay of a record by it, where each alert stands at a record's
+//! end, and the replay of a made record.
 #![tactic(auto)]
 
 mod block;
 mod commands;
+mod drill;
 mod file;
 mod load;
 mod outcome;
+mod play;
 mod replay;
-mod run;
-mod stage;
+mod standings;
 mod summary;
 #[cfg(test)]
 mod tests;
-mod titles;
 mod words;
 
 pub use commands::ecam;
 pub use outcome::Status;
+pub use replay::{RunError, run};

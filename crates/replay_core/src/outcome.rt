@@ -1,7 +1,7 @@
 // How a command ends, and what it tells on standard error.
 ghost use Rattle.std.specs.Prelude.{◌≡◌, ◌≤◌, ◌<◌, ◌+◌, ◌++◌, length, codes, decimal};
-ghost use Rattle.ecam_io.specs.Outside.{Rose};
 ghost use Rattle.ecam_spec.specs.Complaint.{section_word, kind_word, code_text, book_complaint, record_complaint};
+ghost use Rattle.replay_core.specs.Calls.{sink_call};
 ghost use Rattle.replay_core.specs.Outcomes.{complaint, status_of, status_code, Complains};
 
 use crate::block::put;
@@ -78,7 +78,8 @@ impl Outcome {
 
     // Writes its line. Where that fails, nothing follows from it.
     pub(crate) fn tell<E: Sink>(self, err: &mut E)
-        ensures told { Complains E.agrees (E.faults err.old) (E.faults err.new) err.old err.new self }
+        ensures told { Complains (sink_call E.Sink err.old err.new) self }
+        ensures quiet { self ≡ Outcome.Done → E.faults err.new ≡ E.faults err.old }
         ensures faults { E.faults err.old ≤ E.faults err.new }
     {
         let _ = put_all(err, self.line().as_slice());

@@ -1,10 +1,13 @@
 // That the definitions of the command say what its guides say, on whole books and records.
 ghost use Rattle.std.specs.Prelude.{◌<◌};
 
+mod books;
 mod checks;
 mod failures;
 mod faults;
+mod limits;
 mod replays;
+mod rows;
 
 use super::*;
 use ecam_io::{MemoryFile, MemoryShelf, MemorySink};

@@ -1,9 +1,9 @@
 // The words of the command line, read by hand.
-ghost use Rattle.std.specs.Prelude.{◌≡◌, map, string_bytes, option_map};
-ghost use Rattle.ecam_spec.specs.Command.{command_of, check_form, replay_form, limit_form, limit_of};
-ghost use Rattle.replay_core.specs.Words.{asked};
+ghost use Rattle.std.specs.Prelude.{◌≡◌, ◌≤◌, map, string_bytes, option_map, IfSome};
+ghost use Rattle.replay_core.specs.Command.{command_of, check_form, record_form, drill_form, limit_form, number_of};
+ghost use Rattle.replay_core.specs.Words.{asked, IsShort};
 
-// What the words ask for, with the names of files and the limit on a record's bytes.
+// What the words ask for, with the names of files and the numbers.
 pub(crate) enum Command<'a> {
     Check {
         book: &'a str,
@@ -13,38 +13,52 @@ pub(crate) enum Command<'a> {
         record: &'a str,
         limit: u32,
     },
+    Why {
+        book: &'a str,
+        record: &'a str,
+    },
+    Drill {
+        book: &'a str,
+        seed: u64,
+        moments: u32,
+    },
 }
 
 // The command, if the words have one of the forms.
 pub(crate) fn parse(words: &[String]) -> Option<Command<'_>>
-    ensures { option_map asked result ≡ command_of (map string_bytes words.now) }
+    ensures asks { option_map asked result ≡ command_of (map string_bytes words.now) }
+    ensures short { IfSome result IsShort }
 {
     let count = words.len();
     if count == 2 {
         return parse_check(words[0].as_str(), words[1].as_str());
     }
     if count == 3 {
-        return parse_replay(
+        return parse_record(words[0].as_str(), words[1].as_str(), words[2].as_str());
+    }
+    if count == 4 {
+        return parse_drill(
             words[0].as_str(),
             words[1].as_str(),
             words[2].as_str(),
-            Some(u32::MAX),
+            words[3].as_str(),
         );
     }
     if count == 5 {
-        let limit = parse_option(words[3].as_str(), words[4].as_str());
-        return parse_replay(
+        return parse_limited(
             words[0].as_str(),
             words[1].as_str(),
             words[2].as_str(),
-            limit,
+            words[3].as_str(),
+            words[4].as_str(),
         );
     }
     None
 }
 
 fn parse_check<'a>(form: &str, book: &'a str) -> Option<Command<'a>>
-    ensures { option_map asked result ≡ check_form form.now book.now }
+    ensures asks { option_map asked result ≡ check_form form.now book.now }
+    ensures short { IfSome result IsShort }
 {
     if form == "check" {
         Some(Command::Check { book })
@@ -53,51 +67,93 @@ fn parse_check<'a>(form: &str, book: &'a str) -> Option<Command<'a>>
     }
 }
 
-fn parse_replay<'a>(
+fn parse_record<'a>(form: &str, book: &'a str, record_name: &'a str) -> Option<Command<'a>>
+    ensures asks { option_map asked result ≡ record_form form.now book.now record_name.now }
+    ensures short { IfSome result IsShort }
+{
+    if form == "replay" {
+        return Some(Command::Replay {
+            book,
+            record: record_name,
+            limit: u32::MAX,
+        });
+    }
+    if form == "why" {
+        return Some(Command::Why {
+            book,
+            record: record_name,
+        });
+    }
+    None
+}
+
+fn parse_drill<'a>(form: &str, book: &'a str, seed: &str, moments: &str) -> Option<Command<'a>>
+    ensures asks { option_map asked result ≡ drill_form form.now book.now seed.now moments.now }
+    ensures short { IfSome result IsShort }
+{
+    if form != "drill" {
+        return None;
+    }
+    match (
+        parse_number(seed, 20, u64::MAX),
+        parse_number(moments, 7, 1_000_000),
+    ) {
+        (Some(seed), Some(moments)) => Some(Command::Drill {
+            book,
+            seed,
+            moments: moments as u32,
+        }),
+        (Some(_), None) => None,
+        (None, _) => None,
+    }
+}
+
+fn parse_limited<'a>(
     form: &str,
     book: &'a str,
     record_name: &'a str,
-    limit: Option<u32>,
+    option: &str,
+    limit: &str,
 ) -> Option<Command<'a>>
-    ensures { option_map asked result ≡ replay_form form.now book.now record_name.now limit }
+    ensures asks { option_map asked result
+        ≡ limit_form form.now book.now record_name.now option.now limit.now }
+    ensures short { IfSome result IsShort }
 {
     if form != "replay" {
         return None;
     }
-    match limit {
+    if option != "--limit" {
+        return None;
+    }
+    match parse_number(limit, 10, u64::from(u32::MAX)) {
         Some(limit) => Some(Command::Replay {
             book,
             record: record_name,
-            limit,
+            limit: limit as u32,
         }),
         None => None,
     }
 }
 
-fn parse_option(option: &str, limit: &str) -> Option<u32>
-    ensures { result ≡ limit_form option.now limit.now }
-{
-    if option == "--limit" {
-        parse_limit(limit)
-    } else {
-        None
-    }
-}
-
-// A limit: 1 to 10 decimal digits, and at most 4294967295.
-fn parse_limit(word: &str) -> Option<u32>
-    ensures { result ≡ limit_of word.now }
+// A number in decimal digits, so many at most, that isn't larger than `most`.
+fn parse_number(word: &str, longest: usize, most: u64) -> Option<u64>
+    requires { longest ≤ 20 }
+    ensures number { result ≡ number_of longest most word.now }
+    ensures most { IfSome result (λ n. n ≤ most) }
 {
     let digits = word.as_bytes();
-    if digits.is_empty() || digits.len() > 10 {
+    if digits.is_empty() || digits.len() > longest {
         return None;
     }
-    let mut limit: u64 = 0;
+    let mut number: u128 = 0;
     for digit in digits {
         if !digit.is_ascii_digit() {
             return None;
         }
-        limit = limit * 10 + u64::from(*digit - b'0');
+        number = number * 10 + u128::from(*digit - b'0');
     }
-    u32::try_from(limit).ok()
+    if number > u128::from(most) {
+        return None;
+    }
+    Some(number as u64)
 }

@@ -4,3 +4,9 @@ pub mod Members
 pub mod Atoms
 pub mod Arms
 pub mod Fresh
+pub mod Stays
+pub mod Alone
+pub mod Settling
+pub mod Staying
+pub mod Rest
+pub mod Later

@@ -1,77 +1,101 @@
 // The memory of all conditions, and the call that steps one.
-ghost use Rattle.std.specs.Prelude.{◌≡◌, ℕ, suc, ◌+◌, ◌<◌, ◌≤◌, List, length, slice_index, IfOk};
+ghost use Rattle.std.specs.Prelude.{◌≡◌, ℕ, suc, ◌+◌, ◌-◌, ◌^◌, ◌<◌, ◌≤◌, min, length, IfOk};
 ghost use Rattle.ecam_spec.specs.Term.{World, holds};
-ghost use Rattle.ecam_spec.specs.TermSize.{slots};
+ghost use Rattle.ecam_spec.specs.TermSize.{slots, nodes};
 ghost use Rattle.ecam_spec.specs.TermNames.{IsWithin};
 ghost use Rattle.term_tree.specs.View.{tree_of};
+ghost use Rattle.term_eval.specs.CellWords.{cell_at};
 ghost use Rattle.term_eval.specs.CellState.{Stand, StandForNone};
+ghost use Rattle.term_eval.specs.Due.{staying, IsDue};
 ghost use Rattle.term_eval.specs.Shown.{Shows};
 
 use crate::env::Env;
+use crate::memory::Cell;
+use crate::turn::Turn;
 use crate::walk::step;
 use std::alloc::{AllocError, Global};
+use std::boxed::BoxedSlice;
 use std::marker::Model;
 use term_tree::Cond;
 
-/// What conditions remember from moment to moment: one number for each slot, whatever the bound of its node and
-/// the length of the history.
+/// What conditions remember from moment to moment: a few bytes for each slot, whatever the bound of its node and
+/// the length of the history. It can't grow after it was made.
 #[derive(Drop)]
 pub struct Cells {
-    cells: Vec<u32>,
+    cells: BoxedSlice<Cell>,
+    visits: u64,
 }
 
 impl Model for Cells {
-    ghost use Rattle.std.specs.Prelude.{ℕ, List};
+    ghost use Rattle.std.specs.Box.{boxed_slice_items};
+    ghost use Rattle.term_eval.specs.Memory.{Memory};
 
-    ghost Value = { List ℕ };
+    ghost Value = { Memory };
 
-    ghost view = { λ c. c.cells.items };
+    ghost view = { λ c. record { slots = boxed_slice_items c.cells; visits = c.visits } };
 }
 
 impl Cells {
     /// Cells for so many slots, which stand for no moment. An error is want of memory.
     pub fn new(alloc: Global, slots: usize) -> Result<Cells, AllocError>
-        ensures len { IfOk result (λ cells. length cells ≡ slots) }
-        ensures stands { IfOk result StandForNone }
+        ensures len { IfOk result (λ cells. length cells.slots ≡ slots) }
+        ensures stands { IfOk result (λ cells. StandForNone cells.slots) }
+        ensures visits { IfOk result (λ cells. cells.visits ≡ 0) }
     {
         Ok(Cells {
-            cells: vec![in alloc; 0; slots]?,
+            cells: vec![in alloc; Cell::Off; slots]?.into_boxed_slice(),
+            visits: 0,
         })
     }
 
     /// Forgets all moments. Its cost is that of one write a slot.
     pub fn clear(&mut self)
-        ensures len { length self.new ≡ length self.old }
-        ensures stands { StandForNone self.new }
+        ensures len { length self.new.slots ≡ length self.old.slots }
+        ensures stands { StandForNone self.new.slots }
+        ensures visits { self.new.visits ≡ self.old.visits }
     {
-        self.cells.fill(0);
+        self.cells.as_mut_slice().fill(Cell::Off);
     }
 
-    /// Takes over what the other cells hold, of which there are as many.
+    /// Takes over what the other cells hold, of which there are as many, but for the count of visits.
     pub fn copy_from(&mut self, other: &Cells)
-        requires { length self.old ≡ length other.now }
-        ensures { self.new ≡ other.now }
+        requires { length self.old.slots ≡ length other.now.slots }
+        ensures slots { self.new.slots ≡ other.now.slots }
+        ensures visits { self.new.visits ≡ self.old.visits }
     {
         self.cells.copy_from_slice(&other.cells);
     }
 
-    /// Steps a condition, whose slots begin at `at`, by one moment, and answers whether it holds in that moment.
-    /// Every node is stepped, whatever the others answer, and no slot but the condition's own changes. The cost is
-    /// one visit of each node, whatever the bounds of its temporal nodes and the length of the history.
-    pub fn refresh(&mut self, cond: &Cond, at: usize, env: &Env) -> bool
-        requires range { at + slots (tree_of cond.now) ≤ length self.old }
+    /// How many nodes of conditions these cells were stepped for since they were made, up to 2^64 - 1.
+    pub fn visits(&self) -> u64
+        ensures { result ≡ self.now.visits }
+    {
+        self.visits
+    }
+
+    /// Steps a condition, whose slots start at `at`, by the moment of number `now`, and tells whether it holds in that
+    /// moment and when it turns by itself. Every node is stepped, whatever the others answer, and no slot but the
+    /// condition's own changes. The cost is one visit of each node, whatever the bounds of its temporal nodes and
+    /// the length of the history.
+    pub fn refresh(&mut self, cond: &Cond, at: usize, env: &Env, now: u64) -> Turn
+        requires range { at + slots (tree_of cond.now) ≤ length self.old.slots }
         requires names { IsWithin (length env.now.values.now) (length env.now.active.now) (tree_of cond.now) }
         requires first { 1 ≤ env.now.phase.number }
         requires last { env.now.phase.number ≤ 10 }
-        ensures truth { (w : World) (k : ℕ) → Shows env.now w k → Stand w k (tree_of cond.now) at self.old
-            → result ≡ holds w (tree_of cond.now) k }
-        ensures stands { (w : World) (k : ℕ) → Shows env.now w k → Stand w k (tree_of cond.now) at self.old
-            → Stand w (suc k) (tree_of cond.now) at self.new }
-        ensures before { (i : ℕ) → i < at → slice_index self.new i ≡ slice_index self.old i }
-        ensures behind { (i : ℕ) → at + slots (tree_of cond.now) ≤ i → slice_index self.new i ≡ slice_index self.old i }
-        ensures len { length self.new ≡ length self.old }
+        requires now { now < 2 ^ 63 }
+        ensures truth { (w : World) → Shows env.now w now → Stand w now (tree_of cond.now) at self.old.slots
+            → result.holds ≡ holds w (tree_of cond.now) now }
+        ensures due { (w : World) → Shows env.now w now → Stand w now (tree_of cond.now) at self.old.slots
+            → IsDue (staying w now) (tree_of cond.now) now result.due }
+        ensures stands { (w : World) → Shows env.now w now → Stand w now (tree_of cond.now) at self.old.slots
+            → Stand w (suc now) (tree_of cond.now) at self.new.slots }
+        ensures before { (i : ℕ) → i < at → cell_at self.new.slots i ≡ cell_at self.old.slots i }
+        ensures behind { (i : ℕ) → at + slots (tree_of cond.now) ≤ i
+            → cell_at self.new.slots i ≡ cell_at self.old.slots i }
+        ensures len { length self.new.slots ≡ length self.old.slots }
+        ensures visits { self.new.visits ≡ min (self.old.visits + nodes (tree_of cond.now)) (2 ^ 64 - 1) }
     {
         let mut next = at;
-        step(cond, &mut self.cells, &mut next, env)
+        step(cond, &mut self.cells, &mut next, &mut self.visits, env, now)
     }
 }

@@ -41,7 +41,7 @@ fn answers(alloc: Global, cond: &Cond, a: usize, b: usize) -> Result<[bool; 5], 
             one_up: true,
             two_up: true,
         };
-        found[moment] = cells.refresh(cond, 0, &env);
+        found[moment] = cells.refresh(cond, 0, &env, moment as u64).holds;
     }
     Ok(found)
 }
@@ -81,6 +81,47 @@ fn rises(rt: HostRuntime) -> Result<(), Fail> {
     Ok(())
 }
 
+// When a condition is due by itself, seen from the moment of its last operand's change: a `conf` of two moments, a `hold` of
+// three after its operand ended, a `rise`, and the sooner of two.
+#[test]
+fn tells_when_it_is_due(rt: HostRuntime) -> Result<(), Fail> {
+    let alloc = rt.alloc();
+    let confirmed = Cond::Conf(Box::new(alloc, Cond::Disc(A))?, 2);
+    assert_eq!(rt; dues(alloc, &confirmed)?, [u64::MAX, 3, 3, u64::MAX]);
+    let lately = Cond::Hold(Box::new(alloc, Cond::Disc(B))?, 3);
+    assert_eq!(rt; dues(alloc, &lately)?, [u64::MAX, 4, 4, 4]);
+    let risen = Cond::Rise(Box::new(alloc, Cond::Disc(A))?);
+    assert_eq!(rt; dues(alloc, &risen)?, [u64::MAX, 2, u64::MAX, u64::MAX]);
+    let confirmed = Cond::Conf(Box::new(alloc, Cond::Disc(A))?, 2);
+    let risen = Cond::Rise(Box::new(alloc, Cond::Disc(A))?);
+    let both = Cond::Any(vec![in alloc; confirmed, risen]?);
+    assert_eq!(rt; dues(alloc, &both)?, [u64::MAX, 2, 3, u64::MAX]);
+    Ok(())
+}
+
+// The due moments that a condition tells in four moments, with a from moment 1 on and b in moment 0 alone.
+fn dues(alloc: Global, cond: &Cond) -> Result<[u64; 4], AllocError>
+    requires few { slots (tree_of cond.now) ≤ 2 }
+    requires names { IsWithin 3 0 (tree_of cond.now) }
+{
+    let mut cells = Cells::new(alloc, 2)?;
+    let keys = Keys::new();
+    let mut found = [0; 4];
+    for moment in 0..4usize {
+        let values = [truth(moment > 0), truth(moment == 0), truth(true)];
+        let env = Env {
+            values: &values,
+            phase: Phase { number: 6 },
+            active: &[],
+            keys: &keys,
+            one_up: true,
+            two_up: true,
+        };
+        found[moment] = cells.refresh(cond, 0, &env, moment as u64).due;
+    }
+    Ok(found)
+}
+
 #[test]
 fn counts_members(rt: HostRuntime) -> Result<(), Fail> {
     let alloc = rt.alloc();
@@ -110,10 +151,12 @@ fn forgets_and_takes_over(rt: HostRuntime) -> Result<(), Fail> {
     let cond = Cond::Rise(Box::new(alloc, Cond::Fwc(1))?);
     let mut cells = Cells::new(alloc, 1)?;
     let mut others = Cells::new(alloc, 1)?;
-    assert!(rt; cells.refresh(&cond, 0, &env));
+    assert!(rt; cells.refresh(&cond, 0, &env, 0).holds);
     others.copy_from(&cells);
-    assert!(rt; !others.refresh(&cond, 0, &env));
+    assert!(rt; !others.refresh(&cond, 0, &env, 1).holds);
+    assert_eq!(rt; others.visits(), 2);
     cells.clear();
-    assert!(rt; cells.refresh(&cond, 0, &env));
+    assert!(rt; cells.refresh(&cond, 0, &env, 0).holds);
+    assert_eq!(rt; cells.visits(), 4);
     Ok(())
 }

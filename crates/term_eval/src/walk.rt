@@ -1,59 +1,103 @@
 // The walk through a condition's tree: each node in preorder, and each temporal node's slot with it.
-ghost use Rattle.std.specs.Prelude.{◌≡◌, ◌+◌, ◌^◌, ◌<◌, ◌≤◌, length};
-ghost use Rattle.ecam_spec.specs.TermSize.{slots, slots_of};
+ghost use Rattle.std.specs.Prelude.{◌≡◌, ◌+◌, ◌-◌, ◌^◌, ◌<◌, ◌≤◌, min, length};
+ghost use Rattle.ecam_spec.specs.TermSize.{slots, slots_of, nodes, nodes_of};
 ghost use Rattle.ecam_spec.specs.TermNames.{IsWithin, AreWithin};
 ghost use Rattle.term_tree.specs.View.{tree_of, trees_of};
+ghost use Rattle.term_eval.specs.CellWords.{never};
 ghost use Rattle.term_eval.specs.Steps.{Steps, StepsAll};
 
 use crate::env::Env;
-use crate::memory::{confirm, hold, latch, rise};
+use crate::memory::{Cell, confirm, hold, latch, rise};
+use crate::turn::{NEVER, Turn, lasting, sooner};
 use term_tree::Cond;
 
-/// Steps each node of a condition by one moment, and answers whether the condition holds in it. `next` is the
-/// condition's first slot, and afterwards the first slot behind it.
+/// Steps each node of a condition by the moment of this number, counts each as visited, and tells whether the
+/// condition holds in it and when it turns by itself. `next` is the condition's first slot, and afterwards the first slot
+/// behind it.
 #[cycle(walk)]
-#[tactic(auto, unfolding(ecam_spec::specs::TermSize::slots, ecam_spec::specs::TermNames::IsWithin))]
-pub fn step(cond: &Cond, cells: &mut [u32], next: &mut usize, env: &Env) -> bool
+#[tactic(auto, unfolding(ecam_spec::specs::TermSize::slots, ecam_spec::specs::TermSize::nodes, ecam_spec::specs::TermNames::IsWithin))]
+pub fn step(
+    cond: &Cond,
+    cells: &mut [Cell],
+    next: &mut usize,
+    visits: &mut u64,
+    env: &Env,
+    now: u64,
+) -> Turn
     requires range { next.old + slots (tree_of cond.now) ≤ length cells.old }
     requires names { IsWithin (length env.now.values.now) (length env.now.active.now) (tree_of cond.now) }
     requires first { 1 ≤ env.now.phase.number }
     requires last { env.now.phase.number ≤ 10 }
+    requires now { now < 2 ^ 63 }
     ensures next { next.new ≡ next.old + slots (tree_of cond.now) }
-    ensures steps { Steps env.now (tree_of cond.now) next.old cells.old cells.new result }
+    ensures visits { visits.new ≡ min (visits.old + nodes (tree_of cond.now)) (2 ^ 64 - 1) }
+    ensures steps { Steps env.now now (tree_of cond.now) next.old cells.old cells.new result.holds result.due }
 {
+    *visits = visits.saturating_add(1);
     match cond {
-        Cond::Const(truth) => *truth,
-        Cond::Disc(param) => env.is_one(*param),
-        Cond::Valid(param) => env.has_value(*param),
-        Cond::Cmp(param, op, number) => env.compares(*param, *op, *number),
-        Cond::InPhase(phases) => phases.has(env.phase),
-        Cond::Alert(alert) => env.is_active(*alert),
-        Cond::Press(key) => env.keys.pressed(*key),
-        Cond::Fwc(computer) => env.is_up(*computer),
-        Cond::Not(of) => !step(of, cells, next, env),
-        Cond::All(members) => step_each(members, cells, next, env) == members.len(),
-        Cond::Any(members) => step_each(members, cells, next, env) > 0,
-        Cond::AtLeast(least, members) => step_each(members, cells, next, env) >= *least as usize,
+        Cond::Const(truth) => lasting(*truth),
+        Cond::Disc(param) => lasting(env.is_one(*param)),
+        Cond::Valid(param) => lasting(env.has_value(*param)),
+        Cond::Cmp(param, op, number) => lasting(env.compares(*param, *op, *number)),
+        Cond::InPhase(phases) => lasting(phases.has(env.phase)),
+        Cond::Alert(alert) => lasting(env.is_active(*alert)),
+        Cond::Press(key) => lasting(env.keys.pressed(*key)),
+        Cond::Fwc(computer) => lasting(env.is_up(*computer)),
+        Cond::Not(of) => {
+            let inner = step(of, cells, next, visits, env, now);
+            Turn {
+                holds: !inner.holds,
+                due: inner.due,
+            }
+        }
+        Cond::All(members) => {
+            let tally = step_each(members, cells, next, visits, env, now);
+            Turn {
+                holds: tally.count == members.len(),
+                due: tally.due,
+            }
+        }
+        Cond::Any(members) => {
+            let tally = step_each(members, cells, next, visits, env, now);
+            Turn {
+                holds: tally.count > 0,
+                due: tally.due,
+            }
+        }
+        Cond::AtLeast(least, members) => {
+            let tally = step_each(members, cells, next, visits, env, now);
+            Turn {
+                holds: tally.count >= *least as usize,
+                due: tally.due,
+            }
+        }
         Cond::Conf(of, moments) => {
             let own = take_slot(next);
-            let now = step(of, cells, next, env);
-            confirm(&mut cells[own], now, *moments)
+            let inner = step(of, cells, next, visits, env, now);
+            sooner(
+                confirm(&mut cells[own], inner.holds, *moments, now),
+                inner.due,
+            )
         }
         Cond::Hold(of, moments) => {
             let own = take_slot(next);
-            let now = step(of, cells, next, env);
-            hold(&mut cells[own], now, *moments)
+            let inner = step(of, cells, next, visits, env, now);
+            sooner(hold(&mut cells[own], inner.holds, *moments, now), inner.due)
         }
         Cond::Rise(of) => {
             let own = take_slot(next);
-            let now = step(of, cells, next, env);
-            rise(&mut cells[own], now)
+            let inner = step(of, cells, next, visits, env, now);
+            sooner(rise(&mut cells[own], inner.holds, now), inner.due)
         }
         Cond::Latch(set, reset) => {
             let own = take_slot(next);
-            let set = step(set, cells, next, env);
-            let reset = step(reset, cells, next, env);
-            latch(&mut cells[own], set, reset)
+            let set = step(set, cells, next, visits, env, now);
+            let reset = step(reset, cells, next, visits, env, now);
+            let holds = latch(&mut cells[own], set.holds, reset.holds);
+            Turn {
+                holds,
+                due: set.due.min(reset.due),
+            }
         }
     }
 }
@@ -69,21 +113,41 @@ fn take_slot(next: &mut usize) -> usize
     own
 }
 
-/// Steps each of some conditions, whatever the others answer, and answers how many of them hold.
+/// How many of some conditions hold, and the first due moment of them.
+#[derive(Clone, Copy)]
+struct Tally {
+    count: usize,
+    due: u64,
+}
+
+/// Steps each of some conditions, whatever the others answer.
 #[cycle(walk)]
-fn step_each(members: &[Cond], cells: &mut [u32], next: &mut usize, env: &Env) -> usize
+fn step_each(
+    members: &[Cond],
+    cells: &mut [Cell],
+    next: &mut usize,
+    visits: &mut u64,
+    env: &Env,
+    now: u64,
+) -> Tally
     requires range { next.old + slots_of (trees_of members.now) ≤ length cells.old }
     requires names { AreWithin (length env.now.values.now) (length env.now.active.now) (trees_of members.now) }
     requires first { 1 ≤ env.now.phase.number }
     requires last { env.now.phase.number ≤ 10 }
+    requires now { now < 2 ^ 63 }
+    requires visits { visits.old ≤ 2 ^ 64 - 1 }
     ensures next { next.new ≡ next.old + slots_of (trees_of members.now) }
-    ensures steps { StepsAll env.now (trees_of members.now) next.old cells.old cells.new result }
+    ensures visits { visits.new ≡ min (visits.old + nodes_of (trees_of members.now)) (2 ^ 64 - 1) }
+    ensures steps { StepsAll env.now now (trees_of members.now) next.old cells.old cells.new result.count result.due }
 {
     let mut count = 0usize;
+    let mut due = NEVER;
     for member in members {
-        if step(member, cells, next, env) {
+        let turn = step(member, cells, next, visits, env, now);
+        if turn.holds {
             count += 1;
         }
+        due = due.min(turn.due);
     }
-    count
+    Tally { count, due }
 }

@@ -3,10 +3,10 @@ use Rattle.std.proofs.Common.{◌≡◌, ℕ, ◌+◌, ◌<◌, ◌≤◌, List,
 use Rattle.std.proofs.lemmas.List.{drop_more, drop_all}
 use Rattle.std.specs.Prelude.{option_and_then}
 use Rattle.ecam_spec.specs.Book.{Text}
-use Rattle.ecam_spec.specs.declared.terms.Step.{Step}
+use Rattle.ecam_spec.specs.declared.term_steps.Step.{Step}
 use Rattle.ecam_spec.specs.Grammar.{Form}
 use Rattle.ecam_spec.specs.TermText.{TermNames}
-use Rattle.ecam_spec.specs.TermReading.{after_step, after_all}
+use Rattle.ecam_spec.proofs.TermReading.{after_step, after_all}
 use Rattle.term_text.specs.declared.part.Part.{Part}
 use Rattle.term_text.specs.Parts.{StandFor}
 

@@ -9,7 +9,8 @@ use Rattle.ecam_spec.specs.declared.terms.Span.{Span}
 use Rattle.ecam_spec.specs.declared.terms.Reserved.{Reserved}
 use Rattle.ecam_spec.specs.declared.terms.Token.TheVariants.{Number}
 use Rattle.ecam_spec.specs.Token.{bytes_of}
-use Rattle.ecam_spec.specs.TermText.{TermNames, Flaw, unknown_name, out_of_range, place_of, is_within, magnitude, value, amount, name_flaw, number_flaw}
+use Rattle.ecam_spec.specs.TermText.{TermNames, Flaw, unknown_name, out_of_range, name_place, amount, name_flaw, number_flaw}
+use Rattle.ecam_spec.specs.TermNumber.{is_within, magnitude, value}
 use Rattle.term_text.specs.Written.{name_at, enclosed}
 use Rattle.term_text.proofs.DecimalTexts.{magnitude-decimal, value-decimal, value-negative}
 use Rattle.term_text.proofs.PieceReads.{Ended, word_text, number_reads, negative_reads}
@@ -73,12 +74,12 @@ module _ (names : TermNames) (text : Text) where
   pub known_flaw : (list : List Text) (p at : ℕ) (rest : Text) → IsKnownName list p → Stands text at (name_at list p ++ rest) → name_flaw names text list (span_of at (name_at list p)) ≡ []
   unfolding name_flaw
   known_flaw list p at rest known h =
-      ap (λ (t : Text). elim (is_some (place_of list t)) as (λ v. List Flaw) [ true ↦ [] | false ↦ unknown_name at ∷ [] ]) (bytes_here text at (name_at list p) rest h)
+      ap (λ (t : Text). elim (is_some (name_place list t)) as (λ v. List Flaw) [ true ↦ [] | false ↦ unknown_name at ∷ [] ]) (bytes_here text at (name_at list p) rest h)
       ∙ ap (λ (o : Option ℕ). elim (is_some o) as (λ v. List Flaw) [ true ↦ [] | false ↦ unknown_name at ∷ [] ]) known.first
 
-  pub known_place : (list : List Text) (p at : ℕ) (rest : Text) → IsKnownName list p → Stands text at (name_at list p ++ rest) → unwrap_or (place_of list (bytes_of text (span_of at (name_at list p)))) 0 ≡ p
+  pub known_place : (list : List Text) (p at : ℕ) (rest : Text) → IsKnownName list p → Stands text at (name_at list p ++ rest) → unwrap_or (name_place list (bytes_of text (span_of at (name_at list p)))) 0 ≡ p
   known_place list p at rest known h =
-      ap (λ (t : Text). unwrap_or (place_of list t) 0) (bytes_here text at (name_at list p) rest h) ∙ ap (λ (o : Option ℕ). unwrap_or o 0) known.first
+      ap (λ (t : Text). unwrap_or (name_place list t) 0) (bytes_here text at (name_at list p) rest h) ∙ ap (λ (o : Option ℕ). unwrap_or o 0) known.first
 
   pub value_flaw : (low high z : ℤ) (at : ℕ) (p rest : Text) → value p ≡ z → is_within low high z ≡ true → Stands text at (p ++ rest) → number_flaw names text low high (span_of at p) ≡ []
   unfolding number_flaw

@@ -5,8 +5,8 @@ use Rattle.std.specs.List.{list_all}
 use Rattle.std.proofs.lemmas.Bool.{and_parts, and_from, eqb-true, le-leb, false≢true, false_from_ne_true}
 use Rattle.std.proofs.lemmas.Fmt.{decimal_by_steps}
 use Rattle.ecam_spec.specs.Book.{Text}
-use Rattle.ecam_spec.specs.Token.{is_digit}
-use Rattle.ecam_spec.specs.TermText.{digits_value, is_negative, magnitude, value}
+use Rattle.ecam_spec.specs.Bytes.{is_digit}
+use Rattle.ecam_spec.specs.TermNumber.{digits_value, is_negative, magnitude, value}
 
 fold-push : (f : ℕ → ℕ → ℕ) (a : ℕ) (xs : List ℕ) (x : ℕ) → fold f a (xs ++ x ∷ []) ≡ f (fold f a xs) x
 fold-push f a [] x = refl

@@ -13,10 +13,10 @@ use Rattle.ecam_spec.specs.declared.terms.Token.{Token}
 use Rattle.ecam_spec.specs.declared.terms.Token.TheVariants.{Name, KeyWord, Number, Sign, Open, Comma, Close, Stray}
 use Rattle.ecam_spec.specs.Keys.{IsKey}
 use Rattle.ecam_spec.specs.Places.{below}
-use Rattle.ecam_spec.specs.Picture.{same_text}
+use Rattle.ecam_spec.specs.Bytes.{same_text, is_letter, is_name_byte, is_digit}
 use Rattle.ecam_spec.specs.RecordLine.{key_of, key_words}
-use Rattle.ecam_spec.specs.Token.{Placed, bytes_of, is_letter, is_name_byte, is_digit, more_bytes, reserved_of, word_of_kind, word_token, sign_token, token_at, tokens_from}
-use Rattle.ecam_spec.specs.TermText.{words_of}
+use Rattle.ecam_spec.specs.Token.{Placed, bytes_of, more_bytes, reserved_of, word_of_kind, word_token, sign_token, token_at, tokens_from}
+use Rattle.ecam_spec.specs.TermVerdict.{words_of}
 use Rattle.term_text.specs.Readable.{IsNameWord}
 use Rattle.term_text.proofs.AtomsRead.{Stands, behind}
 

@@ -3,7 +3,7 @@ use Rattle.std.proofs.Common.{◌≡◌, Bool, true, false, List, [], ◌∷◌,
 use Rattle.std.proofs.lemmas.Bool.{le-leb, lt-leb, leb-true, leb-false}
 use Rattle.std.specs.Prelude.{nat_le}
 use Rattle.ecam_spec.specs.TermText.{Flaw, flaw_place, earlier, earliest}
-use Rattle.term_text.specs.Flaws.{first_of}
+use Rattle.term_text.specs.Flaws.{earlier_of}
 
 -- of two flaws, by the outcome of the test
 abbrev chosen : Flaw → Flaw → Bool → Flaw
@@ -34,12 +34,12 @@ three a b d false false ad e f g =
     ∙ sym (takes a d false (lt-leb _ _ (omega (arith, leb-false _ _ e, leb-false _ _ f))))
     ∙ ap (λ (x : Flaw). earlier a (Some x)) (sym (takes b d false f))
 
-assoc : (a : Flaw) (x y : Option Flaw) → Some (earlier (earlier a x) y) ≡ Some (earlier a (first_of x y))
+assoc : (a : Flaw) (x y : Option Flaw) → Some (earlier (earlier a x) y) ≡ Some (earlier a (earlier_of x y))
 unfolding earlier
 assoc a None y = refl
 assoc a (Some b) None = refl
 assoc a (Some b) (Some d) = ap (λ (f : Flaw). Some f) (three a b d _ _ _ refl refl refl)
 
-pub earliest-append : (xs ys : List Flaw) → earliest (xs ++ ys) ≡ first_of (earliest xs) (earliest ys)
+pub earliest-append : (xs ys : List Flaw) → earliest (xs ++ ys) ≡ earlier_of (earliest xs) (earliest ys)
 earliest-append [] ys = refl
 earliest-append (a ∷ xs) ys = ap (λ (o : Option Flaw). Some (earlier a o)) (earliest-append xs ys) ∙ sym (assoc a (earliest xs) (earliest ys))

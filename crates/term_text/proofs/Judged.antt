@@ -8,10 +8,10 @@ use Rattle.ecam_spec.specs.TermText.{Flaw}
 use Rattle.term_tree.specs.declared.cond.Cond.{Cond}
 use Rattle.term_tree.specs.View.{tree_of}
 use Rattle.term_text.specs.declared.part.Part.{Part}
-use Rattle.term_text.specs.Flaws.{first_of}
+use Rattle.term_text.specs.Flaws.{earlier_of}
 use Rattle.term_text.specs.Parts.{Judges, Measures, most}
 
-pub none_both : (a b : Option Flaw) → first_of a b ≡ None → (a ≡ None) × (b ≡ None)
+pub none_both : (a b : Option Flaw) → earlier_of a b ≡ None → (a ≡ None) × (b ≡ None)
 none_both None b e = (refl, e)
 none_both (Some a) b e = absurd cc
 
@@ -75,7 +75,7 @@ module _ (t : Tree) (n : ℕ) where
 
 latch_measures : (wrong other : Option Flaw) (d1 s1 d2 s2 deep large : ℕ) (c1 c2 node : Cond) (t1 t2 : Tree) → deep ≡ max d1 d2 → large ≡ min (s1 + s2) most
     → (tree_of c1 ≡ t1 → tree_of c2 ≡ t2 → tree_of node ≡ latched t1 t2) → Measures wrong d1 s1 c1 t1 → Measures other d2 s2 c2 t2
-    → Measures (first_of wrong other) (min (deep + 1) most) (min (large + 1) most) node (latched t1 t2)
+    → Measures (earlier_of wrong other) (min (deep + 1) most) (min (large + 1) most) node (latched t1 t2)
 unfolding depth nodes
 latch_measures wrong other d1 s1 d2 s2 deep large c1 c2 node t1 t2 deepest sum tree m n =
     let deep1 : d1 ≡ min (depth t1) most = m.depth_is in
@@ -94,11 +94,11 @@ latch_measures wrong other d1 s1 d2 s2 deep large c1 c2 node t1 t2 deepest sum t
           tree (m.tree_is clean.0 low1 few1) (n.tree_is clean.1 low2 few2);
     }
 
-pub latch_over : (self reset p : Part) (kept wrong other : Option Flaw) (deep large : ℕ) (node : Cond) (t1 t2 : Tree) → kept ≡ first_of wrong other → deep ≡ max self.depth reset.depth → large ≡ min (self.size + reset.size) most
+pub latch_over : (self reset p : Part) (kept wrong other : Option Flaw) (deep large : ℕ) (node : Cond) (t1 t2 : Tree) → kept ≡ earlier_of wrong other → deep ≡ max self.depth reset.depth → large ≡ min (self.size + reset.size) most
     → ((tree : Tree) → Measures kept (min (deep + 1) most) (min (large + 1) most) node tree → Judges p kept tree)
-    → (tree_of self.cond ≡ t1 → tree_of reset.cond ≡ t2 → tree_of node ≡ latched t1 t2) → Judges self wrong t1 → Judges reset other t2 → Judges p (first_of wrong other) (latched t1 t2)
+    → (tree_of self.cond ≡ t1 → tree_of reset.cond ≡ t2 → tree_of node ≡ latched t1 t2) → Judges self wrong t1 → Judges reset other t2 → Judges p (earlier_of wrong other) (latched t1 t2)
 latch_over self reset p kept wrong other deep large node t1 t2 e deepest sum told tree h k =
-    judge p kept (first_of wrong other) (min (deep + 1) most) (min (large + 1) most) node (latched t1 t2) e told
+    judge p kept (earlier_of wrong other) (min (deep + 1) most) (min (large + 1) most) node (latched t1 t2) e told
     (latch_measures wrong other self.depth self.size reset.depth reset.size deep large self.cond reset.cond node t1 t2 deepest sum tree h.tree_is k.tree_is)
 
 -- ---- one atom in place of another

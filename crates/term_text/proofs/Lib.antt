@@ -20,7 +20,7 @@ mod MeantTrees
 pub mod WritableTrees
 pub mod Judged
 pub mod Flawed
-pub mod Listed
+pub mod ListsJudged
 pub mod Taken
 pub mod OneStep
 pub mod AllSteps

@@ -1,20 +1,22 @@
 -- A tree that some text means is readable, and is neither too deep nor too large.
-use Rattle.std.proofs.Common.{◌≡◌, ℕ, zero, suc, ◌-◌, ◌^◌, ◌<◌, ◌≤◌, Bool, true, false, leb, List, [], ◌∷◌, ◌++◌, length, Option, Some, None, ℤ, pos, refl, ap, subst, arith, unwrap_or}
-use Rattle.std.specs.Prelude.{neg_ℤ, is_some, fold, bit_or, position}
-use Rattle.std.specs.List.{flat_map}
+use Rattle.std.proofs.Common.{◌≡◌, ℕ, zero, suc, ◌-◌, ◌^◌, ◌<◌, ◌≤◌, Bool, true, false, leb, List, [], ◌∷◌, ◌++◌, length, Option, Some, None, ℤ, pos, refl, ◌∙◌, ap, subst, arith, unwrap_or}
+use Rattle.std.specs.Prelude.{neg_ℤ, is_some, fold, bit_or}
+use Rattle.std.specs.List.{flat_map, position_from}
 use Rattle.std.specs.Str.{bytes_eq}
 use Rattle.std.proofs.lemmas.Bool.{and_parts, leb-true}
+use Rattle.std.proofs.lemmas.Iterator.Adapters.{position_from-zero}
 use Rattle.std.proofs.lemmas.List.Quantifiers.{position-Some}
 use Rattle.std.proofs.lemmas.Nat.{or_lt, le_or_l, pow_pos, pow_below}
 use Rattle.std.proofs.lemmas.Slice.Eq.{bytes_eq-Decides}
 use Rattle.ecam_spec.specs.Book.{Text}
 use Rattle.ecam_spec.specs.declared.terms.Span.{Span}
 use Rattle.ecam_spec.specs.declared.terms.Token.TheVariants.{Number, Comma, Close}
-use Rattle.ecam_spec.specs.Sound.{count_of}
+use Rattle.ecam_spec.specs.KeepsLimits.{count_of}
 use Rattle.ecam_spec.specs.Token.{bytes_of}
 use Rattle.ecam_spec.specs.Grammar.{Form, Forms, truth, name_of, compare_of, valid_of, phase_of, alert_of, press_of, fwc_of, not_of, rise_of, all_of, any_of, at_least_of, conf_of, hold_of, latch_of, no_more, and_then, how_many, spelling, spellings}
 use Rattle.ecam_spec.specs.TermSize.{nodes, nodes_of}
-use Rattle.ecam_spec.specs.TermText.{TermNames, Flaw, unknown_name, out_of_range, place_of, is_within, is_negative, magnitude, value, one_phase, amount, name_flaw, number_flaw, phase_flaw, moments_flaw, compared_flaw, flaws, flaws_of_all, tree_of_form, trees_of_forms}
+use Rattle.ecam_spec.specs.TermText.{TermNames, Flaw, unknown_name, out_of_range, name_place, amount, name_flaw, number_flaw, phase_flaw, moments_flaw, compared_flaw, flaws, flaws_of_all, tree_of_form, trees_of_forms}
+use Rattle.ecam_spec.specs.TermNumber.{is_within, is_negative, magnitude, value, one_phase}
 use Rattle.term_text.specs.Written.{name_at}
 use Rattle.term_text.specs.Readable.{IsNameWord}
 use Rattle.term_text.specs.Readable.{IsKnownName, IsComparable, IsReadable, AreReadable}
@@ -30,22 +32,22 @@ known_of : (o : Option ℕ) (at : ℕ) → elim (is_some o) as (λ v. List Flaw)
 known_of (Some p) at e = refl
 known_of None at e = absurd (let f : (unknown_name at ∷ []) ≡ [] = e in cc)
 
-short_place : (names : List Text) (name : Text) (p : ℕ) (b : Bool) → leb (length name) 24 ≡ b → elim b as (λ v. Option ℕ) [ true ↦ position (bytes_eq name) names | false ↦ None ] ≡ Some p
-    → (length name ≤ 24) × (position (bytes_eq name) names ≡ Some p)
+short_place : (names : List Text) (name : Text) (p : ℕ) (b : Bool) → leb (length name) 24 ≡ b → elim b as (λ v. Option ℕ) [ true ↦ position_from (bytes_eq name) 0 names | false ↦ None ] ≡ Some p
+    → (length name ≤ 24) × (position_from (bytes_eq name) 0 names ≡ Some p)
 short_place names name p true short e = (leb-true (length name) 24 short, e)
 short_place names name p false short e = absurd (let f : None ≡ Some p = e in cc)
 
-known_name : (names : List Text) (name : Text) (p : ℕ) → IsNameWord name → place_of names name ≡ Some p → IsKnownName names p
-unfolding place_of
+known_name : (names : List Text) (name : Text) (p : ℕ) → IsNameWord name → name_place names name ≡ Some p → IsKnownName names p
+unfolding name_place
 known_name names name p word is =
     let parts = short_place names name p (leb (length name) 24) refl is in
-    let found = position-Some (bytes_eq name) names p [] parts.1 in
+    let found = position-Some (bytes_eq name) names p [] (position_from-zero (bytes_eq name) names ∙ parts.1) in
     let same : name ≡ name_at names p = (bytes_eq-Decides name (name_at names p)).0 found.1 in
     record {
       within = found.0;
       word = subst IsNameWord same word;
       short = subst (λ (t : Text). length t ≤ 24) same parts.0;
-      first = subst (λ (t : Text). place_of names t ≡ Some p) same is;
+      first = subst (λ (t : Text). name_place names t ≡ Some p) same is;
     }
 
 -- ---- numbers
@@ -80,9 +82,9 @@ module _ (names : TermNames) (text : Text) where
   unfolding number_flaw
   comparable n clean = range_of (is_within (neg_ℤ (pos 1000000)) (pos 1000000) (value (bytes_of text n))) n.at clean
 
-  name_known : (list : List Text) (n : Span) → IsNameWord (bytes_of text n) → name_flaw names text list n ≡ [] → IsKnownName list (unwrap_or (place_of list (bytes_of text n)) 0)
+  name_known : (list : List Text) (n : Span) → IsNameWord (bytes_of text n) → name_flaw names text list n ≡ [] → IsKnownName list (unwrap_or (name_place list (bytes_of text n)) 0)
   unfolding name_flaw
-  name_known list n word clean = known_name list (bytes_of text n) (unwrap_or (place_of list (bytes_of text n)) 0) word (known_of (place_of list (bytes_of text n)) n.at clean)
+  name_known list n word clean = known_name list (bytes_of text n) (unwrap_or (name_place list (bytes_of text n)) 0) word (known_of (name_place list (bytes_of text n)) n.at clean)
 
   phases_in_range : (set : ℕ) (ns : List Span) → 1 ≤ set → set < 2 ^ 10 → flat_map (phase_flaw names text) ns ≡ []
       → (1 ≤ fold (λ s p. bit_or s (one_phase (amount names text p))) set ns) × (fold (λ s p. bit_or s (one_phase (amount names text p))) set ns < 1024)

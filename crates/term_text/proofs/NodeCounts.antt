@@ -1,7 +1,7 @@
 -- Conditions have at least a node each.
 use Rattle.std.proofs.Common.{◌≤◌, arith}
 use Rattle.ecam_spec.specs.Book.{Tree, Trees, constant, discrete, valid, compared, in_phase, alert, press, computer, negation, all, any, at_least, confirmed, held, risen, latched, none, more}
-use Rattle.ecam_spec.specs.Sound.{count_of}
+use Rattle.ecam_spec.specs.KeepsLimits.{count_of}
 use Rattle.ecam_spec.specs.TermSize.{nodes, nodes_of}
 
 pub some_nodes : (c : Tree) → 1 ≤ nodes c

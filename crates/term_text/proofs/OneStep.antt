@@ -9,16 +9,17 @@ use Rattle.std.specs.Prelude.{option_map, bit_or}
 use Rattle.std.specs.List.{flat_map}
 use Rattle.ecam_spec.specs.declared.kinds.Op.{Op}
 use Rattle.ecam_spec.specs.declared.terms.Span.{Span}
-use Rattle.ecam_spec.specs.declared.terms.Listed.{Listed}
-use Rattle.ecam_spec.specs.declared.terms.Step.TheVariants as steps
+use Rattle.ecam_spec.specs.declared.term_steps.Listed.{Listed}
+use Rattle.ecam_spec.specs.declared.term_steps.Step.TheVariants as steps
 use Rattle.ecam_spec.specs.Book.{Text, Tree, discrete, compared, in_phase, negation, confirmed, held, risen, latched}
 use Rattle.ecam_spec.specs.Grammar.{Form, Forms, name_of, compare_of, phase_of, not_of, rise_of, conf_of, hold_of, latch_of, no_more, and_then}
-use Rattle.ecam_spec.specs.TermText.{TermNames, Flaw, earliest, flaws, tree_of_form, phase_flaw, moments_flaw, compared_flaw, one_phase, amount, value, name_flaw, parameter_of}
-use Rattle.ecam_spec.specs.TermReading.{gathered, list_form, after_step}
+use Rattle.ecam_spec.specs.TermText.{TermNames, Flaw, earliest, flaws, tree_of_form, phase_flaw, moments_flaw, compared_flaw, amount, name_flaw, parameter_of}
+use Rattle.ecam_spec.specs.TermNumber.{one_phase, value}
+use Rattle.ecam_spec.proofs.TermReading.{gathered, list_form, after_step}
 use Rattle.ecam_spec.specs.Token.{bytes_of}
 use Rattle.term_text.specs.declared.part.Part.{Part}
 use Rattle.term_text.specs.declared.members.Members.{Members}
-use Rattle.term_text.specs.Flaws.{first_of}
+use Rattle.term_text.specs.Flaws.{earlier_of}
 use Rattle.term_text.specs.Parts.{Judges, JudgesForm, JudgesForms, StandFor}
 use Rattle.term_text.proofs.Flawed.{earliest-append}
 use Rattle.term_text.proofs.Taken.{top_of}
@@ -60,11 +61,11 @@ module _ (names : TermNames) (text : Text) where
     rise_step popped ps rest (f ∷ older) after pops told h e = tried_of_one rise_of popped ps rest f older after pops (told _ _) e h
 
     -- what is wrong with a condition and with a number behind it
-    with_number : (n : Span) (f : Form) (own : List Flaw) (tree : Tree) → IfOk r (λ p. Judges p (first_of (earliest (flaws names text f)) (earliest own)) tree) → IfOk r (λ p. Judges p (earliest (flaws names text f ++ own)) tree)
+    with_number : (n : Span) (f : Form) (own : List Flaw) (tree : Tree) → IfOk r (λ p. Judges p (earlier_of (earliest (flaws names text f)) (earliest own)) tree) → IfOk r (λ p. Judges p (earliest (flaws names text f ++ own)) tree)
     with_number n f own tree h = subst (λ (w : Option Flaw). IfOk r (λ p. Judges p w tree)) (sym (earliest-append (flaws names text f) own)) h
 
     pub confirm_step : (n : Span) (popped : Part) (ps rest : List Part) (forms after : List Form) → Pops ps popped rest
-        → ((wrong : Option Flaw) (tree : Tree) → Judges popped wrong tree → IfOk r (λ p. Judges p (first_of wrong (earliest (moments_flaw names text n))) (confirmed tree (amount names text n))))
+        → ((wrong : Option Flaw) (tree : Tree) → Judges popped wrong tree → IfOk r (λ p. Judges p (earlier_of wrong (earliest (moments_flaw names text n))) (confirmed tree (amount names text n))))
         → StandFor names text ps forms → after_step (steps.Confirmed n) forms ≡ Some after → IfOk r (λ p. StandFor names text (p ∷ rest) after)
     unfolding after_step flaws tree_of_form
     confirm_step n popped ps rest [] after pops told h e = absurd cc
@@ -72,7 +73,7 @@ module _ (names : TermNames) (text : Text) where
         tried_of_one (λ x. conf_of x n) popped ps rest f older after pops (λ k. with_number n f (moments_flaw names text n) _ (told _ _ k)) e h
 
     pub hold_step : (n : Span) (popped : Part) (ps rest : List Part) (forms after : List Form) → Pops ps popped rest
-        → ((wrong : Option Flaw) (tree : Tree) → Judges popped wrong tree → IfOk r (λ p. Judges p (first_of wrong (earliest (moments_flaw names text n))) (held tree (amount names text n))))
+        → ((wrong : Option Flaw) (tree : Tree) → Judges popped wrong tree → IfOk r (λ p. Judges p (earlier_of wrong (earliest (moments_flaw names text n))) (held tree (amount names text n))))
         → StandFor names text ps forms → after_step (steps.Held n) forms ≡ Some after → IfOk r (λ p. StandFor names text (p ∷ rest) after)
     unfolding after_step flaws tree_of_form
     hold_step n popped ps rest [] after pops told h e = absurd cc
@@ -80,7 +81,7 @@ module _ (names : TermNames) (text : Text) where
         tried_of_one (λ x. hold_of x n) popped ps rest f older after pops (λ k. with_number n f (moments_flaw names text n) _ (told _ _ k)) e h
 
     pub latch_step : (reset popped : Part) (ps middle rest : List Part) (forms after : List Form) → Pops ps reset middle → Pops middle popped rest
-        → ((wrong other : Option Flaw) (tree second : Tree) → Judges popped wrong tree → Judges reset other second → IfOk r (λ p. Judges p (first_of wrong other) (latched tree second)))
+        → ((wrong other : Option Flaw) (tree second : Tree) → Judges popped wrong tree → Judges reset other second → IfOk r (λ p. Judges p (earlier_of wrong other) (latched tree second)))
         → StandFor names text ps forms → after_step steps.Latched forms ≡ Some after → IfOk r (λ p. StandFor names text (p ∷ rest) after)
     unfolding after_step flaws tree_of_form
     latch_step reset popped ps middle rest [] after first second told h e = absurd cc
@@ -96,7 +97,7 @@ module _ (names : TermNames) (text : Text) where
         e below
 
   pub compare_step : (p popped : Part) (op : Op) (x : Span) (ps rest : List Part) (forms after : List Form) → Pops ps popped rest
-      → ((wrong : Option Flaw) (param : ℕ) → Judges popped wrong (discrete param) → Judges p (first_of wrong (earliest (compared_flaw names text x))) (compared param op (value (bytes_of text x))))
+      → ((wrong : Option Flaw) (param : ℕ) → Judges popped wrong (discrete param) → Judges p (earlier_of wrong (earliest (compared_flaw names text x))) (compared param op (value (bytes_of text x))))
       → StandFor names text ps forms → after_step (steps.Compared op x) forms ≡ Some after → StandFor names text (p ∷ rest) after
   unfolding after_step flaws tree_of_form
   compare_step p popped op x ps rest (name_of n ∷ older) after pops told h e =
@@ -116,7 +117,7 @@ module _ (names : TermNames) (text : Text) where
       ∙ sym (append_assoc (phase_flaw names text n) (flat_map (phase_flaw names text) ns) (phase_flaw names text m))
 
   pub phase_step : (p popped : Part) (m : Span) (ps rest : List Part) (forms after : List Form) → Pops ps popped rest
-      → ((wrong : Option Flaw) (set : ℕ) → Judges popped wrong (in_phase set) → Judges p (first_of wrong (earliest (phase_flaw names text m))) (in_phase (bit_or set (one_phase (amount names text m)))))
+      → ((wrong : Option Flaw) (set : ℕ) → Judges popped wrong (in_phase set) → Judges p (earlier_of wrong (earliest (phase_flaw names text m))) (in_phase (bit_or set (one_phase (amount names text m)))))
       → StandFor names text ps forms → after_step (steps.AlsoPhase m) forms ≡ Some after → StandFor names text (p ∷ rest) after
   unfolding after_step flaws tree_of_form
   phase_step p popped m ps rest (phase_of n ns ∷ older) after pops told h e =
@@ -125,7 +126,7 @@ module _ (names : TermNames) (text : Text) where
       let step : ℕ → Span → ℕ = λ set q. bit_or set (one_phase (amount names text q)) in
       let set = fold step (one_phase (amount names text n)) ns in
       let flaw = phase_flaw names text n ++ flat_map (phase_flaw names text) ns in
-      let wrong : first_of (earliest flaw) (earliest (phase_flaw names text m)) ≡ earliest (phase_flaw names text n ++ flat_map (phase_flaw names text) (ns ++ m ∷ [])) =
+      let wrong : earlier_of (earliest flaw) (earliest (phase_flaw names text m)) ≡ earliest (phase_flaw names text n ++ flat_map (phase_flaw names text) (ns ++ m ∷ [])) =
       sym (earliest-append flaw (phase_flaw names text m)) ∙ ap earliest (sym (phase_flaws n m ns)) in
       let more : bit_or set (one_phase (amount names text m)) ≡ fold step (one_phase (amount names text n)) (ns ++ m ∷ []) = sym (fold-append step (one_phase (amount names text n)) ns (m ∷ [])) in
       put p rest (phase_of n (ns ++ m ∷ [])) older after e

@@ -4,7 +4,7 @@ use Rattle.std.specs.Prelude.{fold, filter, bit_or}
 use Rattle.std.proofs.lemmas.Bool.{eqb-true, eqb-false}
 use Rattle.std.proofs.lemmas.Nat.{or_comm, or_shifted, mod-pow-add, mod_below, pow_pos}
 use Rattle.ecam_spec.specs.Term.{in_set}
-use Rattle.ecam_spec.specs.TermText.{one_phase}
+use Rattle.ecam_spec.specs.TermNumber.{one_phase}
 use Rattle.term_text.specs.Written.{numbers_from, phases_of}
 
 -- a set with further phases

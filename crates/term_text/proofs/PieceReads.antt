@@ -18,8 +18,9 @@ use Rattle.ecam_spec.specs.declared.terms.Token.TheVariants.{Word, Name, KeyWord
 use Rattle.ecam_spec.specs.Keys.{IsKey}
 use Rattle.ecam_spec.specs.Places.{below}
 use Rattle.ecam_spec.specs.RecordLine.{key_of, key_words}
-use Rattle.ecam_spec.specs.Token.{is_from, is_small_letter, is_letter, is_name_byte, is_word_byte, is_digit, word_token, token_at, tokens_from, reserved_of, reserved_words, word_of_kind}
-use Rattle.ecam_spec.specs.TermText.{words_of}
+use Rattle.ecam_spec.specs.Token.{word_token, token_at, tokens_from, reserved_of, reserved_words, word_of_kind}
+use Rattle.ecam_spec.specs.Bytes.{is_between, is_small_letter, is_letter, is_name_byte, is_word_byte, is_digit}
+use Rattle.ecam_spec.specs.TermVerdict.{words_of}
 use Rattle.term_text.specs.Readable.{IsNameWord}
 use Rattle.term_text.specs.Written.{key_word, sign_of, spaced, enclosed}
 use Rattle.term_text.proofs.TokenPieces.{words_at, Ends, word_tokens, unsigned_tokens, negative_tokens}
@@ -158,7 +159,7 @@ name_bytes_are_word_bytes [] h = refl
 name_bytes_are_word_bytes (b ∷ bs) h =
     let parts = and_parts (is_name_byte b) (list_all is_name_byte bs) h in
     and_from (is_word_byte b) (list_all is_word_byte bs)
-    (more_than_small (is_small_letter b) (is_from 65 90 b) (is_digit b || eqb b 95) parts.0)
+    (more_than_small (is_small_letter b) (is_between 65 90 b) (is_digit b || eqb b 95) parts.0)
     (name_bytes_are_word_bytes bs parts.1)
 
 name_read : (at b : ℕ) (bs : Text) → IsNameWord (b ∷ bs) → Ended at (b ∷ bs) (Name (record { at = at; end = at + suc (length bs) }) ∷ [])

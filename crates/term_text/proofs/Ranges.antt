@@ -1,9 +1,10 @@
 -- When a number is in its range, by its sign and how far it is from 0.
-use Rattle.std.proofs.Common.{◌≡◌, ◌⊎◌, inl, inr, ℕ, zero, suc, ◌<◌, ◌≤◌, min, Bool, true, false, ◌&&◌, Some, None, cond, refl, sym, ap, ◌∙◌, arith}
+use Rattle.std.proofs.Common.{◌≡◌, ◌⊎◌, inl, inr, ℕ, zero, suc, ◌<◌, ◌≤◌, min, Bool, true, false, Some, None, cond, refl, sym, ap, ◌∙◌, arith}
 use Rattle.std.proofs.lemmas.Bool.{le-leb, lt-leb}
 use Rattle.std.specs.Prelude.{ℤ, pos, neg_ℤ}
+use Rattle.std.proofs.Math.Bool.{and-false}
 use Rattle.ecam_spec.specs.Book.{Text}
-use Rattle.ecam_spec.specs.TermText.{value, magnitude, is_negative, is_within}
+use Rattle.ecam_spec.specs.TermNumber.{value, magnitude, is_negative, is_within}
 use Rattle.term_text.specs.Numbers.{amount_within, compared_number, signed}
 
 value-signed : (t : Text) (b : Bool) → is_negative t ≡ b → value t ≡ signed b (magnitude t)
@@ -19,10 +20,6 @@ plain false m none = refl
 pub no_minus : (b : Bool) (m amount : ℕ) → ((b ≡ true) × (amount ≤ 0)) ⊎ (b ≡ false) → amount ≡ min m 18446744073709551615 → b ≡ true → m ≡ 0
 no_minus b m amount (inl h) is e = omega (arith, h.1)
 no_minus b m amount (inr h) is e = absurd cc
-
-and-false : (b : Bool) → (b && false) ≡ false
-and-false true = refl
-and-false false = refl
 
 within : (low high m : ℕ) → low ≤ m → m ≤ high → is_within (pos low) (pos high) (pos m) ≡ true
 within low high m above below = rw (le-leb low m above, le-leb m high below) refl

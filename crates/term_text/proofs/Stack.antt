@@ -9,10 +9,10 @@ use Rattle.ecam_spec.specs.declared.terms.Reserved.{Reserved}
 use Rattle.ecam_spec.specs.declared.terms.Reserved.TheVariants as words
 use Rattle.ecam_spec.specs.declared.terms.Token.{Token}
 use Rattle.ecam_spec.specs.declared.terms.Token.TheVariants.{Word, Name, KeyWord, Number, Sign, Open, Comma, Close, Stray}
-use Rattle.ecam_spec.specs.declared.terms.Step.{Step}
-use Rattle.ecam_spec.specs.declared.terms.Expected.{Expected}
-use Rattle.ecam_spec.specs.declared.terms.Expected.TheVariants.{Condition, Tail, Opening, Separator, Closing, Finish, AName, AKey, ANumber, Least, Others, Phases}
-use Rattle.ecam_spec.specs.TermReading.{rule, Move, next_move, is_whole}
+use Rattle.ecam_spec.specs.declared.term_steps.Step.{Step}
+use Rattle.ecam_spec.specs.declared.term_steps.Expected.{Expected}
+use Rattle.ecam_spec.specs.declared.term_steps.Expected.TheVariants.{Condition, Tail, Opening, Separator, Closing, Finish, AName, AKey, ANumber, Least, Others, Phases}
+use Rattle.ecam_spec.proofs.TermReading.{rule, Move, next_move, is_whole}
 use Rattle.term_text.specs.Pending.{is_tail, is_sign, count_of, CountsWithin}
 
 -- what stands last is next

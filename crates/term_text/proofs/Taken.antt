@@ -4,7 +4,7 @@ use Rattle.std.specs.Prelude.{option_map}
 use Rattle.ecam_spec.specs.Book.{Text}
 use Rattle.ecam_spec.specs.Grammar.{Form, Forms, and_then}
 use Rattle.ecam_spec.specs.TermText.{TermNames}
-use Rattle.ecam_spec.specs.TermReading.{gathered}
+use Rattle.ecam_spec.proofs.TermReading.{gathered}
 use Rattle.term_text.specs.declared.part.Part.{Part}
 use Rattle.term_text.specs.declared.members.Members.{Members}
 use Rattle.term_text.specs.Parts.{JudgesForm, JudgesForms, StandFor}

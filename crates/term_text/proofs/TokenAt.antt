@@ -6,7 +6,8 @@ use Rattle.ecam_spec.specs.Book.{Text}
 use Rattle.ecam_spec.specs.declared.terms.Span.{Span}
 use Rattle.ecam_spec.specs.declared.terms.Token.{Token}
 use Rattle.ecam_spec.specs.declared.terms.Token.TheVariants.{Number}
-use Rattle.ecam_spec.specs.Token.{is_letter, is_digit, more_bytes, word_token, sign_token, token_at}
+use Rattle.ecam_spec.specs.Token.{more_bytes, word_token, sign_token, token_at}
+use Rattle.ecam_spec.specs.Bytes.{is_letter, is_digit}
 
 -- the token at the front, where it is known whether it begins with a letter
 abbrev token_from : ℕ → ℕ → Text → Bool → Token

@@ -8,8 +8,9 @@ use Rattle.std.proofs.lemmas.List.{take_at}
 use Rattle.ecam_spec.specs.Book.{Text}
 use Rattle.ecam_spec.specs.declared.terms.Token.{Token}
 use Rattle.ecam_spec.specs.declared.terms.Token.TheVariants.{Number}
-use Rattle.ecam_spec.specs.Token.{Placed, is_letter, is_digit, is_word_byte, run_length, more_bytes, token_at, word_token, sign_token, tokens_from, may_take_equals, begins_with_equals}
-use Rattle.ecam_spec.specs.TermText.{words_of}
+use Rattle.ecam_spec.specs.Token.{Placed, run_length, more_bytes, token_at, word_token, sign_token, tokens_from, may_take_equals, begins_with_equals}
+use Rattle.ecam_spec.specs.Bytes.{is_letter, is_digit, is_word_byte}
+use Rattle.ecam_spec.specs.TermVerdict.{words_of}
 
 -- the tokens of what stands at a place
 abbrev pub words_at : ℕ → Text → List Token

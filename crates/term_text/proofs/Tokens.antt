@@ -4,12 +4,12 @@ use Rattle.std.proofs.lemmas.List.{drop_more, drop_all, append-nil}
 use Rattle.std.specs.Prelude.{slice_index, ◌==◌}
 use Rattle.ecam_spec.specs.Book.{Text}
 use Rattle.ecam_spec.specs.declared.terms.Token.{Token}
-use Rattle.ecam_spec.specs.declared.terms.Step.{Step}
-use Rattle.ecam_spec.specs.declared.terms.Expected.{Expected}
+use Rattle.ecam_spec.specs.declared.term_steps.Step.{Step}
+use Rattle.ecam_spec.specs.declared.term_steps.Expected.{Expected}
 use Rattle.ecam_spec.specs.Token.{more_bytes, token_at, tokens_from, Placed}
-use Rattle.ecam_spec.specs.TermReading.{Move, next_move, is_whole, after_steps, read_on, reading, text_reading}
+use Rattle.ecam_spec.proofs.TermReading.{Move, next_move, is_whole, after_steps, read_on, reading, text_reading}
 use Rattle.term_text.specs.Pending.{Moves}
-use Rattle.term_text.specs.Steps.{TellsSteps}
+use Rattle.term_text.specs.StepsTold.{TellsSteps}
 use Rattle.term_text.specs.declared.error.TermError.{TermError}
 use Rattle.term_text.specs.declared.error.TermError.TheVariants.{Syntax, UnknownName, Number, TooDeep, TooLarge, Memory}
 

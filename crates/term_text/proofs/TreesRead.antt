@@ -10,9 +10,10 @@ use Rattle.ecam_spec.specs.declared.terms.Reserved.{Reserved}
 use Rattle.ecam_spec.specs.declared.terms.Reserved.TheVariants as words
 use Rattle.ecam_spec.specs.declared.terms.Token.{Token}
 use Rattle.ecam_spec.specs.declared.terms.Token.TheVariants.{Word, Name, KeyWord, Number, Sign, Open, Comma, Close}
-use Rattle.ecam_spec.specs.Sound.{count_of}
+use Rattle.ecam_spec.specs.KeepsLimits.{count_of}
 use Rattle.ecam_spec.specs.Grammar.{Form, Forms, truth, name_of, compare_of, valid_of, phase_of, alert_of, press_of, fwc_of, not_of, rise_of, all_of, any_of, at_least_of, conf_of, hold_of, latch_of, no_more, and_then, how_many, numbers, spelling, spellings}
-use Rattle.ecam_spec.specs.TermText.{TermNames, flaws, flaws_of_all, tree_of_form, trees_of_forms, one_phase, amount, value, name_flaw, phase_flaw, moments_flaw, compared_flaw, number_flaw}
+use Rattle.ecam_spec.specs.TermText.{TermNames, flaws, flaws_of_all, tree_of_form, trees_of_forms, amount, name_flaw, phase_flaw, moments_flaw, compared_flaw, number_flaw}
+use Rattle.ecam_spec.specs.TermNumber.{one_phase, value}
 use Rattle.term_text.specs.Written.{name_at, key_word, numbers_after, listed_numbers, phases_of, sign_of, spaced, enclosed, written, listed}
 use Rattle.ecam_spec.specs.TermSize.{nodes, nodes_of}
 use Rattle.term_text.proofs.NodeCounts.{some_nodes, counted_nodes}

@@ -7,9 +7,8 @@ use Rattle.ecam_spec.specs.Token.{tokens}
 use Rattle.ecam_spec.specs.Grammar.{Form, spelling}
 use Rattle.ecam_spec.specs.TermNames.{IsWithin, AreWithin}
 use Rattle.ecam_spec.specs.TermSize.{nodes, depth}
-use Rattle.ecam_spec.specs.TermText.{TermNames, Flaw, unknown_name, out_of_range, Outcome, unknown, number_error, too_deep, too_large, means, earlier, earliest, flaws, tree_of_form, judged_tree, judged, words_of, IsVerdict}
-use Rattle.ecam_spec.specs.TermReading.{verdict}
-use Rattle.ecam_spec.proofs.TermVerdict.{verdict_told}
+use Rattle.ecam_spec.specs.TermText.{TermNames, Flaw, unknown_name, out_of_range, Outcome, unknown, number_error, too_deep, too_large, means, earlier, earliest, flaws, tree_of_form, judged_tree, judged}
+use Rattle.ecam_spec.specs.TermVerdict.{words_of, IsVerdict}
 use Rattle.term_text.specs.Written.{written}
 use Rattle.term_text.specs.Readable.{CanBeRead, IsReadable, AreReadable, IsWritable}
 use Rattle.term_text.proofs.FineTokens.{fine_tokens, AreFine}
@@ -58,10 +57,10 @@ module _ (names : TermNames) (text : Text) where
 
 module _ (names : TermNames) where
   pub writable : (c : Tree) → CanBeRead names c → IsWritable names c
-  writable c from = verdict_writable names from.text c (subst (IsVerdict names from.text) from.meaning (verdict_told names from.text))
+  writable c from = verdict_writable names from.text c from.meaning
 
   -- what some text means can be read
-  pub can_be_read : (text : Text) (c : Tree) → verdict names text ≡ means c → CanBeRead names c
+  pub can_be_read : (text : Text) (c : Tree) → IsVerdict names text (means c) → CanBeRead names c
   can_be_read text c is = record { text = text; meaning = is }
 
   pub readable_writable : (c : Tree) → IsWritable names c → CanBeRead names c
@@ -99,5 +98,5 @@ module _ (names : TermNames) where
   pub text_short : (c : Tree) → CanBeRead names c → length (written names c) ≤ 4096
   text_short c from = let w = writable c from in omega (arith, written_length names c w.readable w.small, w.small)
 
-  pub text_means : (c : Tree) → CanBeRead names c → verdict names (written names c) ≡ means c
+  pub text_means : (c : Tree) → CanBeRead names c → IsVerdict names (written names c) (means c)
   text_means c from = let w = writable c from in means_back names c w.readable w.flat w.small

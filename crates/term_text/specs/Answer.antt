@@ -1,6 +1,8 @@
 -- What the reader of a condition's text answers.
 use Rattle.std.specs.Prelude.{◌≡◌, ⊤, Result, Ok, Err}
-use Rattle.ecam_spec.specs.TermText.{Outcome, syntax_error, unknown, number_error, too_deep, too_large, means}
+use Rattle.ecam_spec.specs.Book.{Text}
+use Rattle.ecam_spec.specs.TermText.{TermNames, Outcome, syntax_error, unknown, number_error, too_deep, too_large, means}
+use Rattle.ecam_spec.specs.TermVerdict.{IsVerdict}
 use Rattle.term_tree.specs.declared.cond.Cond.{Cond}
 use Rattle.term_tree.specs.View.{tree_of}
 use Rattle.term_text.specs.declared.error.TermError.{TermError}
@@ -15,3 +17,7 @@ Tells o (Err (Number at)) = o ≡ number_error at
 Tells o (Err TooDeep) = o ≡ too_deep
 Tells o (Err TooLarge) = o ≡ too_large
 Tells o (Err Memory) = ⊤
+
+-- it tells the verdict on a text
+abbrev pub TellsVerdict : TermNames → Text → Result Cond TermError → Type 0
+TellsVerdict names text answer = (outcome : Outcome) × IsVerdict names text outcome × Tells outcome answer

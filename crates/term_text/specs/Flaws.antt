@@ -12,6 +12,6 @@ abbrev pub flaw_in : Option kept.Flaw → Option Flaw
 flaw_in = option_map flaw_of
 
 -- of what is wrong with two parts of a text, what stands first
-abbrev pub first_of : Option Flaw → Option Flaw → Option Flaw
-first_of None b = b
-first_of (Some a) b = Some (earlier a b)
+abbrev pub earlier_of : Option Flaw → Option Flaw → Option Flaw
+earlier_of None b = b
+earlier_of (Some a) b = Some (earlier a b)

@@ -2,7 +2,7 @@ pub mod Answer
 pub mod Known
 pub mod Words
 pub mod Pending
-pub mod Steps
+pub mod StepsTold
 pub mod Numbers
 pub mod Flaws
 pub mod Written

@@ -1,7 +1,7 @@
 -- The numbers of a condition's text, where they are in their ranges.
 use Rattle.std.specs.Prelude.{ℕ, Bool, true, false, ℤ, pos, neg_ℤ, Option, Some, None, if◌then◌else◌}
 use Rattle.ecam_spec.specs.Book.{Text}
-use Rattle.ecam_spec.specs.TermText.{value, magnitude, is_within}
+use Rattle.ecam_spec.specs.TermNumber.{value, magnitude, is_within}
 
 -- a number by its sign and how far it is from 0
 abbrev pub signed : Bool → ℕ → ℤ

@@ -4,7 +4,8 @@ use Rattle.ecam_spec.specs.declared.kinds.Op.{Op}
 use Rattle.ecam_spec.specs.Book.{Text, Tree, discrete, compared, in_phase}
 use Rattle.ecam_spec.specs.Grammar.{Form, Forms, how_many}
 use Rattle.ecam_spec.specs.TermSize.{nodes, nodes_of, depth, depth_of}
-use Rattle.ecam_spec.specs.TermText.{TermNames, Flaw, earliest, flaws, flaws_of_all, tree_of_form, trees_of_forms, one_phase}
+use Rattle.ecam_spec.specs.TermText.{TermNames, Flaw, earliest, flaws, flaws_of_all, tree_of_form, trees_of_forms}
+use Rattle.ecam_spec.specs.TermNumber.{one_phase}
 use Rattle.term_tree.specs.declared.cond.Cond.{Cond}
 use Rattle.term_tree.specs.View.{tree_of, trees_of}
 use Rattle.term_text.specs.declared.part.Part.{Part}

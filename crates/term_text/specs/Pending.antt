@@ -1,11 +1,11 @@
 -- What is still expected of a condition's text, as the reader keeps it.
 use Rattle.std.specs.Prelude.{◌≡◌, ⊤, ℕ, ◌≤◌, Bool, true, false, List, [], ◌∷◌, reverse, Option, Some, None, option_to_list, Result, Ok, Err}
-use Rattle.ecam_spec.specs.declared.terms.Expected.{Expected}
-use Rattle.ecam_spec.specs.declared.terms.Expected.TheVariants.{Tail, Others}
+use Rattle.ecam_spec.specs.declared.term_steps.Expected.{Expected}
+use Rattle.ecam_spec.specs.declared.term_steps.Expected.TheVariants.{Tail, Others}
 use Rattle.ecam_spec.specs.declared.terms.Token.{Token}
 use Rattle.ecam_spec.specs.declared.terms.Token.TheVariants.{Sign}
-use Rattle.ecam_spec.specs.declared.terms.Step.{Step}
-use Rattle.ecam_spec.specs.TermReading.{Move, next_move}
+use Rattle.ecam_spec.specs.declared.term_steps.Step.{Step}
+use Rattle.ecam_spec.proofs.TermReading.{Move, next_move}
 use Rattle.term_text.specs.declared.pending.Pending.{Pending}
 use Rattle.term_text.specs.declared.error.TermError.{TermError}
 use Rattle.term_text.specs.declared.error.TermError.TheVariants.{Syntax, Memory}

@@ -4,17 +4,19 @@ use Rattle.std.specs.Prelude.{◌≡◌, ℕ, ◌<◌, ◌≤◌, true, List, le
 use Rattle.std.specs.List.{list_all}
 use Rattle.ecam_spec.specs.Book.{Text, Tree, Trees, constant, discrete, valid, compared, in_phase, alert, press, computer, negation, all, any, at_least, confirmed, held, risen, latched, none, more}
 use Rattle.ecam_spec.specs.Keys.{IsKey}
-use Rattle.ecam_spec.specs.Sound.{count_of}
+use Rattle.ecam_spec.specs.KeepsLimits.{count_of}
 use Rattle.ecam_spec.specs.TermSize.{nodes, depth}
-use Rattle.ecam_spec.specs.Token.{is_letter, is_name_byte, reserved_of}
-use Rattle.ecam_spec.specs.TermText.{TermNames, place_of, is_within, means}
-use Rattle.ecam_spec.specs.TermReading.{verdict}
+use Rattle.ecam_spec.specs.Token.{reserved_of}
+use Rattle.ecam_spec.specs.Bytes.{is_letter, is_name_byte}
+use Rattle.ecam_spec.specs.TermText.{TermNames, name_place, means}
+use Rattle.ecam_spec.specs.TermNumber.{is_within}
+use Rattle.ecam_spec.specs.TermVerdict.{IsVerdict}
 use Rattle.term_text.specs.Written.{name_at}
 
 -- some text means this tree
 pub record CanBeRead (names : TermNames) (c : Tree) : Type 0 where
   pub text : Text
-  pub meaning : verdict names text ≡ means c
+  pub meaning : IsVerdict names text (means c)
 
 -- a name that a condition may use: it begins with a letter, has small letters, digits and low lines alone, and
 -- isn't reserved
@@ -28,7 +30,7 @@ pub record IsKnownName (list : List Text) (p : ℕ) : Type 0 where
   pub within : p < length list
   pub word : IsNameWord (name_at list p)
   pub short : length (name_at list p) ≤ 24
-  pub first : place_of list (name_at list p) ≡ Some p
+  pub first : name_place list (name_at list p) ≡ Some p
 
 -- a number that a condition may compare a parameter with
 abbrev pub IsComparable : ℤ → Type 0

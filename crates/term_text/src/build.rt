@@ -2,7 +2,7 @@
 ghost use Rattle.std.specs.Prelude.{◌≡◌, ◌<◌, ◌^◌, [], ◌∷◌, List, Some, IfOk, OnOk, length};
 ghost use Rattle.ecam_spec.specs.Grammar.{Form};
 ghost use Rattle.ecam_spec.specs.TermText.{judged};
-ghost use Rattle.ecam_spec.specs.TermReading.{after_step, after_all};
+ghost use Rattle.ecam_spec.proofs.TermReading.{after_step, after_all};
 ghost use Rattle.term_text.specs.Answer.{Tells};
 ghost use Rattle.term_text.specs.Parts.{StandFor, parts};
 

@@ -1,7 +1,7 @@
 // What is wrong with the names and the numbers of a condition's text.
 ghost use Rattle.std.specs.Prelude.{◌≡◌};
 ghost use Rattle.ecam_spec.specs.TermText.{flaw_place};
-ghost use Rattle.term_text.specs.Flaws.{flaw_of, flaw_in, first_of};
+ghost use Rattle.term_text.specs.Flaws.{flaw_of, flaw_in, earlier_of};
 
 /// What is wrong with a name or a number, and where that begins.
 #[derive(Clone, Copy, Debug)]
@@ -23,8 +23,8 @@ impl Flaw {
 
 /// Of what is wrong with two parts of a text, what stands first.
 #[tactic(auto, unfolding(ecam_spec::specs::TermText::earlier))]
-pub(crate) fn first_of(one: Option<Flaw>, other: Option<Flaw>) -> Option<Flaw>
-    ensures { flaw_in result ≡ first_of (flaw_in one) (flaw_in other) }
+pub(crate) fn earlier_of(one: Option<Flaw>, other: Option<Flaw>) -> Option<Flaw>
+    ensures { flaw_in result ≡ earlier_of (flaw_in one) (flaw_in other) }
 {
     match (one, other) {
         (Some(a), Some(b)) => {

@@ -3,10 +3,10 @@ ghost use Rattle.std.specs.Prelude.{◌≡◌, OnOk};
 ghost use Rattle.ecam_spec.specs.Book.{Text};
 ghost use Rattle.ecam_spec.specs.Grammar.{Form, Forms, no_more, and_then};
 ghost use Rattle.ecam_spec.specs.TermText.{TermNames};
-ghost use Rattle.ecam_spec.specs.TermReading.{list_form};
+ghost use Rattle.ecam_spec.proofs.TermReading.{list_form};
 ghost use Rattle.term_text.specs.Parts.{JudgesForm, JudgesForms};
 
-use crate::flaw::{Flaw, first_of};
+use crate::flaw::{Flaw, earlier_of};
 use crate::part::Part;
 use crate::resolve::amount_at;
 use ecam_spec::Listed;
@@ -51,7 +51,7 @@ impl Members {
             cond,
         } = part;
         self.conds.push(cond)?;
-        self.flaw = first_of(flaw, self.flaw);
+        self.flaw = earlier_of(flaw, self.flaw);
         self.depth = self.depth.max(depth);
         self.size = self.size.saturating_add(size);
         Ok(())
@@ -76,7 +76,7 @@ impl Members {
                 let least = amount_at(text, number, 1, conds.len() as u64);
                 let count = u32::try_from(least.value).unwrap_or(u32::MAX);
                 let node = Cond::AtLeast(count, conds);
-                Part::above(first_of(flaw, least.flaw), depth, size, node)
+                Part::above(earlier_of(flaw, least.flaw), depth, size, node)
             }
         }
     }

@@ -1,7 +1,9 @@
 // The numbers of a condition's text.
 ghost use Rattle.std.specs.Prelude.{◌≡◌, ◌<◌, ◌≤◌, min, IfSome};
-ghost use Rattle.ecam_spec.specs.TermText.{digits_value, is_negative, magnitude};
+ghost use Rattle.ecam_spec.specs.TermNumber.{digits_value, is_negative, magnitude};
 ghost use Rattle.term_text.specs.Numbers.{amount_within, compared_number, signed};
+
+use ecam_spec::limits;
 
 // The number of decimal digits, highest first, ending at `u64::MAX`.
 fn digits_value(digits: &[u8]) -> u64
@@ -26,7 +28,7 @@ fn is_negative(text: &[u8]) -> bool
 }
 
 // How far a number is from 0, ending at `u64::MAX`.
-#[tactic(auto, unfolding(ecam_spec::specs::TermText::magnitude))]
+#[tactic(auto, unfolding(ecam_spec::specs::TermNumber::magnitude))]
 fn magnitude(text: &[u8]) -> u64
     ensures { result ≡ min (magnitude text.now) u64.MAX }
 {
@@ -37,12 +39,15 @@ fn magnitude(text: &[u8]) -> u64
     }
 }
 
-/// A number that something is compared with, -1000000 to 1000000.
+// The greatest number that something is compared with.
+const GREATEST: u64 = limits::NUMBER as u64;
+
+/// A number that something is compared with, as far as the greatest from 0.
 pub(crate) fn compared_number(text: &[u8]) -> Option<i64>
     ensures { result ≡ compared_number text.now }
 {
     let magnitude = magnitude(text);
-    if magnitude > 1_000_000 {
+    if magnitude > GREATEST {
         None
     } else {
         Some(signed(is_negative(text), magnitude))
@@ -50,7 +55,7 @@ pub(crate) fn compared_number(text: &[u8]) -> Option<i64>
 }
 
 fn signed(is_negative: bool, magnitude: u64) -> i64
-    requires { magnitude ≤ 1000000 }
+    requires { magnitude ≤ GREATEST }
     ensures { result ≡ signed is_negative magnitude }
 {
     let value = magnitude as i64;

@@ -3,29 +3,30 @@ ghost use Rattle.std.specs.Prelude.{◌≡◌, ℕ, ◌+◌, ◌≤◌, min, Non
 ghost use Rattle.ecam_spec.specs.Book.{Text, Tree, constant, discrete, compared, in_phase, negation, risen, confirmed, held, latched};
 ghost use Rattle.ecam_spec.specs.Token.{bytes_of};
 ghost use Rattle.ecam_spec.specs.TermSize.{nodes, depth};
-ghost use Rattle.ecam_spec.specs.TermText.{TermNames, Flaw as Wrong, earliest, moments_flaw, compared_flaw, phase_flaw, judged_tree, amount, one_phase, value};
+ghost use Rattle.ecam_spec.specs.TermText.{TermNames, Flaw as Wrong, earliest, moments_flaw, compared_flaw, phase_flaw, judged_tree, amount};
+ghost use Rattle.ecam_spec.specs.TermNumber.{one_phase, value};
 ghost use Rattle.term_tree.specs.View.{tree_of};
 ghost use Rattle.term_text.specs.Answer.{Tells};
-ghost use Rattle.term_text.specs.Flaws.{flaw_in, first_of};
+ghost use Rattle.term_text.specs.Flaws.{flaw_in, earlier_of};
 ghost use Rattle.term_text.specs.Parts.{Judges, Measures, most, with_comparison, with_phase};
 
 use crate::error::TermError;
-use crate::flaw::{Flaw, first_of};
+use crate::flaw::{Flaw, earlier_of};
 use crate::resolve::{amount_at, compared_at};
 use bitflags::Flags;
 use ecam_kinds::{Phase, PhaseSet};
-use ecam_spec::{Op, Span};
+use ecam_spec::{Op, Span, limits};
 use std::alloc::{AllocError, Global};
 use term_tree::Cond;
 
 /// The deepest that a condition may be.
-const DEEPEST: usize = 16;
+const DEEPEST: usize = limits::TERM_DEPTH;
 
 /// The most nodes that a condition may have.
-const LARGEST: usize = 64;
+const LARGEST: usize = limits::TERM_NODES;
 
 /// The most moments of a confirmation or a hold.
-const LONGEST: u64 = 36_000;
+const LONGEST: u64 = limits::WAIT as u64;
 
 /// A condition that was read.
 #[derive(Drop)]
@@ -100,7 +101,7 @@ impl Part {
     /// That this one has held for so many moments.
     pub fn confirmed(self, alloc: Global, text: &[u8], number: Span) -> Result<Part, AllocError>
         ensures { (names : TermNames) (wrong : Option Wrong) (tree : Tree) → Judges self wrong tree
-            → IfOk result (λ p. Judges p (first_of wrong (earliest (moments_flaw names text.now number))) (confirmed tree (amount names text.now number))) }
+            → IfOk result (λ p. Judges p (earlier_of wrong (earliest (moments_flaw names text.now number))) (confirmed tree (amount names text.now number))) }
     {
         let Part {
             flaw,
@@ -110,13 +111,13 @@ impl Part {
         } = self;
         let moments = amount_at(text, number, 0, LONGEST);
         let node = Cond::Conf(Box::new(alloc, cond)?, moments.value as u32);
-        Ok(Part::above(first_of(flaw, moments.flaw), depth, size, node))
+        Ok(Part::above(earlier_of(flaw, moments.flaw), depth, size, node))
     }
 
     /// That this one holds or held so many moments before.
     pub fn held(self, alloc: Global, text: &[u8], number: Span) -> Result<Part, AllocError>
         ensures { (names : TermNames) (wrong : Option Wrong) (tree : Tree) → Judges self wrong tree
-            → IfOk result (λ p. Judges p (first_of wrong (earliest (moments_flaw names text.now number))) (held tree (amount names text.now number))) }
+            → IfOk result (λ p. Judges p (earlier_of wrong (earliest (moments_flaw names text.now number))) (held tree (amount names text.now number))) }
     {
         let Part {
             flaw,
@@ -126,15 +127,15 @@ impl Part {
         } = self;
         let moments = amount_at(text, number, 0, LONGEST);
         let node = Cond::Hold(Box::new(alloc, cond)?, moments.value as u32);
-        Ok(Part::above(first_of(flaw, moments.flaw), depth, size, node))
+        Ok(Part::above(earlier_of(flaw, moments.flaw), depth, size, node))
     }
 
     /// That this one has held, and the other hasn't since.
     pub fn latched(self, alloc: Global, reset: Part) -> Result<Part, AllocError>
         ensures { (wrong other_wrong : Option Wrong) (tree other : Tree) → Judges self wrong tree → Judges reset other_wrong other
-            → IfOk result (λ p. Judges p (first_of wrong other_wrong) (latched tree other)) }
+            → IfOk result (λ p. Judges p (earlier_of wrong other_wrong) (latched tree other)) }
     {
-        let flaw = first_of(self.flaw, reset.flaw);
+        let flaw = earlier_of(self.flaw, reset.flaw);
         let depth = self.depth.max(reset.depth);
         let size = self.size.saturating_add(reset.size);
         let set = Box::new(alloc, self.cond)?;
@@ -145,7 +146,7 @@ impl Part {
     /// Compares the value of a parameter, whose truth this condition is.
     pub fn compared(self, text: &[u8], op: Op, number: Span) -> Part
         ensures { (names : TermNames) (wrong : Option Wrong) (param : ℕ) → Judges self wrong (discrete param)
-            → Judges result (first_of wrong (earliest (compared_flaw names text.now number))) (compared param op (value (bytes_of text.now number))) }
+            → Judges result (earlier_of wrong (earliest (compared_flaw names text.now number))) (compared param op (value (bytes_of text.now number))) }
     {
         let Part {
             flaw,
@@ -155,7 +156,7 @@ impl Part {
         } = self;
         let number = compared_at(text, number);
         Part::new(
-            first_of(flaw, number.flaw),
+            earlier_of(flaw, number.flaw),
             depth,
             size,
             comparison(cond, op, number.value),
@@ -165,7 +166,7 @@ impl Part {
     /// Takes one more phase to those that this condition has.
     pub fn also_in_phase(self, text: &[u8], number: Span) -> Part
         ensures { (names : TermNames) (wrong : Option Wrong) (set : ℕ) → Judges self wrong (in_phase set)
-            → Judges result (first_of wrong (earliest (phase_flaw names text.now number))) (in_phase (bit_or set (one_phase (amount names text.now number)))) }
+            → Judges result (earlier_of wrong (earliest (phase_flaw names text.now number))) (in_phase (bit_or set (one_phase (amount names text.now number)))) }
     {
         let Part {
             flaw,
@@ -178,7 +179,7 @@ impl Part {
             number: number.value as u8,
         };
         Part::new(
-            first_of(flaw, number.flaw),
+            earlier_of(flaw, number.flaw),
             depth,
             size,
             with_phase(cond, phase),
@@ -220,7 +221,7 @@ fn comparison(cond: Cond, op: Op, value: i64) -> Cond
 }
 
 // One more phase in a set of phases.
-#[tactic(auto, unfolding(ecam_spec::specs::TermText::one_phase))]
+#[tactic(auto, unfolding(ecam_spec::specs::TermNumber::one_phase))]
 fn with_phase(cond: Cond, phase: Phase) -> Cond
     requires first { 1 ≤ phase.number }
     requires last { phase.number ≤ 10 }

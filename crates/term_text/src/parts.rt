@@ -3,7 +3,7 @@ ghost use Rattle.std.specs.Prelude.{◌≡◌, ◌-◌, [], ◌∷◌, List, Som
 ghost use Rattle.ecam_spec.specs.Book.{Text};
 ghost use Rattle.ecam_spec.specs.Grammar.{Form, Forms, no_more, and_then};
 ghost use Rattle.ecam_spec.specs.TermText.{TermNames};
-ghost use Rattle.ecam_spec.specs.TermReading.{gathered};
+ghost use Rattle.ecam_spec.proofs.TermReading.{gathered};
 ghost use Rattle.term_text.specs.Parts.{JudgesForms, StandFor, parts};
 ghost use Rattle.term_text.specs.declared.part.Part.{Part as Kept};
 

@@ -1,7 +1,7 @@
 // What is still expected of a condition's text, token by token.
 ghost use Rattle.std.specs.Prelude.{◌≡◌, ℕ, ◌<◌, ◌≤◌, [], ◌∷◌, ◌++◌, true, IfOk, OnOk, IfSome, option_to_list};
-ghost use Rattle.ecam_spec.specs.declared.terms.Expected.TheVariants.{Condition, Opening, Separator, Closing, ANumber};
-ghost use Rattle.ecam_spec.specs.TermReading.{rule, at_once, name_step, number_step, next_move, is_whole};
+ghost use Rattle.ecam_spec.specs.declared.term_steps.Expected.TheVariants.{Condition, Opening, Separator, Closing, ANumber};
+ghost use Rattle.ecam_spec.proofs.TermReading.{rule, at_once, name_step, number_step, next_move, is_whole};
 ghost use Rattle.term_text.specs.Pending.{pending, is_tail, is_sign, count_of, CountsWithin, move_from, Moves};
 
 use crate::error::TermError;
@@ -64,7 +64,7 @@ impl Pending {
     }
 
     // Sets a token against what is expected, which is taken.
-    #[tactic(auto, unfolding(ecam_spec::specs::TermReading::next_move))]
+    #[tactic(auto, unfolding(ecam_spec::proofs::TermReading::next_move))]
     fn meet(
         &mut self,
         expected: Expected,

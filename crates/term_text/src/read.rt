@@ -1,7 +1,6 @@
 // Reading a condition's text.
 ghost use Rattle.std.specs.Prelude.{◌≡◌, ◌≤◌, ◌<◌, ◌^◌, length};
-ghost use Rattle.ecam_spec.specs.TermReading.{verdict};
-ghost use Rattle.term_text.specs.Answer.{Tells};
+ghost use Rattle.term_text.specs.Answer.{TellsVerdict};
 ghost use Rattle.term_text.specs.Known.{known_names};
 
 use crate::build::condition_of;
@@ -16,7 +15,7 @@ pub fn read_term(alloc: Global, text: &str, names: &Names<'_>) -> Result<Cond, T
     requires short { length text.now ≤ 4096 }
     requires few_parameters { length names.now.params.now < 2 ^ 32 }
     requires few_alerts { length names.now.alerts.now < 2 ^ 32 }
-    ensures { Tells (verdict (known_names names.now) text.now) result }
+    ensures { TellsVerdict (known_names names.now) text.now result }
 {
     read_term_by(alloc, text, names)
 }
@@ -26,7 +25,7 @@ pub fn read_term_by<D: Dictionary>(alloc: Global, text: &str, names: &D) -> Resu
     requires short { length text.now ≤ 4096 }
     requires few_parameters { length (D.known names.now).parameters < 2 ^ 32 }
     requires few_alerts { length (D.known names.now).alerts < 2 ^ 32 }
-    ensures { Tells (verdict (D.known names.now) text.now) result }
+    ensures { TellsVerdict (D.known names.now) text.now result }
 {
     let bytes = text.as_bytes();
     let steps = steps_of(alloc, bytes)?;

@@ -1,7 +1,8 @@
 // What the names and the numbers of a condition's text stand for.
 ghost use Rattle.std.specs.Prelude.{◌≡◌, ◌<◌, ◌≤◌, ◌^◌, None, pos, length, unwrap_or};
 ghost use Rattle.ecam_spec.specs.Token.{bytes_of};
-ghost use Rattle.ecam_spec.specs.TermText.{TermNames, earliest, name_flaw, number_flaw, compared_flaw, place_of, parameter_of, alert_place, amount, value};
+ghost use Rattle.ecam_spec.specs.TermText.{TermNames, earliest, name_flaw, number_flaw, compared_flaw, name_place, parameter_of, alert_place, amount};
+ghost use Rattle.ecam_spec.specs.TermNumber.{value};
 ghost use Rattle.term_text.specs.Flaws.{flaw_in};
 
 use crate::flaw::Flaw;

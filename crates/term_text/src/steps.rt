@@ -1,7 +1,7 @@
 // The steps that a condition's text makes: one pass over the text, token by token.
 ghost use Rattle.std.specs.Prelude.{◌≡◌, ◌<◌, ◌++◌, length, OnOk, option_to_list};
-ghost use Rattle.ecam_spec.specs.TermReading.{text_reading};
-ghost use Rattle.term_text.specs.Steps.{TellsSteps};
+ghost use Rattle.ecam_spec.proofs.TermReading.{text_reading};
+ghost use Rattle.term_text.specs.StepsTold.{TellsSteps};
 
 use crate::error::TermError;
 use crate::pending::Pending;

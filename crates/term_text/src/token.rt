@@ -1,7 +1,8 @@
 // The tokens of a condition's text.
 ghost use Rattle.std.specs.Prelude.{◌≡◌, ◌≤◌, ◌<◌, ◌+◌, suc, true, slice_index, drop, length};
 ghost use Rattle.std.specs.List.{list_all};
-ghost use Rattle.ecam_spec.specs.Token.{is_small_letter, is_digit, is_letter, is_name_byte, is_word_byte, run_length, may_take_equals, begins_with_equals, more_bytes, word_token, sign_token, token_at};
+ghost use Rattle.ecam_spec.specs.Token.{run_length, may_take_equals, begins_with_equals, more_bytes, word_token, sign_token, token_at};
+ghost use Rattle.ecam_spec.specs.Bytes.{is_small_letter, is_digit, is_letter, is_name_byte, is_word_byte};
 
 use crate::words::{key_of, reserved_of};
 use ecam_spec::{Op, Span, Token};

@@ -1,7 +1,7 @@
 // Writing a condition as text.
 ghost use Rattle.std.specs.Prelude.{◌≡◌, ◌++◌, ◌≤◌, true, length, codes, string_bytes, decimal, IfOk};
 ghost use Rattle.ecam_spec.specs.TermText.{means};
-ghost use Rattle.ecam_spec.specs.TermReading.{verdict};
+ghost use Rattle.ecam_spec.specs.TermVerdict.{IsVerdict};
 ghost use Rattle.ecam_spec.specs.TermNames.{IsWithin, AreWithin};
 ghost use Rattle.term_tree.specs.View.{tree_of, trees_of};
 ghost use Rattle.term_text.specs.Known.{known_names};
@@ -23,7 +23,7 @@ pub fn write_term(alloc: Global, cond: &Cond, names: &Names<'_>) -> Result<Strin
     requires { CanBeRead (known_names names.now) (tree_of cond.now) }
     ensures normal { IfOk result (λ t. string_bytes t ≡ written (known_names names.now) (tree_of cond.now)) }
     ensures short { IfOk result (λ t. length (string_bytes t) ≤ 4096) }
-    ensures reads_back { IfOk result (λ t. verdict (known_names names.now) (string_bytes t) ≡ means (tree_of cond.now)) }
+    ensures reads_back { IfOk result (λ t. IsVerdict (known_names names.now) (string_bytes t) (means (tree_of cond.now))) }
 {
     let mut text = String::new(alloc);
     push_condition(&mut text, cond, names)?;

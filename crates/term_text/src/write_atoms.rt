@@ -7,11 +7,12 @@ ghost use Rattle.term_text.specs.Written as spec;
 use arrayvec::ArrayString;
 use ecam_kinds::{Key, Phase, PhaseSet};
 use ecam_spec::Op;
+use ecam_spec::limits::NAME;
 use itoa::{Buffer, Integer};
 use std::alloc::AllocError;
 
 /// The name at a place.
-pub(crate) fn name_at(names: &[ArrayString<24>], place: u32) -> &str
+pub(crate) fn name_at(names: &[ArrayString<NAME>], place: u32) -> &str
     requires { place < length names.now }
     ensures { result.now ≡ spec.name_at (texts_of names.now) place }
 {

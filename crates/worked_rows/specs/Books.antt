@@ -7,7 +7,7 @@ use Rattle.ecam_spec.specs.declared.kinds.Kind.TheVariants.{Disc, Bnr}
 use Rattle.ecam_spec.specs.declared.kinds.Level.{Level}
 use Rattle.ecam_spec.specs.declared.kinds.Level.TheVariants.{One, Two, Three}
 use Rattle.ecam_spec.specs.declared.kinds.Sound.{Sound}
-use Rattle.ecam_spec.specs.declared.kinds.Sound.TheVariants.{Quiet, Chime, Repetitive}
+use Rattle.ecam_spec.specs.declared.kinds.Sound.TheVariants.{Quiet, Chime, Repetitive, Cavalry}
 use Rattle.ecam_spec.specs.Book.{Text, Tree, constant, discrete, compared, press, computer, negation, confirmed, Source, Parameter, PhaseTerms, Line, Alert, Page, Book}
 
 -- the words with a label on a bus, of which one bit is read
@@ -112,6 +112,10 @@ book_d level =
       alerts = record (reservoir level (discrete 0)) { inhibit = phases (3 ∷ 4 ∷ 5 ∷ []) } ∷ [];
     }
 
+-- a record for Book D: the phases 1 to 4 in a moment each, the level low in the last, and RCL in the next moment
+abbrev pub until_recall : Text
+until_recall = codes "W 0 00000417/T/W 0 80000c17/T/W 0 00001c17/T/W 0 80003c17/W 0 0000041d/T/P RCL/T/"
+
 -- Book E: two alerts of two bits
 abbrev pub book_e : Book
 book_e =
@@ -147,6 +151,16 @@ book_l =
 abbrev pub book_w : Book
 book_w = hydraulics (low_level ∷ []) (alert (codes "g_rsvr") (codes "ENG 1 FIRE") Three (discrete 0) ∷ [])
 
+-- the green pressure: a number of 12 bits and a sign
+abbrev pub green_pressure : Parameter
+green_pressure =
+    record {
+      name = codes "g_press";
+      kind = Bnr;
+      stale = 10;
+      sources = record { bus = 1; label = 0o300; sdi = None; bit = 11; low = 17; range = 4096 } ∷ [];
+    }
+
 -- Book S: an ordinary failure, with a page, a pressure, a procedure line, a status line and a secondary failure
 abbrev pub book_s : Book
 book_s =
@@ -163,14 +177,7 @@ book_s =
           }
           ∷ [];
       parameters =
-          low_level ∷ pump_off
-          ∷ record {
-            name = codes "g_press";
-            kind = Bnr;
-            stale = 10;
-            sources = record { bus = 1; label = 0o300; sdi = None; bit = 11; low = 17; range = 4096 } ∷ [];
-          }
-          ∷ [];
+          low_level ∷ pump_off ∷ green_pressure ∷ [];
       alerts =
           record (reservoir Two (discrete 0)) {
             page = Some 0;
@@ -196,6 +203,28 @@ book_pages =
       memos = [];
       pages = bare_page (codes "p1") (codes "P1") ∷ bare_page (codes "p2") (codes "P2") ∷ bare_page (codes "p3") (codes "P3") ∷ [];
     }
+
+-- Book E with two warnings of different sounds
+abbrev pub book_warnings : Book
+book_warnings =
+    record book_e {
+      alerts =
+          alert (codes "ax") (codes "ALERT X") Three (discrete 0)
+          ∷ record (alert (codes "ay") (codes "ALERT Y") Three (discrete 1)) { sound = Cavalry }
+          ∷ [];
+    }
+
+-- seven alerts: the third explains the fourth and has six lines, the sixth is inhibited in phase 1, and the
+-- seventh is of another bit
+abbrev pub book_standings : Book
+book_standings =
+    hydraulics (low_level ∷ pump_off ∷ []) (
+    numbered_alert 1 ∷ numbered_alert 2
+    ∷ record (numbered_alert 3) { secondary = 3 ∷ []; lines = map numbered_line (2 ∷ 3 ∷ 4 ∷ 5 ∷ 6 ∷ 7 ∷ []) }
+    ∷ numbered_alert 4 ∷ numbered_alert 5
+    ∷ record (numbered_alert 6) { inhibit = phases (1 ∷ []) }
+    ∷ record (numbered_alert 7) { when = discrete 1 }
+    ∷ [])
 
 -- a book that tells of the failure of computer 1
 abbrev pub book_computer : Book

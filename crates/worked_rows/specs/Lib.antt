@@ -2,5 +2,6 @@
 -- by their inputs.
 pub mod Rows
 pub mod Books
+pub mod DisplayBooks
 pub mod Signals
 pub mod Flights

@@ -1,21 +1,30 @@
-// Each active alert is accounted for.
+// Each active or recalled alert is accounted for.
 
-ghost use Rattle.std.specs.Prelude.{◌≡◌, ℕ, ◌-◌, ◌≤◌, ◌==◌, get_or, count_by, is_some};
+ghost use Rattle.std.specs.Prelude.{◌≡◌, ℕ, ◌-◌, ◌≤◌, true, false, not, ◌&&◌, ◌||◌, ◌==◌, get_or, count_by, is_some};
 ghost use Rattle.std.specs.List.{list_any};
 ghost use Rattle.ecam_spec.specs.declared.kinds.Standing.TheVariants.{Titled};
 ghost use Rattle.ecam_spec.specs.Book.{Book};
 ghost use Rattle.ecam_spec.specs.History.{Moment};
 ghost use Rattle.ecam_spec.specs.Picture.{row, blank_row};
 ghost use Rattle.ecam_spec.specs.LeftZone.{title_colour, title_row, overflow};
-ghost use Rattle.ecam_spec.specs.Standing.{accounts, is_counted};
+ghost use Rattle.ecam_spec.specs.Standing.{accounts, has_row, is_counted};
 ghost use Rattle.ecam_spec.specs.Situation.{alert_at, active_in};
-ghost use Rattle.ecam_spec.specs.Screen.{alert_numbers, shown_in, left_in, picture_in};
+ghost use Rattle.ecam_spec.specs.Screen.{alert_numbers, recalled_in, cancelled_in, shown_in, left_in, picture_in};
 ghost use Rattle.ecam_spec.specs.Replay.{standing_in};
 
-/// In each moment an alert is starred, cancelled, cleared, titled or counted exactly where it is active.
-#[tactic(auto, using(crate::proofs::AccountLaws::accounted_where_active))]
+/// In each moment an alert is starred, cancelled, cleared, titled or counted exactly where it is active, or recalled
+/// and not cancelled.
+#[tactic(auto, using(crate::proofs::AccountLaws::accounted))]
 pub fn each_active_alert_is_accounted_for()
-    ensures { (b : Book) (moments : ℕ → Moment) (a k : ℕ) → accounts (standing_in b moments k a) ≡ active_in b moments a k }
+    ensures { (b : Book) (moments : ℕ → Moment) (a k : ℕ) → accounts (standing_in b moments k a)
+        ≡ (active_in b moments a k || (recalled_in b moments a k && not (cancelled_in b moments a k))) }
+{}
+
+/// A recalled alert that isn't cancelled is titled or counted.
+#[tactic(auto, using(crate::proofs::AccountLaws::recalled_listed))]
+pub fn a_recalled_alert_is_titled_or_counted()
+    ensures { (b : Book) (moments : ℕ → Moment) (a k : ℕ) → recalled_in b moments a k ≡ true →
+        cancelled_in b moments a k ≡ false → has_row (standing_in b moments k a) ≡ true }
 {}
 
 /// A titled alert's row, 1 to 7, is its title.

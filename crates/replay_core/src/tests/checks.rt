@@ -32,7 +32,7 @@ const SLOTS: &str = "version = 1\nsystems = [\"HYD\"]\n\
 [[param]]\nname = \"g_lo\"\nkind = \"disc\"\nstale = 600\nsource = [{ bus = 0, label = \"270\", bit = 11 }]\n\
 [[alert]]\nname = \"g_rsvr\"\ntitle = \"HYD G RSVR LO LVL\"\nsystem = \"HYD\"\nlevel = 1\nconfirm = 3\nwhen = \"conf(latch(g_lo, rise(valid(g_lo))), 2)\"\n";
 
-const LEVEL_FOUR: &str = "version = 1\nsystems = [\"HYD\"]\n\
+pub(crate) const LEVEL_FOUR: &str = "version = 1\nsystems = [\"HYD\"]\n\
 [[param]]\nname = \"g_lo\"\nkind = \"disc\"\nstale = 600\nsource = [{ bus = 0, label = \"270\", bit = 11 }]\n\
 [[alert]]\nname = \"g_rsvr\"\ntitle = \"HYD G RSVR LO LVL\"\nsystem = \"HYD\"\nlevel = 4\nwhen = \"g_lo\"\n";
 

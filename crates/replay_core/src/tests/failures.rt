@@ -20,6 +20,15 @@ fn third_write_fails<'a>() -> Outside<'a>
     }
 }
 
+// Nothing fails, and a read gives so many bytes.
+pub(crate) fn in_pieces<'a>(piece: usize) -> Outside<'a>
+    requires { 0 < piece }
+    ensures read { 0 < result.read_piece }
+    ensures write { 0 < result.write_piece }
+{
+    a_read_fails(&[], piece)
+}
+
 // The call of this number fails, where a read gives so many bytes.
 fn a_read_fails<'a>(failing: &'a [u32], piece: usize) -> Outside<'a>
     requires { 0 < piece }
@@ -36,7 +45,12 @@ fn a_read_fails<'a>(failing: &'a [u32], piece: usize) -> Outside<'a>
 
 #[test]
 fn a_write_fails(rt: HostRuntime) -> Result<(), Fail> {
-    for (words, written) in [(" replay book record", "@0"), (" check book", "OK")] {
+    for (words, written) in [
+        (" replay book record", "@0"),
+        (" why book record", "g_"),
+        (" drill book 1 1", "mo"),
+        (" check book", "OK"),
+    ] {
         let files = two_files(rt.alloc(), BOOK, RECORD)?;
         does(
             &rt,
@@ -70,7 +84,12 @@ fn a_read_fails_in_mid_record(rt: HostRuntime) -> Result<(), Fail> {
 
 #[test]
 fn a_file_is_not_read(rt: HostRuntime) -> Result<(), Fail> {
-    for words in [" replay book record", " check book"] {
+    for words in [
+        " replay book record",
+        " why book record",
+        " drill book 1 1",
+        " check book",
+    ] {
         let files = two_files(rt.alloc(), BOOK, RECORD)?;
         does(
             &rt,
@@ -81,7 +100,14 @@ fn a_file_is_not_read(rt: HostRuntime) -> Result<(), Fail> {
             UNREAD,
         )?;
     }
-    for words in [" replay other record", " replay book other", " check other"] {
+    for words in [
+        " replay other record",
+        " replay book other",
+        " why other record",
+        " why book other",
+        " drill other 1 1",
+        " check other",
+    ] {
         let files = two_files(rt.alloc(), BOOK, RECORD)?;
         does(&rt, rt.alloc(), words, files, sound(), UNREAD)?;
     }
@@ -106,6 +132,17 @@ fn words_without_a_form(rt: HostRuntime) -> Result<(), Fail> {
         " replay book record --limit 1x",
         " replay book record --most 17",
         " replay book record --limit 17 more",
+        " why book",
+        " why book record more",
+        " why book record --limit 17",
+        " drill book 1",
+        " drill book 1 1 1",
+        " drill book 18446744073709551616 1",
+        " drill book 000000000000000000001 1",
+        " drill book 1 1000001",
+        " drill book 1 00000001",
+        " drill book +1 1",
+        " drill book 1 -1",
     ] {
         let files = two_files(rt.alloc(), BOOK, "E\n")?;
         does(

@@ -2,12 +2,12 @@ use Rattle.std.proofs.Common.{◌∙◌, rules, tests}
 use Rattle.std.proofs.lemmas.Iterator.{YieldsList-from_slice}
 use Rattle.std.proofs.lemmas.Iterator.Search.{any_from_yields_List}
 use Rattle.std.specs.Prelude.{is_none}
-use Rattle.book_model.specs.AlertPlaces.{place_by}
+use Rattle.book_model.specs.NamePlaces.{number_by}
 use Rattle.book_model.specs.View.{bytes_of}
 use Rattle.book_checker.proofs.Secondaries.{unknown_by}
 use Rattle.book_checker.proofs.alerts.has_unknown.Goals as goal
 
 pub returns : goal.returns
 returns c names finds =
-    any_from_yields_List (λ n. is_none (place_by c.args.places.now (bytes_of n))) _ _ c.any.result c.any.ensures.ran (YieldsList-from_slice c.args.secondaries.now cc) (λ x b q k. search (rules, tests))
+    any_from_yields_List (λ n. is_none (number_by c.args.places.now (bytes_of n))) _ _ c.any.result c.any.ensures.ran (YieldsList-from_slice c.args.secondaries.now cc) (λ x b q k. search (rules, tests))
     ∙ unknown_by names c.args.places.now finds bytes_of c.args.secondaries.now

@@ -1,5 +1,5 @@
 use Rattle.std.proofs.Common.{◌≡◌, false, sym, subst}
-use Rattle.ecam_spec.specs.Sound.{IsSoundTerm}
+use Rattle.ecam_spec.specs.KeepsLimits.{IsSoundTerm}
 use Rattle.term_tree.specs.declared.cond.Cond.{Cond}
 use Rattle.term_tree.specs.View.{tree_of}
 use Rattle.book_model.specs.declared.draft.Draft.{Draft}

@@ -1,8 +1,8 @@
 use Rattle.std.proofs.Common.{◌≡◌, ℕ, ◌<◌, ◌≤◌, nat_lt, true, false, get_or, [], List, Bor, ◌∙◌, sym, ap, arith}
 use Rattle.std.proofs.lemmas.Bool.Decides.{nat_tests}
 use Rattle.std.specs.List.{count_by}
-use Rattle.ecam_spec.specs.BookText.{same_text}
-use Rattle.ecam_spec.specs.Sound.{is_repeated}
+use Rattle.ecam_spec.specs.Bytes.{same_text}
+use Rattle.ecam_spec.specs.KeepsLimits.{is_repeated}
 use Rattle.book_tables.specs.Reading.{texts_of}
 use Rattle.book_faults.proofs.FirstItems.{first_here, first_later, first_nowhere}
 use Rattle.book_faults.proofs.searches.first_counted_twice.Goals as goal

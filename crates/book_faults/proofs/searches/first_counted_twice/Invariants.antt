@@ -1,6 +1,6 @@
 use Rattle.std.proofs.Common.{◌≡◌}
 use Rattle.ecam_spec.specs.Faults.{first_item}
-use Rattle.ecam_spec.specs.Sound.{is_repeated}
+use Rattle.ecam_spec.specs.KeepsLimits.{is_repeated}
 use Rattle.book_tables.specs.Reading.{texts_of}
 use Rattle.book_faults.proofs.FirstItems.{first_after}
 use Rattle.book_faults.proofs.searches.first_counted_twice.Given as goal

@@ -1,6 +1,6 @@
 use Rattle.std.proofs.Common.{arith}
 use Rattle.std.proofs.lemmas.Grind.{common_steps}
-use Rattle.ecam_spec.specs.BookText.{same_text}
+use Rattle.ecam_spec.specs.Bytes.{same_text}
 use Rattle.book_faults.proofs.KeyLists.{any_key_names}
 use Rattle.book_faults.proofs.tables.has_key.Goals as goal
 

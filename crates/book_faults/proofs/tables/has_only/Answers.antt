@@ -3,7 +3,7 @@ use Rattle.std.specs.List.{list_any}
 use Rattle.std.specs.Map.{keys_of}
 use Rattle.std.proofs.lemmas.Iterator.Consumers.{YieldsList-from_rest}
 use Rattle.std.proofs.lemmas.Iterator.Search.{all_from_yields_List}
-use Rattle.ecam_spec.specs.BookText.{same_text}
+use Rattle.ecam_spec.specs.Bytes.{same_text}
 use Rattle.book_faults.specs.Keys.{key_names}
 use Rattle.book_tables.proofs.Items.{all_keys}
 use Rattle.book_faults.proofs.tables.has_only.Goals as goal

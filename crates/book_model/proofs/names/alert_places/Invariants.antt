@@ -1,6 +1,6 @@
 use Rattle.std.proofs.Common.{map, take}
 use Rattle.book_model.specs.View.{name_of}
-use Rattle.book_model.specs.AlertPlaces.{FindsPlaces}
+use Rattle.book_model.specs.NamePlaces.{FindsPlaces}
 use Rattle.book_model.proofs.names.alert_places.Given as goal
 
 abbrev pub invariant-loop-i : goal.invariant-loop-i

@@ -1,6 +1,6 @@
 use Rattle.std.proofs.Common.{◌≡◌, map, take}
 use Rattle.book_model.specs.View.{bytes_of}
-use Rattle.book_spec.specs.DraftOf.{short_name}
+use Rattle.book_spec.specs.Defaults.{short_name}
 use Rattle.book_tables.specs.Reading.{views}
 use Rattle.book_reader.proofs.draft_alerts.secondaries_in.Given as goal
 

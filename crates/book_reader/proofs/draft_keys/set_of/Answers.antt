@@ -1,7 +1,7 @@
 use Rattle.std.proofs.Common.{◌≡◌, ◌<◌, bit_or, length, option_map, Some, None, ap, sym, ◌∙◌}
 use Rattle.toml.specs.View.{view}
-use Rattle.ecam_spec.specs.TermText.{one_phase}
-use Rattle.book_spec.specs.DraftOf.{phase_from}
+use Rattle.ecam_spec.specs.TermNumber.{one_phase}
+use Rattle.book_spec.specs.Defaults.{phase_from}
 use Rattle.book_reader.proofs.PhaseSets.{phase_more, phase_same}
 use Rattle.book_reader.proofs.draft_keys.set_of.Goals as goal
 use Rattle.book_reader.proofs.draft_keys.set_of.Goals.{in-Some, in_default}

@@ -1,13 +1,14 @@
 use Rattle.std.proofs.Common.{◌≡◌, Some, None, Ok, Err, IfOk, Result, List, ℕ, ◌≤◌, length, ◌∙◌, sym, ap, arith}
 use Rattle.std.proofs.lemmas.Result.{err_from_is_err_and}
+use Rattle.ecam_spec.specs.declared.limits.TheConstants.{BOOK_BYTES}
 use Rattle.toml.specs.View.{table_view}
 use Rattle.toml.specs.Data.{Members}
-use Rattle.ecam_spec.specs.Sound.{IsSound}
+use Rattle.ecam_spec.specs.KeepsLimits.{IsSound}
 use Rattle.book_model.specs.View.{draft_of}
 use Rattle.book_model.specs.declared.draft.Draft.{Draft}
 use Rattle.book_model.specs.declared.error.LoadError.{LoadError}
 use Rattle.book_model.specs.declared.error.LoadError.TheVariants.{Fault}
-use Rattle.book_spec.specs.BookBytes.{longest, table_of_text, draft_of_bytes}
+use Rattle.book_spec.specs.BookBytes.{table_of_text, draft_of_bytes}
 use Rattle.book_spec.specs.Document.{table_fault}
 use Rattle.book_spec.specs.DraftOf as spec
 use Rattle.book_spec.proofs.BytesSound.{draft_of_bytes_sound}
@@ -27,7 +28,7 @@ returns-in_err-table-clause-fault c f told =
     let g = c.in_err-table.ensures.fault f (ap Err err) in
     no_document c.args.bytes.now (omega arith) g.1 ∙ ap Some (sym g.0)
 
-module _ (bytes : List ℕ) (short : length bytes ≤ longest) (table : Members) (is : table_of_text bytes ≡ Some table) where
+module _ (bytes : List ℕ) (short : length bytes ≤ BOOK_BYTES) (table : Members) (is : table_of_text bytes ≡ Some table) where
   -- the draft that was read is that of the bytes
   drafted : (result : Result Draft LoadError) → IfOk result (λ d. draft_of d ≡ spec.draft_of table) → IfOk result (λ d. table_fault table ≡ None)
       → IfOk result (λ d. draft_of_bytes bytes ≡ Some (draft_of d))

@@ -1,8 +1,9 @@
 use Rattle.std.proofs.Common.{◌≡◌, true, ◌∙◌, ap, unwrap_or, rules}
 use Rattle.std.specs.Cmp.Lexicographic.{nat_list_eq_equiv, bytes_decides}
 use Rattle.std.proofs.lemmas.Map.Text.{btree_map_updates_str}
-use Rattle.ecam_spec.specs.BookText.{same_text}
-use Rattle.book_tables.specs.Places.{number_by, times}
+use Rattle.ecam_spec.specs.Bytes.{same_text}
+use Rattle.book_model.specs.NamePlaces.{number_by}
+use Rattle.book_tables.specs.Places.{times}
 use Rattle.book_tables.proofs.NamePlaces.{counted}
 use Rattle.book_tables.proofs.places.count_one.Goals as goal
 

@@ -1,6 +1,6 @@
 use Rattle.std.proofs.Common.{◌≡◌, true, take}
 use Rattle.std.specs.List.{list_all}
-use Rattle.ecam_spec.specs.BookText.{is_name_byte}
+use Rattle.ecam_spec.specs.Bytes.{is_name_byte}
 use Rattle.book_tables.proofs.texts.has_name_bytes.Given as goal
 
 abbrev pub invariant-loop-byte : goal.invariant-loop-byte

@@ -1,4 +1,4 @@
-use Rattle.std.proofs.Common.{ℕ, List, ◌+◌, ◌≤◌, take, drop, length, arith, length-drop, subst}
+use Rattle.std.proofs.Common.{ℕ, List, ◌+◌, ◌≤◌, take, drop, length, arith, length-drop, subst, ◌∙◌}
 use Rattle.std.proofs.lemmas.Result.{err_from_is_err_and}
 use Rattle.std.proofs.lemmas.List.{take-append-drop, take_rest}
 use Rattle.ecam_io.specs.Outside.{Appended, AppendedPrefix}
@@ -21,7 +21,7 @@ loop-done-preserved g c =
       within = within_more bytes done n c.loop-done.invariant.within (subst (λ rest. n ≤ length rest) (take_rest bytes done) c.in_ok-done.ensures.bound);
       written = Appended-take agrees c.args.out.now mid new bytes done n c.loop-done.invariant.written
           (subst (λ rest. Appended agrees mid new (take n rest)) (take_rest bytes done) c.in_ok-done.ensures.appended);
-      faults = omega (arith, c.loop-done.invariant.faults, c.in_ok-done.ensures.faults);
+      faults = c.in_ok-done.ensures.quiet ∙ c.loop-done.invariant.faults;
     }
 
 pub returns-in_err-done-clause-prefix : goal.returns-in_err-done-clause-prefix

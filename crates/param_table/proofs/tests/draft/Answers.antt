@@ -6,7 +6,7 @@ use Rattle.ecam_spec.specs.BookText.{is_name, reserved}
 use Rattle.ecam_spec.specs.TermSize.{nodes, depth}
 use Rattle.ecam_spec.specs.TermNames.{IsWithin}
 use Rattle.ecam_spec.specs.Draft as plain
-use Rattle.ecam_spec.specs.Sound.{IsSound, IsSoundParameter, IsSoundSource, IsSoundTerm, IsInRange, is_repeated}
+use Rattle.ecam_spec.specs.KeepsLimits.{IsSound, IsSoundParameter, IsSoundSource, IsSoundTerm, IsInRange, is_repeated}
 use Rattle.ecam_spec.specs.DraftFaults.{draft_fault, has_atom}
 use Rattle.book_model.specs.declared.draft.Draft.{Draft}
 use Rattle.book_model.specs.View.{draft_of, tree_in, parameter_of}

@@ -4,7 +4,7 @@ use Rattle.std.proofs.lemmas.Int.{ints}
 use Rattle.ecam_spec.specs.declared.kinds.Kind.TheVariants.{Disc}
 use Rattle.ecam_spec.specs.Word.{ssm}
 use Rattle.ecam_spec.specs.Reading.{discrete}
-use Rattle.param_table.specs.Standing.{IsValueOf}
+use Rattle.param_table.specs.TableState.{IsValueOf}
 use Rattle.param_table.proofs.words.reading.Goals as goal
 
 bit_bound : (b : Bool) (n : ℕ) → IfSome (cond b (Some (pos (n % 2))) None) (IsValueOf Disc)

@@ -10,7 +10,7 @@ invariant-loop-piece g l = record {
   is_open : g.S.Source.is_open l.source ≡ g.S.Source.is_open l.initial.source;
   files : g.S.Source.files l.source ≡ g.S.Source.files l.initial.source;
   opens : g.S.Source.opens l.source ≡ g.S.Source.opens l.initial.source;
-  faults : g.S.Source.faults l.initial.source ≤ g.S.Source.faults l.source;
+  quiet : g.S.Source.faults l.source ≡ g.S.Source.faults l.initial.source;
 }
 
 abbrev pub decreases-loop-piece : goal.decreases-loop-piece

@@ -2,4 +2,4 @@ use Rattle.std.proofs.Common.{◌≡◌, length}
 use Rattle.term_eval.proofs.tests.answers.Given as goal
 
 abbrev pub invariant-loop-moment : goal.invariant-loop-moment
-invariant-loop-moment l = length l.cells ≡ 2
+invariant-loop-moment l = length l.cells.slots ≡ 2

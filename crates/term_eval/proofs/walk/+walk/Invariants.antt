@@ -1,7 +1,9 @@
-use Rattle.std.proofs.Common.{◌≡◌, ◌+◌, ◌≤◌, ℕ, List, length, drop}
-use Rattle.ecam_spec.specs.TermSize.{slots_of}
+use Rattle.std.proofs.Common.{◌≡◌, ◌+◌, ◌-◌, ◌^◌, ◌≤◌, min, ℕ, List, length, drop}
+use Rattle.ecam_spec.specs.TermSize.{slots_of, nodes_of}
 use Rattle.ecam_spec.specs.TermNames.{AreWithin}
 use Rattle.term_tree.specs.View.{trees_of}
+use Rattle.term_eval.specs.declared.memory.Cell.{Cell}
+use Rattle.term_eval.specs.CellWords.{never}
 use Rattle.term_eval.specs.Steps.{StepsAll}
 use Rattle.term_eval.proofs.walk.+walk.Given as goal
 
@@ -11,6 +13,11 @@ invariant-step_each-loop-member l = record {
   place : l.next + slots_of (trees_of (drop l.member-index l.members)) ≡ l.initial.next + slots_of (trees_of l.members);
   names : AreWithin (length l.env.values.now) (length l.env.active.now) (trees_of (drop l.member-index l.members));
   few : l.count ≤ l.member-index;
-  ahead : (final : List ℕ) (rest : ℕ) → StepsAll l.env (trees_of (drop l.member-index l.members)) l.next l.cells final rest
-      → StepsAll l.env (trees_of l.members) l.initial.next l.initial.cells final (l.count + rest);
+  counted : min (l.visits + nodes_of (trees_of (drop l.member-index l.members))) (2 ^ 64 - 1)
+      ≡ min (l.initial.visits + nodes_of (trees_of l.members)) (2 ^ 64 - 1);
+  most : l.visits ≤ 2 ^ 64 - 1;
+  latest : l.due ≤ never;
+  ahead : (final : List Cell) (rest later : ℕ) → later ≤ never
+      → StepsAll l.env l.now (trees_of (drop l.member-index l.members)) l.next l.cells final rest later
+      → StepsAll l.env l.now (trees_of l.members) l.initial.next l.initial.cells final (l.count + rest) (min l.due later);
 }

@@ -2,7 +2,8 @@ use Rattle.std.proofs.Common.{sym, refl, ap, ◌∙◌}
 use Rattle.std.proofs.lemmas.List.{append-nil}
 use Rattle.ecam_spec.specs.Book.{in_phase}
 use Rattle.ecam_spec.specs.TermSize.{nodes, depth}
-use Rattle.ecam_spec.specs.TermText.{earliest, flaws, phase_flaw, tree_of_form, one_phase}
+use Rattle.ecam_spec.specs.TermText.{earliest, flaws, phase_flaw, tree_of_form}
+use Rattle.ecam_spec.specs.TermNumber.{one_phase}
 use Rattle.term_tree.proofs.Views.{tree_of-InPhase}
 use Rattle.term_text.proofs.Judged.{atom_judged}
 use Rattle.term_text.proofs.atoms.in_phase.Goals as goal

@@ -1,5 +1,5 @@
 use Rattle.std.proofs.Common.{false, [], ◌∷◌, sym, subst}
-use Rattle.ecam_spec.specs.declared.terms.Step.TheVariants as steps
+use Rattle.ecam_spec.specs.declared.term_steps.Step.TheVariants as steps
 use Rattle.ecam_spec.specs.TermText.{judged, earliest, flaws, tree_of_form}
 use Rattle.term_text.specs.Parts.{parts, JudgesForm}
 use Rattle.term_text.proofs.AllSteps.{step_made, steps_made}

@@ -1,6 +1,6 @@
 use Rattle.std.proofs.Common.{◌≡◌, List, [], Some, drop}
 use Rattle.ecam_spec.specs.Grammar.{Form}
-use Rattle.ecam_spec.specs.TermReading.{after_all}
+use Rattle.ecam_spec.proofs.TermReading.{after_all}
 use Rattle.term_text.specs.Parts.{parts}
 use Rattle.term_text.proofs.AllSteps.{Reaches}
 use Rattle.term_text.proofs.build.condition_of.Given as goal

@@ -1,7 +1,7 @@
 use Rattle.std.proofs.Common.{◌≡◌, Some, refl, subst}
 use Rattle.ecam_spec.specs.TermSize.{nodes, depth}
 use Rattle.ecam_spec.specs.TermText.{flaws, tree_of_form}
-use Rattle.ecam_spec.specs.TermReading.{after_step}
+use Rattle.ecam_spec.proofs.TermReading.{after_step}
 use Rattle.term_tree.proofs.Views.{tree_of-Const, tree_of-Press}
 use Rattle.term_text.specs.Parts.{parts}
 use Rattle.term_text.proofs.OneStep.{put, negation_step, rise_step, confirm_step, hold_step, latch_step, compare_step, phase_step, list_step}

@@ -1,5 +1,5 @@
 use Rattle.std.proofs.Common.{◌≡◌, ◌⊎◌, inl, inr, ◌<◌, sym, ap, ◌∙◌, arith, min, Some}
-use Rattle.ecam_spec.specs.TermText.{magnitude}
+use Rattle.ecam_spec.specs.TermNumber.{magnitude}
 use Rattle.term_text.proofs.Ranges.{amount_negative, amount_in, amount_out, no_minus}
 use Rattle.term_text.proofs.number.amount_within.Goals as goal
 

@@ -1,5 +1,5 @@
 use Rattle.std.proofs.Common.{◌≡◌, min, take}
-use Rattle.ecam_spec.specs.TermText.{digits_value}
+use Rattle.ecam_spec.specs.TermNumber.{digits_value}
 use Rattle.term_text.proofs.number.digits_value.Given as goal
 
 abbrev pub invariant-loop-digit : goal.invariant-loop-digit

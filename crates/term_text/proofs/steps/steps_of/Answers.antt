@@ -2,7 +2,7 @@ use Rattle.std.proofs.Common.{◌≡◌, ◌≤◌, ◌+◌, suc, true, Some, Er
 use Rattle.std.proofs.lemmas.Bool.{ne_eqb}
 use Rattle.std.proofs.lemmas.Result.{err_from_is_err_and}
 use Rattle.std.specs.Prelude.{◌==◌, slice_index, option_to_list}
-use Rattle.ecam_spec.specs.TermReading.{next_move}
+use Rattle.ecam_spec.proofs.TermReading.{next_move}
 use Rattle.term_text.specs.Pending.{pending, Moves}
 use Rattle.term_text.proofs.Stack.{counts_up, counts_next}
 use Rattle.term_text.proofs.Tokens.{kept_blank, kept_token, told_refusal, told_whole, told_short, token_in, end_in}

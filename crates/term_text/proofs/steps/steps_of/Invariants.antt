@@ -1,5 +1,5 @@
 use Rattle.std.proofs.Common.{◌≡◌, ◌≤◌, ◌-◌, length}
-use Rattle.ecam_spec.specs.TermReading.{after_steps, text_reading}
+use Rattle.ecam_spec.proofs.TermReading.{after_steps, text_reading}
 use Rattle.term_text.specs.Pending.{pending, CountsWithin}
 use Rattle.term_text.proofs.Tokens.{reading_from}
 use Rattle.term_text.proofs.steps.steps_of.Given as goal

@@ -1,5 +1,5 @@
 use Rattle.std.proofs.Common.{sym, ◌∙◌}
-use Rattle.ecam_spec.specs.Token.{is_digit}
+use Rattle.ecam_spec.specs.Bytes.{is_digit}
 use Rattle.term_text.proofs.Runs.{run_stops, run_ends}
 use Rattle.term_text.proofs.token.digit_count.Goals as goal
 

@@ -1,4 +1,4 @@
-use Rattle.ecam_spec.specs.Token.{is_digit}
+use Rattle.ecam_spec.specs.Bytes.{is_digit}
 use Rattle.term_text.proofs.Runs.{Passes}
 use Rattle.term_text.proofs.token.digit_count.Given as goal
 

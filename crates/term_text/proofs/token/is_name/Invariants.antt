@@ -1,6 +1,6 @@
 use Rattle.std.proofs.Common.{◌≡◌, drop}
 use Rattle.std.specs.List.{list_all}
-use Rattle.ecam_spec.specs.Token.{is_name_byte}
+use Rattle.ecam_spec.specs.Bytes.{is_name_byte}
 use Rattle.term_text.proofs.token.is_name.Given as goal
 
 abbrev pub invariant-loop-byte : goal.invariant-loop-byte

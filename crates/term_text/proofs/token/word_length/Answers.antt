@@ -1,5 +1,5 @@
 use Rattle.std.proofs.Common.{sym, ◌∙◌}
-use Rattle.ecam_spec.specs.Token.{is_word_byte}
+use Rattle.ecam_spec.specs.Bytes.{is_word_byte}
 use Rattle.term_text.proofs.Runs.{run_stops, run_ends}
 use Rattle.term_text.proofs.token.word_length.Goals as goal
 

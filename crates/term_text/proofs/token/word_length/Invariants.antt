@@ -1,4 +1,4 @@
-use Rattle.ecam_spec.specs.Token.{is_word_byte}
+use Rattle.ecam_spec.specs.Bytes.{is_word_byte}
 use Rattle.term_text.proofs.Runs.{Passes}
 use Rattle.term_text.proofs.token.word_length.Given as goal
 

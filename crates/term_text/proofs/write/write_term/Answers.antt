@@ -2,7 +2,8 @@ use Rattle.std.proofs.Common.{◌≡◌, ℕ, ◌≤◌, length, ◌++◌, ap, �
 use Rattle.std.proofs.lemmas.List.{length-map}
 use Rattle.ecam_spec.specs.Book.{Text}
 use Rattle.ecam_spec.specs.TermNames.{IsWithin}
-use Rattle.ecam_spec.specs.TermReading.{verdict}
+use Rattle.ecam_spec.specs.TermText.{means}
+use Rattle.ecam_spec.specs.TermVerdict.{IsVerdict}
 use Rattle.term_tree.specs.View.{tree_of}
 use Rattle.term_text.specs.Known.{known_names, texts_of}
 use Rattle.term_text.specs.Written.{written}
@@ -29,4 +30,4 @@ returns-clause-reads_back c =
     let names = known_names c.args.names.now in
     let tree = tree_of c.args.cond.now in
     let e : string_bytes c.push_condition.new.text ≡ written names tree = c.in_ok-push_condition.ensures ∙ ap (λ (t : Text). t ++ written names tree) c.new-text.ensures.bytes in
-    ap (verdict names) e ∙ text_means names tree c.requires
+    subst (λ (t : Text). IsVerdict names t (means tree)) (sym e) (text_means names tree c.requires)

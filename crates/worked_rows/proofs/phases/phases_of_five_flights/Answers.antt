@@ -3,7 +3,7 @@ use Rattle.std.specs.Prelude.{if◌then◌else◌}
 use Rattle.std.specs.List.{list_any}
 use Rattle.std.proofs.lemmas.Bool.{lt-ltb, le-ltb}
 use Rattle.ecam_spec.specs.Opened.{opened}
-use Rattle.ecam_spec.specs.Phase.{parked, trip, phase, ground_phase}
+use Rattle.ecam_spec.specs.Phase.{parked, running, airborne, trip, phase, ground_phase}
 use Rattle.ecam_spec.proofs.PhaseLaws.{parked_after_a_trip, parked_ends_a_trip}
 use Rattle.ecam_spec.proofs.PastSteps.{since-suc}
 use Rattle.worked_rows.specs.Flights.{flight, five_flights_and_a_stay}
@@ -35,7 +35,7 @@ no-trip : trip (flight five_flights_and_a_stay) 3020 ≡ false
 unfolding trip
 no-trip =
     let f = flight five_flights_and_a_stay in
-    since-suc (λ k. not (f.gnd k) || (f.run k && f.fast k)) (λ k. not (parked f k)) 3019
+    since-suc (λ k. airborne f k || (running f k && f.fast k)) (λ k. not (parked f k)) 3019
     ∙ parked_ends_a_trip f 3019 (stays-parked 3019 (lit≤ tt) (lit< tt))
 
 pub returns-clause-flights : goal.returns-clause-flights

@@ -4,4 +4,4 @@ use Rattle.flight_phases.proofs.state.PhaseState.step.Goals as goal
 
 pub returns-clause-stands : goal.returns-clause-stands
 unfolding Stands
-returns-clause-stands c = λ f k stands inputs. (k, refl, c.next_situation-situation.ensures f k stands inputs)
+returns-clause-stands c = λ f k stands inputs. (k, refl, c.next_regime-regime.ensures f k stands inputs)

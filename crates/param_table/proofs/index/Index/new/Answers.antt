@@ -1,8 +1,8 @@
 use Rattle.std.proofs.Common.{◌≡◌, ◌+◌, ◌<◌, ℕ, List, [], ◌∷◌, ◌++◌, map, replicate, get_or, set, Option, Some, None, All, MatchOption, refl, sym, ◌∙◌, subst, arith}
 use Rattle.std.specs.Prelude.{⊤, option_map}
 use Rattle.ecam_spec.specs.Book.{Parameter}
-use Rattle.ecam_spec.specs.Sound.{IsSoundParameter, IsSoundSource}
-use Rattle.book_model.specs.declared.draft.From.{From}
+use Rattle.ecam_spec.specs.KeepsLimits.{IsSoundParameter, IsSoundSource}
+use Rattle.book_model.specs.declared.draft.WordSource.{WordSource}
 use Rattle.book_model.specs.View.{source_of, parameter_of}
 use Rattle.param_table.specs.Places.{source_at}
 use Rattle.param_table.specs.Listening.{key_of}
@@ -10,14 +10,14 @@ use Rattle.param_table.proofs.Sources.{sound_source}
 use Rattle.param_table.proofs.Entering.{IsEntered, entered_none, enter_none, enter_some}
 use Rattle.param_table.proofs.index.Index.new.Goals as goal
 
-key_within : (params : List Parameter) (n keys : ℕ) (o : Option From) → All IsSoundParameter params → option_map source_of o ≡ source_at params n → keys ≡ 4096
+key_within : (params : List Parameter) (n keys : ℕ) (o : Option WordSource) → All IsSoundParameter params → option_map source_of o ≡ source_at params n → keys ≡ 4096
     → MatchOption o ⊤ (λ s. key_of s.bus s.label < keys)
 key_within params n keys None sound e all = tt
 key_within params n keys (Some s) sound e all =
     let is : IsSoundSource (source_of s) = sound_source params n (source_of s) sound (sym e) in
     omega (arith, is.bus, is.label)
 
-entered : (params : List Parameter) (n : ℕ) (last before last' before' : List (Option ℕ)) (r : Option ℕ) (o : Option From)
+entered : (params : List Parameter) (n : ℕ) (last before last' before' : List (Option ℕ)) (r : Option ℕ) (o : Option WordSource)
     → All IsSoundParameter params → option_map source_of o ≡ source_at params n
     → MatchOption o (r ≡ None) (λ s. r ≡ get_or last (key_of s.bus s.label) None)
     → MatchOption o (last' ≡ last) (λ s. last' ≡ set last (key_of s.bus s.label) (Some n))

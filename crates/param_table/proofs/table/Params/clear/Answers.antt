@@ -1,7 +1,7 @@
 use Rattle.std.proofs.Common.{◌≡◌, length, replicate, None, ap, ◌∙◌, rules, vec_len, arith}
 use Rattle.std.proofs.lemmas.List.{length-replicate}
 use Rattle.param_table.specs.declared.table.Params.{Params}
-use Rattle.param_table.specs.Standing.{ParamsFit}
+use Rattle.param_table.specs.TableState.{ParamsFit}
 use Rattle.param_table.proofs.Tables.{start}
 use Rattle.param_table.proofs.table.Params.clear.Goals as goal
 

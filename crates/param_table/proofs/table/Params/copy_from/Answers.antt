@@ -1,6 +1,6 @@
 use Rattle.std.proofs.Common.{◌≡◌, length, refl, ap, ◌∙◌}
 use Rattle.param_table.specs.declared.table.Params.{Params}
-use Rattle.param_table.specs.Standing.{ParamsFit}
+use Rattle.param_table.specs.TableState.{ParamsFit}
 use Rattle.param_table.proofs.Tables.{same_stands}
 use Rattle.param_table.proofs.table.Params.copy_from.Goals as goal
 

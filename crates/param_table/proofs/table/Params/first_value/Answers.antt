@@ -4,15 +4,15 @@ use Rattle.std.specs.Option.{option_or}
 use Rattle.std.proofs.lemmas.Bool.{false≢true}
 use Rattle.std.proofs.lemmas.List.{get_or-map, length-map, at_drop_more}
 use Rattle.std.proofs.lemmas.List.Elements.{All-get_or}
-use Rattle.ecam_spec.specs.Sound.{IsSoundSource}
-use Rattle.book_model.specs.declared.draft.From.{From}
+use Rattle.ecam_spec.specs.KeepsLimits.{IsSoundSource}
+use Rattle.book_model.specs.declared.draft.WordSource.{WordSource}
 use Rattle.book_model.specs.View.{source_of}
-use Rattle.param_table.specs.Steps.{held_value, first_held}
+use Rattle.param_table.specs.HeldValues.{held_value, first_held}
 use Rattle.param_table.proofs.table.Params.first_value.Goals as goal
 use Rattle.param_table.proofs.table.Params.first_value.Goals.{In-loop-i}
 
 -- what a read past the end would give
-no_source : From
+no_source : WordSource
 no_source = record { bus = 0; label = 0; sdi = None; bit = 0; low = 0; range = 0 }
 
 pub source_value-value-requires-clause-sound : goal.source_value-value-requires-clause-sound

@@ -1,6 +1,6 @@
 use Rattle.std.proofs.Common.{◌≡◌, ◌+◌, map, drop}
 use Rattle.book_model.specs.View.{source_of}
-use Rattle.param_table.specs.Steps.{first_held}
+use Rattle.param_table.specs.HeldValues.{first_held}
 use Rattle.param_table.proofs.table.Params.first_value.Given as goal
 
 abbrev pub invariant-loop-i : goal.invariant-loop-i

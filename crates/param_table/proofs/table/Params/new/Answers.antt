@@ -2,19 +2,21 @@ use Rattle.std.proofs.Common.{◌≡◌, ℕ, zero, suc, ◌*◌, ◌-◌, [], �
 use Rattle.std.proofs.lemmas.List.{length-replicate, length-map}
 use Rattle.book_model.specs.View.{parameter_of}
 use Rattle.book_model.specs.Sealed.{the_book}
-use Rattle.ecam_spec.specs.Sound.{IsSoundParameter}
+use Rattle.ecam_spec.specs.KeepsLimits.{IsSoundParameter}
 use Rattle.param_table.specs.Listening.{IsIndex}
-use Rattle.param_table.specs.Standing.{ParamsFit}
-use Rattle.param_table.proofs.Tables.{start, book_sound, book_count, book_parameters}
+use Rattle.param_table.specs.TableState.{ParamsFit}
+use Rattle.book_model.proofs.BookLists.{book-parameters}
+use Rattle.book_model.proofs.BookLimits.{sizes}
+use Rattle.param_table.proofs.Tables.{start, book_sound}
 use Rattle.param_table.proofs.table.Params.new.Goals as goal
 use Rattle.param_table.proofs.table.Params.new.Goals.{In_ok-resize}
 
 pub new-requires-clause-few : goal.new-requires-clause-few
-new-requires-clause-few c = rw c.params-params.ensures.value (book_count c.args.book.now c.params-params.ensures.sealed)
+new-requires-clause-few c = rw c.params-params.ensures.value (sizes c.args.book.now c.params-params.ensures.sealed).params
 
 pub new-requires-clause-sound : goal.new-requires-clause-sound
 new-requires-clause-sound c =
-    let sound : All IsSoundParameter (map parameter_of c.args.book.now.params.items) = subst (All IsSoundParameter) (book_parameters c.args.book.now) (book_sound c.args.book.now c.params-params.ensures.sealed) in
+    let sound : All IsSoundParameter (map parameter_of c.args.book.now.params.items) = subst (All IsSoundParameter) (book-parameters c.args.book.now) (book_sound c.args.book.now c.params-params.ensures.sealed) in
     rw c.params-params.ensures.value sound
 
 filled : {X : Type 0} (n : ℕ) (x : X) → take n [] ++ replicate (n - 0) x ≡ replicate n x
@@ -32,8 +34,8 @@ fits c = record {
       ap length (blank c) ∙ length-replicate (3 * length c.params-params.result.now) None
       ∙ ap (λ ps. 3 * length ps) c.params-params.ensures.value
       ∙ ap (λ n. 3 * n) (sym (length-map c.args.book.now.params.items parameter_of))
-      ∙ ap (λ ps. 3 * length ps) (sym (book_parameters c.args.book.now));
-  index = subst (λ ps. IsIndex ps c.in_ok-index.index) (ap (map parameter_of) c.params-params.ensures.value ∙ sym (book_parameters c.args.book.now)) c.in_ok-index.ensures;
+      ∙ ap (λ ps. 3 * length ps) (sym (book-parameters c.args.book.now));
+  index = subst (λ ps. IsIndex ps c.in_ok-index.index) (ap (map parameter_of) c.params-params.ensures.value ∙ sym (book-parameters c.args.book.now)) c.in_ok-index.ensures;
 }
 
 pub returns-clause-fits : goal.returns-clause-fits

@@ -1,7 +1,7 @@
 use Rattle.std.proofs.Common.{◌<◌, length, get_or, None, arith}
 use Rattle.std.proofs.lemmas.List.{get_or_default}
 use Rattle.std.proofs.lemmas.List.Edits.{map_over_more}
-use Rattle.param_table.specs.Steps.{set_back}
+use Rattle.param_table.specs.HeldValues.{set_back}
 use Rattle.param_table.proofs.table.Params.set_clock_back.Goals as goal
 
 pub loop-received-preserved : goal.loop-received-preserved

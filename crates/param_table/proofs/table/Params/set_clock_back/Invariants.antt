@@ -1,5 +1,5 @@
 use Rattle.std.proofs.Common.{◌≡◌, ◌++◌, map, take, drop}
-use Rattle.param_table.specs.Steps.{set_back}
+use Rattle.param_table.specs.HeldValues.{set_back}
 use Rattle.param_table.proofs.table.Params.set_clock_back.Given as goal
 
 abbrev pub invariant-loop-received : goal.invariant-loop-received

@@ -9,14 +9,15 @@ use Rattle.param_table.specs.declared.table.Received.{Received}
 use Rattle.param_table.specs.declared.table.Params.{Params}
 use Rattle.param_table.specs.Listening.{IsIndex}
 use Rattle.param_table.specs.Places.{takes_at}
-use Rattle.param_table.specs.Standing.{ParamsFit}
-use Rattle.param_table.proofs.Tables.{word, even_word, book_parameters}
+use Rattle.param_table.specs.TableState.{ParamsFit}
+use Rattle.book_model.proofs.BookLists.{book-parameters}
+use Rattle.param_table.proofs.Tables.{word, even_word}
 use Rattle.param_table.proofs.table.Params.take.Goals as goal
 use Rattle.param_table.proofs.table.Params.take.Goals.{After-params, After-receive}
 
 -- the parameters that were read are the book's
 read : (c : After-params) → (the_book c.args.book.now).parameters ≡ map parameter_of c.params.result.now
-read c = book_parameters c.args.book.now ∙ ap (map parameter_of) (sym c.params.ensures.value)
+read c = book-parameters c.args.book.now ∙ ap (map parameter_of) (sym c.params.ensures.value)
 
 pub receive-requires-clause-index : goal.receive-requires-clause-index
 receive-requires-clause-index c = subst (λ ps. IsIndex ps c.args.self.now.index) (read c) c.requires.index
@@ -33,7 +34,7 @@ returns-then-odd-clause-stands c = λ old new k on stands.
     let after : Params = record { clock = before.clock; received = c.receive.new.table; index = before.index } in
     let fits : ParamsFit b after = record { sound = stands.fits.sound; places = c.receive.ensures.length ∙ stands.fits.places; index = stands.fits.index } in
     let entry : Received = record { bits = c.args.bits; at = before.clock } in
-    let same : b.parameters ≡ map parameter_of c.params.result.now = book_parameters c.args.book.now ∙ ap (map parameter_of) (sym c.params.ensures.value) in
+    let same : b.parameters ≡ map parameter_of c.params.result.now = book-parameters c.args.book.now ∙ ap (map parameter_of) (sym c.params.ensures.value) in
     word b old new k w before after fits on refl
     (λ q. c.receive.ensures.received q ∙ ap (λ (ps : List Parameter). cond (takes_at ps w q) (Some entry) (get_or before.received.items q None)) (sym same)) stands
 

@@ -3,8 +3,8 @@ use Rattle.std.proofs.lemmas.List.{length-map}
 use Rattle.book_model.specs.Sealed.{the_book}
 use Rattle.param_table.specs.declared.table.Params.{Params}
 use Rattle.param_table.specs.Listening.{IsIndex}
-use Rattle.param_table.specs.Standing.{ParamsFit, ParamsStand}
-use Rattle.param_table.specs.Steps.{set_back}
+use Rattle.param_table.specs.TableState.{ParamsFit, ParamsStand}
+use Rattle.param_table.specs.HeldValues.{set_back}
 use Rattle.param_table.proofs.Tables.{moment, clock_back}
 use Rattle.param_table.proofs.table.Params.tick.Goals as goal
 use Rattle.param_table.proofs.table.Params.tick.Goals.{After-self-1, then-self, else-self}

@@ -3,9 +3,11 @@ use Rattle.std.proofs.Common.{◌≡◌, ◌++◌, ◌+◌, ap, sym, ◌∙◌, 
 use Rattle.ecam_spec.specs.declared.kinds.FaultKind.TheVariants.{Form}
 use Rattle.ecam_spec.specs.RecordLine.{event_of}
 use Rattle.record_lines.specs.declared.outcome.Stage.TheVariants.{Closing}
-use Rattle.record_lines.specs.Reader.{room}
+use Rattle.record_lines.specs.Reader.{room, settled_at}
 use Rattle.record_lines.specs.contracts.reader.LineReader.{the_view}
 use Rattle.record_lines.proofs.Went.{inside}
+use Rattle.record_lines.proofs.Grows.{is_end-event}
+use Rattle.record_lines.proofs.Needs.{needs-line, formless-no_end}
 use Rattle.record_lines.proofs.Refusals.{fails, no_form}
 use Rattle.record_lines.proofs.Progress.{IsPast, line_gives, line_ends, begun_line}
 use Rattle.record_lines.proofs.reader.LineReader.end_line.Goals as goal
@@ -21,7 +23,7 @@ returns-in_default-clause-given c =
     let piece = ap length c.skip.ensures in
     let rest = length-drop (c.args.at + 1) c.self.inside.piece in
     fails old (the_view (record { piece = c.skip.new.self; line = c.event_across-event.new.line; number = c.self.inside.number; allowance = c.self.inside.allowance; over = c.self.inside.over; stage = c.self.inside.stage }))
-    c.fail.new.self Form c.fail.result c.fail.ensures.answer c.fail.ensures.state (ap (λ r. r.number) is) (omega arith) (no_form old c.args.at c.requires.lines c.requires.feed c.requires.fits none)
+    c.fail.new.self Form c.fail.result (ap settled_at c.requires.lines) c.fail.ensures.answer c.fail.ensures.state (ap (λ r. r.number) is) (omega arith) (no_form old c.args.at c.requires.lines c.requires.feed c.requires.fits none)
 
 pub returns-clause-given : goal.returns-clause-given
 returns-clause-given c =
@@ -84,3 +86,21 @@ invariant_of-self-else-is_end c =
     let piece = ap length c.skip.ensures in
     let left = length-drop (c.args.at + 1) c.self.inside.piece in
     omega arith
+
+-- the line doesn't end the record, so that no reading is needed
+pub returns-in_default-clause-whole : goal.returns-in_default-clause-whole
+returns-in_default-clause-whole c =
+    let old = c.args.self.now in
+    let is = c.self.view_is in
+    let none : event_of (old.line ++ take c.args.at old.pending) ≡ None =
+    ap (λ r. event_of (r.line ++ take c.args.at r.pending)) (sym is) ∙ ap (λ l. event_of (c.self.inside.line.items ++ take c.args.at l)) (sym c.bytes.ensures.all) ∙ sym c.event_across-event.ensures.event ∙ c.in_default.is in
+    needs-line old c.requires.lines c.args.at c.requires.feed (formless-no_end (old.line ++ take c.args.at old.pending) none)
+
+pub returns-clause-whole : goal.returns-clause-whole
+returns-clause-whole c =
+    let old = c.args.self.now in
+    let is = c.self.view_is in
+    let some : event_of (old.line ++ take c.args.at old.pending) ≡ Some c.in-Some.event =
+    ap (λ r. event_of (r.line ++ take c.args.at r.pending)) (sym is) ∙ ap (λ l. event_of (c.self.inside.line.items ++ take c.args.at l)) (sym c.bytes.ensures.all) ∙ sym c.event_across-event.ensures.event ∙ c.in-Some.is in
+    needs-line old c.requires.lines c.args.at c.requires.feed
+    (is_end-event (old.line ++ take c.args.at old.pending) c.in-Some.event some ∙ sym c.is_end.ensures ∙ c.if-is_end.false)

@@ -5,12 +5,12 @@ use Rattle.std.specs.Result.{result_unwrap_or}
 use Rattle.std.specs.Prelude.{pos}
 use Rattle.ecam_spec.specs.Grammar.{how_many}
 use Rattle.ecam_spec.specs.TermText.{earliest, number_flaw, amount}
-use Rattle.ecam_spec.specs.TermReading.{list_form}
+use Rattle.ecam_spec.proofs.TermReading.{list_form}
 use Rattle.term_tree.specs.View.{trees_of}
 use Rattle.term_tree.proofs.Views.{tree_of-All, tree_of-Any, tree_of-AtLeast}
-use Rattle.term_text.specs.Flaws.{flaw_in, first_of}
+use Rattle.term_text.specs.Flaws.{flaw_in, earlier_of}
 use Rattle.term_text.specs.Parts.{JudgesForm}
-use Rattle.term_text.proofs.Listed.{all_over, any_over, at_least_over}
+use Rattle.term_text.proofs.ListsJudged.{all_over, any_over, at_least_over}
 use Rattle.term_text.proofs.members.Members.listed.Goals as goal
 
 pub returns-in-All : goal.returns-in-All
@@ -31,7 +31,7 @@ returns-in-AtLeast c = λ names f fs h.
     let counted : length c.args.self.conds.items ≡ suc (how_many fs) = h.count_is in
     let count : c.len.result ≡ suc (how_many fs) = omega (arith, c.len.ensures, c.reverse.ensures.len, c.args.self.conds.ok.0, counted) in
     let same_flaw = c.amount_at-least.ensures.flaw names ∙ ap (λ k. earliest (number_flaw names text (pos 1) (pos k) n)) count in
-    let wrong = c.first_of.ensures ∙ ap (first_of (flaw_in c.args.self.flaw)) same_flaw in
+    let wrong = c.earlier_of.ensures ∙ ap (earlier_of (flaw_in c.args.self.flaw)) same_flaw in
     subst (λ l. JudgesForm names text c.above-in-AtLeast.result (list_form l f fs)) (sym c.in-AtLeast.is)
     (at_least_over names text c.args.self n f fs c.above-in-AtLeast.result _ _ wrong c.above-in-AtLeast.ensures
     (λ none few ts same.

@@ -1,5 +1,5 @@
 use Rattle.std.proofs.Common.{refl}
-use Rattle.term_text.proofs.Listed.{nothing_judged}
+use Rattle.term_text.proofs.ListsJudged.{nothing_judged}
 use Rattle.term_text.proofs.members.Members.new.Goals as goal
 
 pub returns : goal.returns

@@ -2,7 +2,7 @@ use Rattle.std.proofs.Common.{ap, ◌∙◌}
 use Rattle.ecam_spec.specs.Book.{confirmed}
 use Rattle.ecam_spec.specs.TermText.{earliest, moments_flaw, amount}
 use Rattle.term_tree.specs.View.{tree_of}
-use Rattle.term_text.specs.Flaws.{flaw_in, first_of}
+use Rattle.term_text.specs.Flaws.{flaw_in, earlier_of}
 use Rattle.term_tree.proofs.Views.{tree_of-Conf}
 use Rattle.term_text.proofs.Judged.{node_over, none_both, confirmed-depth, confirmed-nodes}
 use Rattle.term_text.proofs.part.Part.confirmed.Goals as goal
@@ -13,8 +13,8 @@ returns c = λ names wrong tree h.
     let text = c.args.text.now in
     let own = earliest (moments_flaw names text n) in
     let same_flaw = c.amount_at-moments.ensures.flaw names in
-    let e = c.first_of.ensures ∙ ap (λ w. first_of w (flaw_in c.amount_at-moments.result.flaw)) h.wrong_is ∙ ap (first_of wrong) same_flaw in
-    node_over c.args.self c.above.result _ wrong (first_of wrong own) _ tree (confirmed tree (amount names text n)) e c.above.ensures (λ none. (none_both wrong own none).0)
+    let e = c.earlier_of.ensures ∙ ap (λ w. earlier_of w (flaw_in c.amount_at-moments.result.flaw)) h.wrong_is ∙ ap (earlier_of wrong) same_flaw in
+    node_over c.args.self c.above.result _ wrong (earlier_of wrong own) _ tree (confirmed tree (amount names text n)) e c.above.ensures (λ none. (none_both wrong own none).0)
     (confirmed-depth tree (amount names text n)) (confirmed-nodes tree (amount names text n))
     (λ none same.
     tree_of-Conf c.in_ok-new.field-0 c.amount_at-moments.result.value

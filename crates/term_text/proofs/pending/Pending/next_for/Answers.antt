@@ -1,5 +1,5 @@
 use Rattle.std.proofs.Common.{sym, ap, ◌∙◌, subst, arith}
-use Rattle.ecam_spec.specs.TermReading.{next_move}
+use Rattle.ecam_spec.proofs.TermReading.{next_move}
 use Rattle.term_text.specs.Pending.{CountsWithin}
 use Rattle.term_text.proofs.Stack.{taken, passed, none_expected}
 use Rattle.term_text.proofs.pending.Pending.next_for.Goals as goal

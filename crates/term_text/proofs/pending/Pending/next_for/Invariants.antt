@@ -1,5 +1,5 @@
 use Rattle.std.proofs.Common.{◌≡◌, ℕ, vec_len}
-use Rattle.ecam_spec.specs.TermReading.{next_move}
+use Rattle.ecam_spec.proofs.TermReading.{next_move}
 use Rattle.term_text.specs.Pending.{pending, CountsWithin}
 use Rattle.term_text.proofs.pending.Pending.next_for.Given as goal
 

@@ -1,0 +1,231 @@
+-- One alert more is stepped, and the moment ends.
+use Rattle.std.proofs.Common.{◌≡◌, ℕ, zero, suc, ◌<◌, Bool, true, false, not, ◌&&◌, ◌||◌, List, length, get_or, replicate, Option, None, cond, inl, inr, refl, sym, ap, ◌∙◌, subst, arith}
+use Rattle.std.specs.Prelude.{is_some, find, ◌↔◌}
+use Rattle.std.specs.List.{list_any}
+use Rattle.std.proofs.lemmas.Bool.{cases_lt, or_parts, or_from}
+use Rattle.std.proofs.lemmas.List.{length-set, get_or-set_same, get_or-set_other, get_or-replicate}
+use Rattle.ecam_spec.specs.Past.{Signal, previous}
+use Rattle.ecam_spec.specs.Book.{Book}
+use Rattle.ecam_spec.specs.Alert as alert
+use Rattle.ecam_spec.specs.Situation.{primaries}
+use Rattle.alert_truth.specs.Runs.{running_since, previously}
+use Rattle.alert_truth.specs.Alerts.{Tells, present, active, waiting, starred, starred_by, up}
+use Rattle.alert_truth.specs.Stars.{StarsFit, StarsStand}
+use Rattle.alert_truth.specs.TruthsState.{TruthsFit, TruthsStand, HalfStand, IsStepped, IsStill, Unchanged}
+use Rattle.alert_truth.specs.Noting.{Notes}
+use Rattle.alert_truth.specs.declared.truths.Truths.{Truths}
+use Rattle.alert_truth.proofs.Listings.{find-is_some}
+
+-- after a moment it is what was said of it
+after : (f : ℕ → Option ℕ) (k : ℕ) → previously f (suc k) ≡ f k
+unfolding previously
+after f k = refl
+
+-- the places stay
+pub notes-fits : (b : Book) (i : ℕ) (start : Option ℕ) (is_present is_active : Bool) (old new : Truths) → Notes i start is_present is_active old new → TruthsFit b old → TruthsFit b new
+notes-fits b i start is_present is_active old new notes fits = record {
+  since = ap length notes.since ∙ length-set old.since.items i start ∙ fits.since;
+  present = ap length notes.present ∙ length-set old.present.items i is_present ∙ fits.present;
+  active = ap length notes.active ∙ length-set old.active.items i is_active ∙ fits.active;
+  waiting = ap length notes.waiting ∙ length-set old.waiting.items i _ ∙ fits.waiting;
+  stars = subst (StarsFit b) (sym notes.stars) fits.stars;
+}
+
+module _ (b : Book) (conditions : ℕ → Signal) (phases : ℕ → ℕ) where
+  -- what isn't written is as it was
+  notes-other : (k a i : ℕ) (start : Option ℕ) (is_present is_active : Bool) (old new : Truths) → Notes i start is_present is_active old new → (a ≡ i → ⊥)
+      → IsStepped b conditions phases k a old → IsStepped b conditions phases k a new
+  notes-other k a i start is_present is_active old new notes apart was = record {
+    since = ap (λ xs. get_or xs a None) notes.since ∙ get_or-set_other old.since.items i a start None apart ∙ was.since;
+    present = ap (λ xs. get_or xs a false) notes.present ∙ get_or-set_other old.present.items i a is_present false apart ∙ was.present;
+    active = ap (λ xs. get_or xs a false) notes.active ∙ get_or-set_other old.active.items i a is_active false apart ∙ was.active;
+    waiting = ap (λ xs. get_or xs a false) notes.waiting ∙ get_or-set_other old.waiting.items i a _ false apart ∙ was.waiting;
+  }
+
+  -- what is written is of the new moment
+  notes-own : (k i : ℕ) (start : Option ℕ) (is_present is_active : Bool) (old new : Truths) → Notes i start is_present is_active old new → TruthsFit b old → i < length b.alerts
+      → start ≡ running_since (conditions i) (suc k) → is_present ≡ present b conditions phases i k → is_active ≡ active b conditions phases i k
+      → IsStepped b conditions phases (suc k) i new
+  unfolding previous alert.waiting
+  notes-own k i start is_present is_active old new notes fits within since now here = record {
+    since = ap (λ xs. get_or xs i None) notes.since ∙ get_or-set_same old.since.items i start None (omega (arith, fits.since)) ∙ since;
+    present = ap (λ xs. get_or xs i false) notes.present ∙ get_or-set_same old.present.items i is_present false (omega (arith, fits.present)) ∙ now;
+    active = ap (λ xs. get_or xs i false) notes.active ∙ get_or-set_same old.active.items i is_active false (omega (arith, fits.active)) ∙ here;
+    waiting =
+        ap (λ xs. get_or xs i false) notes.waiting ∙ get_or-set_same old.waiting.items i _ false (omega (arith, fits.waiting))
+        ∙ ap (λ x. x && not is_active) now ∙ ap (λ x. present b conditions phases i k && not x) here;
+  }
+
+  -- one alert more is stepped
+  pub half-step : (k i : ℕ) (start : Option ℕ) (is_present is_active : Bool) (old new : Truths) → Notes i start is_present is_active old new → i < length b.alerts
+      → start ≡ running_since (conditions i) (suc k) → is_present ≡ present b conditions phases i k → is_active ≡ active b conditions phases i k
+      → HalfStand b conditions phases k i old → HalfStand b conditions phases k (suc i) new
+  half-step k i start is_present is_active old new notes within since now here half =
+      let left = half.left i (omega arith) within in
+      record {
+        fits = notes-fits b i start is_present is_active old new notes half.fits;
+        moments = notes.moments ∙ half.moments;
+        stepped = λ a below. elim (cases_lt a i) [
+          | inl earlier ↦ notes-other (suc k) a i start is_present is_active old new notes (λ e. omega arith) (half.stepped a earlier)
+          | inr reached ↦
+              let same : i ≡ a = omega arith in
+              subst (λ j. IsStepped b conditions phases (suc k) j new) same
+              (notes-own k i start is_present is_active old new notes half.fits within since now here)
+        ];
+        left = λ a from inside. notes-other k a i start is_present is_active old new notes (λ e. omega arith) (half.left a (omega arith) inside);
+        stars = subst (StarsStand b (active b conditions phases) k) (sym notes.stars) half.stars;
+        changing = (
+          λ e a below.
+              let parts = notes.changing.0 e in
+              elim (cases_lt a i) [
+                | inl earlier ↦ half.changing.0 parts.0 a earlier
+                | inr reached ↦
+                    let same : i ≡ a = omega arith in
+                    subst (λ j. IsStill b conditions phases k j) same (record {
+                      present = sym now ∙ parts.1 ∙ left.present;
+                      active = sym here ∙ parts.2 ∙ left.active;
+                    })
+              ],
+          λ still.
+              let own = still i (omega arith) in
+              notes.changing.1 (
+                half.changing.1 (λ a below. still a (omega arith)),
+                now ∙ own.present ∙ sym left.present,
+                here ∙ own.active ∙ sym left.active,
+              ),
+        );
+        changed = λ j e. let was = half.changed j e in (λ w. was.0 (sym notes.changed ∙ w), λ w. notes.changed ∙ was.1 w);
+      }
+
+  star-some : (x : Bool) (q : ℕ → Bool) (ps : List ℕ) → is_some (cond (x && list_any q ps) (find q ps) None) ≡ (x && list_any q ps)
+  star-some false q ps = refl
+  star-some true q ps = elim (list_any q ps) as (λ y. list_any q ps ≡ y → is_some (cond y (find q ps) None) ≡ y) [ true ↦ λ e. find-is_some q ps ∙ e | false ↦ λ e. refl ] refl
+
+  starred-some : (a k : ℕ) → is_some (starred_by b conditions phases a k) ≡ starred b conditions phases a k
+  unfolding alert.starred alert.starred_by
+  starred-some a k = star-some (active b conditions phases a k) (λ p. active b conditions phases p k) (primaries b a)
+
+  starred-before : (a k : ℕ) → is_some (previously (starred_by b conditions phases a) k) ≡ previous (starred b conditions phases a) k
+  unfolding previous previously
+  starred-before a zero = refl
+  starred-before a (suc k) = starred-some a k
+
+  waiting-before : (a k : ℕ) → (previous (present b conditions phases a) k && not (previous (active b conditions phases a) k)) ≡ previous (waiting b conditions phases a) k
+  unfolding previous alert.waiting
+  waiting-before a zero = refl
+  waiting-before a (suc k) = refl
+
+  up-before : (a k : ℕ) → (previous (active b conditions phases a) k && not (previous (starred b conditions phases a) k)) ≡ previous (up b conditions phases a) k
+  unfolding previous alert.up
+  up-before a zero = refl
+  up-before a (suc k) = refl
+
+  -- all the rest follows from which alerts are present and active, and by whom they are starred
+  unchanged : (k : ℕ) → ((a : ℕ) → a < length b.alerts → IsStill b conditions phases k a)
+      → ((a : ℕ) → a < length b.alerts → starred_by b conditions phases a k ≡ previously (starred_by b conditions phases a) k) → Unchanged b conditions phases k
+  unfolding alert.waiting alert.up
+  unchanged k still same =
+      let stars : (a : ℕ) → a < length b.alerts → starred b conditions phases a k ≡ previous (starred b conditions phases a) k
+      = λ a within. sym (starred-some a k) ∙ ap is_some (same a within) ∙ starred-before a k in
+      record {
+        present = λ a within. (still a within).present;
+        active = λ a within. (still a within).active;
+        waiting = λ a within.
+            ap (λ x. x && not (active b conditions phases a k)) (still a within).present
+            ∙ ap (λ x. previous (present b conditions phases a) k && not x) (still a within).active ∙ waiting-before a k;
+        starred = stars;
+        starred_by = same;
+        up = λ a within.
+            ap (λ x. x && not (starred b conditions phases a k)) (still a within).active
+            ∙ ap (λ x. previous (active b conditions phases a) k && not x) (stars a within) ∙ up-before a k;
+      }
+
+  -- the moment ends
+  pub moment-ends : (k : ℕ) (old new : Truths) (stars_changed : Bool) → HalfStand b conditions phases k (length b.alerts) old → TruthsFit b new
+      → new.moments ≡ suc old.moments → new.since ≡ old.since → new.present ≡ old.present → new.active ≡ old.active → new.waiting ≡ old.waiting
+      → new.changing ≡ false → new.changed ≡ (old.changing || stars_changed)
+      → ((stars_changed ≡ false) ↔ ((a : ℕ) → a < length b.alerts → get_or new.stars.primaries.items a None ≡ get_or old.stars.primaries.items a None))
+      → StarsStand b (active b conditions phases) (suc k) new.stars
+      → TruthsStand b conditions phases (suc k) new
+  moment-ends k old new stars_changed half fits moments since now here waits quiet told stars_told stars =
+      let each : (a : ℕ) → a < length b.alerts → IsStepped b conditions phases (suc k) a new = λ a within.
+      let was = half.stepped a within in
+      record {
+        since = ap (λ v. get_or v.items a None) since ∙ was.since;
+        present = ap (λ v. get_or v.items a false) now ∙ was.present;
+        active = ap (λ v. get_or v.items a false) here ∙ was.active;
+        waiting = ap (λ v. get_or v.items a false) waits ∙ was.waiting;
+      } in
+      let now_by : (a : ℕ) → a < length b.alerts → get_or new.stars.primaries.items a None ≡ starred_by b conditions phases a k
+      = λ a within. stars.primaries a within ∙ after (starred_by b conditions phases a) k in
+      let says : (new.changed ≡ false) ↔ Unchanged b conditions phases k = (
+        λ e.
+            let parts = or_parts old.changing stars_changed (sym told ∙ e) in
+            unchanged k (half.changing.0 parts.0) (λ a within. sym (now_by a within) ∙ stars_told.0 parts.1 a within ∙ half.stars.primaries a within),
+        λ same.
+            told ∙ or_from old.changing stars_changed
+            (half.changing.1 (λ a within. record { present = same.present a within; active = same.active a within }))
+            (stars_told.1 (λ a within. now_by a within ∙ same.starred_by a within ∙ sym (half.stars.primaries a within))),
+      ) in
+      record {
+        fits = fits;
+        moments = moments ∙ ap suc half.moments;
+        each = each;
+        stars = stars;
+        changing = quiet;
+        changed = λ j e. let same : k ≡ j = cc in subst (λ i. (new.changed ≡ false) ↔ Unchanged b conditions phases i) same says;
+      }
+
+  -- truths that stand for k moments are ready for the next
+  pub moment-begins : (k : ℕ) (t : Truths) → TruthsStand b conditions phases k t → HalfStand b conditions phases k 0 t
+  moment-begins k t stands = record {
+    fits = stands.fits;
+    moments = stands.moments;
+    stepped = λ a below. absurd (omega arith);
+    left = λ a from within. stands.each a within;
+    stars = stands.stars;
+    changing = (λ e a below. absurd (omega arith), λ h. stands.changing);
+    changed = stands.changed;
+  }
+
+  -- where all alerts are stepped, the flags tell which are active
+  pub stepped-tells : (k : ℕ) (t : Truths) → HalfStand b conditions phases k (length b.alerts) t → Tells (length b.alerts) t.active.items (active b conditions phases) (suc k)
+  stepped-tells k t half = λ a within. (half.stepped a within).active
+
+  -- before the first moment no alert is present
+  pub nothing-stands : (t : Truths) (n : ℕ) → n ≡ length b.alerts → TruthsFit b t → t.moments ≡ 0 → t.since.items ≡ replicate n None → t.present.items ≡ replicate n false
+      → t.active.items ≡ replicate n false → t.waiting.items ≡ replicate n false → StarsStand b (active b conditions phases) 0 t.stars → t.changing ≡ false → TruthsStand b conditions phases 0 t
+  unfolding previous running_since
+  nothing-stands t n count fits moments since now here waits stars quiet = record {
+    fits = fits;
+    moments = moments;
+    each = λ a within. record {
+      since = ap (λ xs. get_or xs a None) since ∙ get_or-replicate n a None None (omega arith);
+      present = ap (λ xs. get_or xs a false) now ∙ get_or-replicate n a false false (omega arith);
+      active = ap (λ xs. get_or xs a false) here ∙ get_or-replicate n a false false (omega arith);
+      waiting = ap (λ xs. get_or xs a false) waits ∙ get_or-replicate n a false false (omega arith);
+    };
+    stars = stars;
+    changing = quiet;
+    changed = λ j e. absurd (omega arith);
+  }
+
+  -- truths that hold the same stand for the same moments
+  pub same-stands : (k : ℕ) (old new : Truths) → TruthsFit b new → new.moments ≡ old.moments → new.since.items ≡ old.since.items → new.present.items ≡ old.present.items
+      → new.active.items ≡ old.active.items → new.waiting.items ≡ old.waiting.items → StarsStand b (active b conditions phases) k new.stars → new.changing ≡ old.changing
+      → new.changed ≡ old.changed → TruthsStand b conditions phases k old → TruthsStand b conditions phases k new
+  same-stands k old new fits moments since now here waits stars quiet told stands = record {
+    fits = fits;
+    moments = moments ∙ stands.moments;
+    each = λ a within.
+        let was = stands.each a within in
+        record {
+          since = ap (λ xs. get_or xs a None) since ∙ was.since;
+          present = ap (λ xs. get_or xs a false) now ∙ was.present;
+          active = ap (λ xs. get_or xs a false) here ∙ was.active;
+          waiting = ap (λ xs. get_or xs a false) waits ∙ was.waiting;
+        };
+    stars = stars;
+    changing = quiet ∙ stands.changing;
+    changed = λ j e. let was = stands.changed j e in (λ w. was.0 (sym told ∙ w), λ w. told ∙ was.1 w);
+  }

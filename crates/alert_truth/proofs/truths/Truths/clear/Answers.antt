@@ -1,0 +1,27 @@
+use Rattle.std.proofs.Common.{rules, ◌≡◌, false, None, length, replicate, vec_len, refl, ap, ◌∙◌, arith}
+use Rattle.std.proofs.lemmas.List.{length-replicate}
+use Rattle.alert_truth.specs.Alerts.{active}
+use Rattle.alert_truth.proofs.Stepping.{nothing-stands}
+use Rattle.alert_truth.proofs.truths.Truths.clear.Goals as goal
+
+pub returns-clause-stands : goal.returns-clause-stands
+returns-clause-stands c = λ b conditions phases fits.
+    let old = c.args.self.now in
+    let count = length b.alerts in
+    let one : vec_len old.since ≡ count = omega (arith, fits.since, old.since.ok.0) in
+    let two : vec_len old.present ≡ count = omega (arith, fits.present, old.present.ok.0) in
+    let three : vec_len old.active ≡ count = omega (arith, fits.active, old.active.ok.0) in
+    let four : vec_len old.waiting ≡ count = omega (arith, fits.waiting, old.waiting.ok.0) in
+    let since : c.fill.new.self.items ≡ replicate count None = c.fill.ensures.items (λ y same. search rules) ∙ ap (λ n. replicate n None) one in
+    let now : c.fill-2.new.self.items ≡ replicate count false = c.fill-2.ensures.items (λ y same. search rules) ∙ ap (λ n. replicate n false) two in
+    let here : c.fill-3.new.self.items ≡ replicate count false = c.fill-3.ensures.items (λ y same. search rules) ∙ ap (λ n. replicate n false) three in
+    let waits : c.fill-4.new.self.items ≡ replicate count false = c.fill-4.ensures.items (λ y same. search rules) ∙ ap (λ n. replicate n false) four in
+    nothing-stands b conditions phases _ count refl
+    (record {
+      since = ap length since ∙ length-replicate count None;
+      present = ap length now ∙ length-replicate count false;
+      active = ap length here ∙ length-replicate count false;
+      waiting = ap length waits ∙ length-replicate count false;
+      stars = c.clear.ensures.fits b fits.stars;
+    })
+    refl since now here waits (c.clear.ensures.stands b (active b conditions phases) fits.stars) refl

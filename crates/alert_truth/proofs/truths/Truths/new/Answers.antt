@@ -1,0 +1,34 @@
+use Rattle.std.proofs.Common.{rules, ◌≡◌, Bool, false, length, refl, sym, ap, ◌∙◌, arith}
+use Rattle.book_model.specs.Sealed.{the_book}
+use Rattle.book_model.proofs.BookLists.{many-alerts}
+use Rattle.alert_truth.specs.Alerts.{active}
+use Rattle.alert_truth.specs.TruthsState.{TruthsFit}
+use Rattle.alert_truth.proofs.Stepping.{nothing-stands}
+use Rattle.alert_truth.proofs.truths.Truths.new.Goals as goal
+use Rattle.alert_truth.proofs.truths.Truths.new.Goals.{In_ok-new}
+
+-- there are as many places as alerts
+count : (c : In_ok-new) → length c.alerts-alerts.result.now ≡ length (the_book c.args.book.now).alerts
+count c = ap length c.alerts-alerts.ensures.value ∙ sym (many-alerts c.args.book.now)
+
+fits : (c : In_ok-new) (turned : Bool) → TruthsFit (the_book c.args.book.now) (record { moments = 0; since = c.in_ok-vec.field-0; present = c.in_ok-vec-2.field-0; active = c.in_ok-vec-3.field-0; waiting = c.in_ok-vec-4.field-0; stars = c.in_ok-new.field-0; changing = false; changed = turned })
+fits c turned = record {
+  since = omega (arith, c.in_ok-vec.ensures.len, count c);
+  present = omega (arith, c.in_ok-vec-2.ensures.len, count c);
+  active = omega (arith, c.in_ok-vec-3.ensures.len, count c);
+  waiting = omega (arith, c.in_ok-vec-4.ensures.len, count c);
+  stars = c.in_ok-new.ensures.fits (the_book c.args.book.now) (sym (count c));
+}
+
+pub returns-clause-fits : goal.returns-clause-fits
+returns-clause-fits c = fits c _
+
+pub returns-clause-stands : goal.returns-clause-stands
+returns-clause-stands c = λ conditions phases.
+    let b = the_book c.args.book.now in
+    nothing-stands b conditions phases _ (length c.alerts-alerts.result.now) (count c) (fits c _) refl
+    (c.in_ok-vec.ensures.items_if_clones_equal (λ y same. search rules))
+    (c.in_ok-vec-2.ensures.items_if_clones_equal (λ y same. search rules))
+    (c.in_ok-vec-3.ensures.items_if_clones_equal (λ y same. search rules))
+    (c.in_ok-vec-4.ensures.items_if_clones_equal (λ y same. search rules))
+    (c.in_ok-new.ensures.stands b (active b conditions phases) (sym (count c))) refl

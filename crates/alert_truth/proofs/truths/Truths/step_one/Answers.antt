@@ -1,0 +1,82 @@
+use Rattle.std.proofs.Common.{◌≡◌, ℕ, ◌<◌, suc, false, None, length, sym, ap, ◌∙◌, subst, arith}
+use Rattle.std.proofs.lemmas.List.{get_or_default}
+use Rattle.ecam_spec.specs.Past.{Signal, previous}
+use Rattle.ecam_spec.specs.Term.{in_set}
+use Rattle.ecam_spec.specs.Alert as alert
+use Rattle.ecam_spec.specs.Situation.{alert_at}
+use Rattle.book_model.specs.Sealed.{the_book}
+use Rattle.book_model.proofs.BookLists.{many-alerts}
+use Rattle.book_model.proofs.BookReads.{alert-read}
+use Rattle.alert_truth.specs.Runs.{running_since}
+use Rattle.alert_truth.specs.Alerts.{present, active, inhibited}
+use Rattle.alert_truth.specs.TruthsState.{HalfStand, IsStepped}
+use Rattle.alert_truth.proofs.Stepping.{half-step}
+use Rattle.alert_truth.proofs.truths.Truths.step_one.Goals as goal
+use Rattle.alert_truth.proofs.truths.Truths.step_one.Goals.{After-note}
+
+pub index-requires : goal.index-requires
+index-requires c = omega (arith, c.requires.fits.since, many-alerts c.args.book.now, c.args.self.now.since.ok.0)
+
+pub index-requires-2 : goal.index-requires-2
+index-requires-2 c = omega (arith, c.requires.fits.active, many-alerts c.args.book.now, c.args.self.now.active.ok.0)
+
+pub note-requires : goal.note-requires
+note-requires c =
+    let few = many-alerts c.args.book.now in
+    record {
+      since = omega (arith, c.requires.fits.since, few);
+      present = omega (arith, c.requires.fits.present, few);
+      active = omega (arith, c.requires.fits.active, few);
+      waiting = omega (arith, c.requires.fits.waiting, few);
+    }
+
+-- what the book has of the alert
+confirm_of : (c : After-note) → (alert_at (the_book c.args.book.now) c.args.alert).confirm ≡ c.index-alerts-alert.result.confirm
+confirm_of c =
+    let within : c.args.alert < length c.alerts.result.now = rw c.alerts.ensures.value c.requires.alert in
+    ap (λ a. a.confirm) (alert-read c.args.book.now c.alerts.result.now c.args.alert c.index-alerts-alert.result c.alerts.ensures.value within c.index-alerts-alert.is)
+
+inhibit_of : (c : After-note) → (alert_at (the_book c.args.book.now) c.args.alert).inhibit ≡ c.index-alerts-alert.result.inhibit.0
+inhibit_of c =
+    let within : c.args.alert < length c.alerts.result.now = rw c.alerts.ensures.value c.requires.alert in
+    ap (λ a. a.inhibit) (alert-read c.args.book.now c.alerts.result.now c.args.alert c.index-alerts-alert.result c.alerts.ensures.value within c.index-alerts-alert.is)
+
+-- the alert in the moment before
+module _ (c : After-note) (conditions : ℕ → Signal) (phases : ℕ → ℕ) (k : ℕ) (cond : c.args.cond ≡ conditions c.args.alert k) (phase : c.args.phase.number ≡ phases k)
+    (half : HalfStand (the_book c.args.book.now) conditions phases k c.args.alert c.args.self.now) where
+  within : c.args.alert < length (the_book c.args.book.now).alerts
+  within = omega (arith, c.requires.alert, many-alerts c.args.book.now)
+
+  before : IsStepped (the_book c.args.book.now) conditions phases k c.args.alert c.args.self.now
+  before = half.left c.args.alert (omega arith) within
+
+  since : c.since_when-since.result ≡ running_since (conditions c.args.alert) (suc k)
+  since =
+      let inside : c.args.alert < length c.args.self.now.since.items = omega (arith, within, half.fits.since) in
+      let read : c.index.result.now ≡ running_since (conditions c.args.alert) k =
+      c.index.ensures ∙ get_or_default c.args.self.now.since.items c.args.alert c.index.result.now None inside ∙ before.since in
+      subst (λ n. c.since_when-since.result ≡ running_since (conditions c.args.alert) (suc n)) half.moments
+      (c.since_when-since.ensures (conditions c.args.alert) (read ∙ ap (running_since (conditions c.args.alert)) (sym half.moments)) (cond ∙ ap (conditions c.args.alert) (sym half.moments)))
+
+  is_present : c.is_present-present.result ≡ present (the_book c.args.book.now) conditions phases c.args.alert k
+  is_present =
+      c.is_present-present.ensures (conditions c.args.alert) (since ∙ ap (λ n. running_since (conditions c.args.alert) (suc n)) (sym half.moments))
+      ∙ ap (λ n. alert.present n (conditions c.args.alert) c.args.self.now.moments) (sym (confirm_of c))
+      ∙ ap (λ n. present (the_book c.args.book.now) conditions phases c.args.alert n) half.moments
+
+  is_active : c.is_active-active.result ≡ active (the_book c.args.book.now) conditions phases c.args.alert k
+  is_active =
+      let inside : c.args.alert < length c.args.self.now.active.items = omega (arith, within, half.fits.active) in
+      let read : c.index-2.result.now ≡ previous (active (the_book c.args.book.now) conditions phases c.args.alert) k =
+      c.index-2.ensures ∙ get_or_default c.args.self.now.active.items c.args.alert c.index-2.result.now false inside ∙ before.active in
+      let inhibits : c.has-inhibited.result ≡ inhibited (the_book c.args.book.now) conditions phases c.args.alert k =
+      c.has-inhibited.ensures ∙ ap (λ n. in_set n c.args.phase.number) (sym (inhibit_of c)) ∙ ap (in_set (alert_at (the_book c.args.book.now) c.args.alert).inhibit) phase in
+      c.is_active-active.ensures (inhibited (the_book c.args.book.now) conditions phases c.args.alert) (present (the_book c.args.book.now) conditions phases c.args.alert) k read inhibits is_present
+
+pub returns-clause-stands : goal.returns-clause-stands
+returns-clause-stands c = λ conditions phases k cond phase half.
+    half-step (the_book c.args.book.now) conditions phases k c.args.alert c.since_when-since.result c.is_present-present.result c.is_active-active.result c.args.self.now c.note.new.self c.note.ensures
+    (within c conditions phases k cond phase half) (since c conditions phases k cond phase half) (is_present c conditions phases k cond phase half) (is_active c conditions phases k cond phase half) half
+
+pub returns-clause-answer : goal.returns-clause-answer
+returns-clause-answer c = λ conditions phases k cond phase half. is_active c conditions phases k cond phase half

@@ -1,0 +1,5 @@
+pub mod Runs
+pub mod Alerts
+pub mod Stars
+pub mod TruthsState
+pub mod Noting

@@ -1,0 +1,22 @@
+-- What one step of one alert writes.
+use Rattle.std.specs.Prelude.{◌≡◌, ◌↔◌, ℕ, ◌<◌, Bool, false, not, ◌&&◌, length, get_or, set, Option}
+use Rattle.alert_truth.specs.declared.truths.Truths.{Truths}
+
+-- there is an alert of this number
+pub record HasAlert (a : ℕ) (t : Truths) : Type 0 where
+  pub since : a < length t.since.items
+  pub present : a < length t.present.items
+  pub active : a < length t.active.items
+  pub waiting : a < length t.waiting.items
+
+-- what alert a has become is noted, and whether it is another than before
+pub record Notes (a : ℕ) (start : Option ℕ) (is_present is_active : Bool) (old new : Truths) : Type 0 where
+  pub moments : new.moments ≡ old.moments
+  pub since : new.since.items ≡ set old.since.items a start
+  pub present : new.present.items ≡ set old.present.items a is_present
+  pub active : new.active.items ≡ set old.active.items a is_active
+  pub waiting : new.waiting.items ≡ set old.waiting.items a (is_present && not is_active)
+  pub stars : new.stars ≡ old.stars
+  pub changed : new.changed ≡ old.changed
+  pub changing : (new.changing ≡ false)
+      ↔ ((old.changing ≡ false) × (is_present ≡ get_or old.present.items a false) × (is_active ≡ get_or old.active.items a false))

@@ -1,0 +1,13 @@
+-- Since when something has been so without a break.
+use Rattle.std.specs.Prelude.{ℕ, zero, suc, Option, Some, None, if◌then◌else◌}
+use Rattle.ecam_spec.specs.Past.{Signal, start_of}
+
+-- the first moment of the unbroken stretch of moments with p that goes up to the moment before k, if p held in it
+unfoldable pub running_since : Signal → ℕ → Option ℕ
+running_since p zero = None
+running_since p (suc k) = if p k then Some (start_of p k) else None
+
+-- what f says of the moment before; before moment 0 it says nothing
+unfoldable pub previously : (ℕ → Option ℕ) → ℕ → Option ℕ
+previously f zero = None
+previously f (suc k) = f k

@@ -1,0 +1,63 @@
+-- What the truths of a book's alerts say of the moments so far.
+use Rattle.std.specs.Prelude.{◌≡◌, ◌↔◌, ℕ, suc, ◌<◌, ◌≤◌, ◌^◌, false, length, get_or, None}
+use Rattle.ecam_spec.specs.Past.{Signal, previous}
+use Rattle.ecam_spec.specs.Book.{Book}
+use Rattle.alert_truth.specs.Runs.{running_since, previously}
+use Rattle.alert_truth.specs.Alerts.{present, active, waiting, starred, starred_by, up}
+use Rattle.alert_truth.specs.Stars.{StarsFit, StarsStand}
+use Rattle.alert_truth.specs.declared.truths.Truths.{Truths}
+
+-- the number of the moment can grow: there are 2 ^ 63 moments of 100 ms in 29 thousand million years
+abbrev pub CanGoOn : Truths → Type 0
+CanGoOn t = t.moments < 2 ^ 63
+
+-- the truths were made for the book
+pub record TruthsFit (b : Book) (t : Truths) : Type 0 where
+  pub since : length t.since.items ≡ length b.alerts
+  pub present : length t.present.items ≡ length b.alerts
+  pub active : length t.active.items ≡ length b.alerts
+  pub waiting : length t.waiting.items ≡ length b.alerts
+  pub stars : StarsFit b t.stars
+
+-- over any truths of the conditions, and any phases
+module _ (b : Book) (conditions : ℕ → Signal) (phases : ℕ → ℕ) where
+  -- in moment k an alert is as present and as active as in the moment before
+  pub record IsStill (k a : ℕ) : Type 0 where
+    pub present : present b conditions phases a k ≡ previous (present b conditions phases a) k
+    pub active : active b conditions phases a k ≡ previous (active b conditions phases a) k
+
+  -- in moment k all is as in the moment before; before moment 0 no alert is present
+  pub record Unchanged (k : ℕ) : Type 0 where
+    pub present : (a : ℕ) → a < length b.alerts → present b conditions phases a k ≡ previous (present b conditions phases a) k
+    pub active : (a : ℕ) → a < length b.alerts → active b conditions phases a k ≡ previous (active b conditions phases a) k
+    pub waiting : (a : ℕ) → a < length b.alerts → waiting b conditions phases a k ≡ previous (waiting b conditions phases a) k
+    pub starred : (a : ℕ) → a < length b.alerts → starred b conditions phases a k ≡ previous (starred b conditions phases a) k
+    pub starred_by : (a : ℕ) → a < length b.alerts → starred_by b conditions phases a k ≡ previously (starred_by b conditions phases a) k
+    pub up : (a : ℕ) → a < length b.alerts → up b conditions phases a k ≡ previous (up b conditions phases a) k
+
+  -- alert a has been stepped by k moments
+  pub record IsStepped (k a : ℕ) (t : Truths) : Type 0 where
+    pub since : get_or t.since.items a None ≡ running_since (conditions a) k
+    pub present : get_or t.present.items a false ≡ previous (present b conditions phases a) k
+    pub active : get_or t.active.items a false ≡ previous (active b conditions phases a) k
+    pub waiting : get_or t.waiting.items a false ≡ previous (waiting b conditions phases a) k
+
+  -- in moment k, which hasn't ended, the alerts below i have been stepped, and the others haven't. Of stars, and of
+  -- what changed, the moment before is told
+  pub record HalfStand (k i : ℕ) (t : Truths) : Type 0 where
+    pub fits : TruthsFit b t
+    pub moments : t.moments ≡ k
+    pub stepped : (a : ℕ) → a < i → IsStepped (suc k) a t
+    pub left : (a : ℕ) → i ≤ a → a < length b.alerts → IsStepped k a t
+    pub stars : StarsStand b (active b conditions phases) k t.stars
+    pub changing : (t.changing ≡ false) ↔ ((a : ℕ) → a < i → IsStill k a)
+    pub changed : (j : ℕ) → k ≡ suc j → (t.changed ≡ false) ↔ Unchanged j
+
+  -- the truths stand for k moments
+  pub record TruthsStand (k : ℕ) (t : Truths) : Type 0 where
+    pub fits : TruthsFit b t
+    pub moments : t.moments ≡ k
+    pub each : (a : ℕ) → a < length b.alerts → IsStepped k a t
+    pub stars : StarsStand b (active b conditions phases) k t.stars
+    pub changing : t.changing ≡ false
+    pub changed : (j : ℕ) → k ≡ suc j → (t.changed ≡ false) ↔ Unchanged j

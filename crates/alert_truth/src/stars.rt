@@ -1,0 +1,136 @@
+// Which active alerts a primary failure explains, and which are up.
+ghost use Rattle.std.specs.Prelude.{◌≡◌, ◌↔◌, ℕ, suc, ◌<◌, false, length, get_or, find, All, None, Some, IfOk, if◌then◌else◌};
+ghost use Rattle.std.specs.Option.{option_or};
+ghost use Rattle.std.specs.List.{list_any};
+ghost use Rattle.std.specs.Prelude.{◌==◌};
+ghost use Rattle.ecam_spec.specs.Past.{Signal};
+ghost use Rattle.ecam_spec.specs.Book as plain;
+ghost use Rattle.ecam_spec.specs.Situation.{primaries};
+ghost use Rattle.book_model.specs.Sealed.{the_book};
+ghost use Rattle.alert_truth.specs.Alerts.{Tells};
+ghost use Rattle.alert_truth.specs.Stars.{StarsFit, StarsStand, HasPlace, Takes};
+
+use book_model::Book;
+use std::alloc::{AllocError, Global};
+
+/// Per alert its first active primary, and whether it is starred and up.
+#[derive(Drop)]
+pub struct Stars {
+    // While the stars are settled: per alert the first active alert so far that lists it. Else each is `None`.
+    found: Vec<Option<u32>>,
+    pub primaries: Vec<Option<u32>>,
+    pub starred: Vec<bool>,
+    pub up: Vec<bool>,
+}
+
+impl Stars {
+    /// For so many alerts, none of them starred or up. An error is want of memory.
+    pub fn new(alloc: Global, alerts: usize) -> Result<Stars, AllocError>
+        ensures fits { IfOk result (λ s. (b : plain.Book) → length b.alerts ≡ alerts → StarsFit b s) }
+        ensures stands { IfOk result (λ s. (b : plain.Book) (active : ℕ → Signal) → length b.alerts ≡ alerts
+            → StarsStand b active 0 s) }
+    {
+        Ok(Stars {
+            found: vec![in alloc; None; alerts]?,
+            primaries: vec![in alloc; None; alerts]?,
+            starred: vec![in alloc; false; alerts]?,
+            up: vec![in alloc; false; alerts]?,
+        })
+    }
+
+    /// No alert is starred or up. Its cost is one write an alert.
+    pub fn clear(&mut self)
+        ensures fits { (b : plain.Book) → StarsFit b self.old → StarsFit b self.new }
+        ensures stands { (b : plain.Book) (active : ℕ → Signal) → StarsFit b self.old
+            → StarsStand b active 0 self.new }
+    {
+        self.primaries.fill(None);
+        self.starred.fill(false);
+        self.up.fill(false);
+    }
+
+    /// Takes over the stars of another. Its cost is one write an alert.
+    pub fn copy_from(&mut self, other: &Stars)
+        requires { (b : plain.Book) × StarsFit b self.old × StarsFit b other.now }
+        ensures fits { (b : plain.Book) → StarsFit b self.old → StarsFit b other.now → StarsFit b self.new }
+        ensures stands { (b : plain.Book) (active : ℕ → Signal) (k : ℕ) → StarsFit b self.old
+            → StarsFit b other.now → StarsStand b active k other.now → StarsStand b active k self.new }
+    {
+        self.primaries.copy_from_slice(&other.primaries);
+        self.starred.copy_from_slice(&other.starred);
+        self.up.copy_from_slice(&other.up);
+    }
+
+    /// Settles which of the active alerts are starred and which are up, and answers whether the first active
+    /// primary of some starred alert changed. Its cost is two looks at each alert, and one at each secondary of
+    /// the active ones.
+    pub fn settle(&mut self, active: &[bool], book: &Book) -> bool
+        requires fits { StarsFit (the_book book.now) self.old }
+        requires active { length active.now ≡ length book.now.alerts.items }
+        ensures fits { StarsFit (the_book book.now) self.new }
+        ensures stands { (active' : ℕ → Signal) (k : ℕ)
+            → Tells (length book.now.alerts.items) active.now active' (suc k)
+            → StarsStand (the_book book.now) active' (suc k) self.new }
+        ensures changed { (result ≡ false) ↔ ((a : ℕ) → a < length book.now.alerts.items
+            → get_or self.new.primaries.items a None ≡ get_or self.old.primaries.items a None) }
+    {
+        find_primaries(&mut self.found, active, book);
+        let mut changed = false;
+        for alert in 0..active.len() {
+            changed |= self.star(alert, active[alert]);
+        }
+        changed
+    }
+
+    // Takes over what was found for one alert, and answers whether its primary changed.
+    fn star(&mut self, alert: usize, active: bool) -> bool
+        requires { HasPlace alert self.old }
+        ensures takes { Takes alert active self.old self.new }
+        ensures changed { (result ≡ false) ↔ (get_or self.new.primaries.items alert None
+            ≡ get_or self.old.primaries.items alert None) }
+    {
+        let primary = only_if(active, self.found[alert]);
+        let changed = primary != self.primaries[alert];
+        let starred = primary.is_some();
+        self.found[alert] = None;
+        self.primaries[alert] = primary;
+        self.starred[alert] = starred;
+        self.up[alert] = active && !starred;
+        changed
+    }
+}
+
+fn only_if(active: bool, primary: Option<u32>) -> Option<u32>
+    ensures { result ≡ (if active then primary else None) }
+{
+    if active { primary } else { None }
+}
+
+// Finds, for each alert, the first active alert that lists it as secondary.
+fn find_primaries(found: &mut Vec<Option<u32>>, active: &[bool], book: &Book)
+    requires places { length found.old.items ≡ length book.now.alerts.items }
+    requires none { (a : ℕ) → get_or found.old.items a None ≡ None }
+    requires active { length active.now ≡ length book.now.alerts.items }
+    ensures places { length found.new.items ≡ length found.old.items }
+    ensures found { (a : ℕ) → get_or found.new.items a None
+        ≡ find (λ p. get_or active.now p false) (primaries (the_book book.now) a) }
+{
+    for alert in 0..active.len() {
+        if active[alert] {
+            note(found, book.secondaries(alert), alert as u32);
+        }
+    }
+}
+
+// Notes an alert for each of its secondaries for which none is noted yet.
+fn note(found: &mut Vec<Option<u32>>, secondaries: &[u32], alert: u32)
+    requires { All (λ s. s < length found.old.items) secondaries.now }
+    ensures places { length found.new.items ≡ length found.old.items }
+    ensures noted { (a : ℕ) → get_or found.new.items a None ≡ option_or (get_or found.old.items a None)
+        (if list_any (λ s. s == a) secondaries.now then Some alert else None) }
+{
+    for secondary in secondaries {
+        let place = *secondary as usize;
+        found[place] = found[place].or(Some(alert));
+    }
+}

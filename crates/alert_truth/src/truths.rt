@@ -1,0 +1,253 @@
+// The truths of all alerts.
+ghost use Rattle.std.specs.Prelude.{◌≡◌, ◌↔◌, ℕ, suc, ◌+◌, ◌<◌, ◌≤◌, false, length, set, slice_index_or, Option, None, IfOk};
+ghost use Rattle.ecam_spec.specs.Past.{Signal};
+ghost use Rattle.ecam_spec.specs.Book as plain;
+ghost use Rattle.book_model.specs.Sealed.{the_book};
+ghost use Rattle.alert_truth.specs.Runs.{previously};
+ghost use Rattle.alert_truth.specs.Alerts.{Tells, present, active, waiting, starred, starred_by, up};
+ghost use Rattle.alert_truth.specs.TruthsState.{TruthsFit, TruthsStand, HalfStand, Unchanged, CanGoOn};
+ghost use Rattle.alert_truth.specs.Noting.{HasAlert, Notes};
+
+use crate::run::{is_active, is_present, since_when};
+use crate::stars::Stars;
+use book_model::Book;
+use ecam_kinds::Phase;
+use std::alloc::{AllocError, Global};
+
+/// Per alert of a book, whether it is present, active, waiting, starred and up. In each moment `step_one` is called
+/// for each alert in the book's order, and then `settle`. Memory is taken in `new` alone, and nothing grows with the
+/// history.
+#[derive(Drop)]
+pub struct Truths {
+    // How many moments have ended.
+    moments: u64,
+    // Since which moment each condition has held, if it held in the moment before.
+    since: Vec<Option<u64>>,
+    present: Vec<bool>,
+    active: Vec<bool>,
+    waiting: Vec<bool>,
+    stars: Stars,
+    // Some alert has become another in the moment that hasn't ended.
+    changing: bool,
+    // Something changed in the last moment.
+    changed: bool,
+}
+
+impl Truths {
+    /// The truths before the first moment: no alert is present. An error is want of memory.
+    pub fn new(alloc: Global, book: &Book) -> Result<Truths, AllocError>
+        ensures fits { IfOk result (TruthsFit (the_book book.now)) }
+        ensures stands { IfOk result (λ t. (conditions : ℕ → Signal) (phases : ℕ → ℕ)
+            → TruthsStand (the_book book.now) conditions phases 0 t) }
+        ensures moments { IfOk result (λ t. t.moments ≡ 0) }
+        ensures changed { IfOk result (λ t. t.changed ≡ false) }
+    {
+        let alerts = book.alerts().len();
+        Ok(Truths {
+            moments: 0,
+            since: vec![in alloc; None; alerts]?,
+            present: vec![in alloc; false; alerts]?,
+            active: vec![in alloc; false; alerts]?,
+            waiting: vec![in alloc; false; alerts]?,
+            stars: Stars::new(alloc, alerts)?,
+            changing: false,
+            changed: false,
+        })
+    }
+
+    /// Forgets all moments. Its cost is a few writes an alert.
+    pub fn clear(&mut self)
+        ensures fits { (b : plain.Book) → TruthsFit b self.old → TruthsFit b self.new }
+        ensures stands { (b : plain.Book) (conditions : ℕ → Signal) (phases : ℕ → ℕ) → TruthsFit b self.old
+            → TruthsStand b conditions phases 0 self.new }
+        ensures moments { self.new.moments ≡ 0 }
+        ensures changed { self.new.changed ≡ false }
+    {
+        self.moments = 0;
+        self.since.fill(None);
+        self.present.fill(false);
+        self.active.fill(false);
+        self.waiting.fill(false);
+        self.stars.clear();
+        self.changing = false;
+        self.changed = false;
+    }
+
+    /// Takes over the truths of the same book's alerts from another computer. Its cost is a few writes an alert.
+    pub fn copy_from(&mut self, other: &Truths)
+        requires { (b : plain.Book) × TruthsFit b self.old × TruthsFit b other.now }
+        ensures fits { (b : plain.Book) → TruthsFit b self.old → TruthsFit b other.now → TruthsFit b self.new }
+        ensures stands { (b : plain.Book) (conditions : ℕ → Signal) (phases : ℕ → ℕ) (k : ℕ)
+            → TruthsFit b self.old → TruthsStand b conditions phases k other.now
+            → TruthsStand b conditions phases k self.new }
+        ensures moments { self.new.moments ≡ other.now.moments }
+        ensures changed { self.new.changed ≡ other.now.changed }
+    {
+        self.moments = other.moments;
+        self.since.copy_from_slice(&other.since);
+        self.present.copy_from_slice(&other.present);
+        self.active.copy_from_slice(&other.active);
+        self.waiting.copy_from_slice(&other.waiting);
+        self.stars.copy_from(&other.stars);
+        self.changing = other.changing;
+        self.changed = other.changed;
+    }
+
+    /// Steps one alert by the moment that hasn't ended, where the truth of its condition and the flight phase in
+    /// that moment are these, and answers whether it is active. Its cost is one look at the alert, and a write for
+    /// each of its truths that changes.
+    pub fn step_one(&mut self, book: &Book, alert: usize, cond: bool, phase: Phase) -> bool
+        requires fits { TruthsFit (the_book book.now) self.old }
+        requires alert { alert < length book.now.alerts.items }
+        requires first { 1 ≤ phase.number }
+        requires last { phase.number ≤ 10 }
+        ensures fits { TruthsFit (the_book book.now) self.new }
+        ensures stands { (conditions : ℕ → Signal) (phases : ℕ → ℕ) (k : ℕ)
+            → cond ≡ conditions alert k → phase.number ≡ phases k
+            → HalfStand (the_book book.now) conditions phases k alert self.old
+            → HalfStand (the_book book.now) conditions phases k (suc alert) self.new }
+        ensures answer { (conditions : ℕ → Signal) (phases : ℕ → ℕ) (k : ℕ)
+            → cond ≡ conditions alert k → phase.number ≡ phases k
+            → HalfStand (the_book book.now) conditions phases k alert self.old
+            → result ≡ active (the_book book.now) conditions phases alert k }
+        ensures moments { self.new.moments ≡ self.old.moments }
+    {
+        let own = &book.alerts()[alert];
+        let inhibited = own.inhibit.has(phase);
+        let since = since_when(self.since[alert], cond, self.moments);
+        let present = is_present(since, own.confirm, self.moments);
+        let active = is_active(present, self.active[alert], inhibited);
+        self.note(alert, since, present, active);
+        active
+    }
+
+    // Notes what one alert has become. What is as it was isn't written.
+    fn note(&mut self, alert: usize, since: Option<u64>, present: bool, active: bool)
+        requires { HasAlert alert self.old }
+        ensures { Notes alert since present active self.old self.new }
+    {
+        let was_present = self.present[alert];
+        let was_active = self.active[alert];
+        put_moment(&mut self.since, alert, since);
+        put_flag(&mut self.present, alert, present);
+        put_flag(&mut self.active, alert, active);
+        put_flag(&mut self.waiting, alert, present && !active);
+        self.changing |= (present != was_present) | (active != was_active);
+    }
+
+    /// Ends the moment, in which each alert was stepped: settles which alerts are starred and which are up. Its cost
+    /// is two looks at each alert, and one at each secondary of the active ones.
+    pub fn settle(&mut self, book: &Book)
+        requires fits { TruthsFit (the_book book.now) self.old }
+        requires goes_on { CanGoOn self.old }
+        ensures fits { TruthsFit (the_book book.now) self.new }
+        ensures stands { (conditions : ℕ → Signal) (phases : ℕ → ℕ) (k : ℕ)
+            → HalfStand (the_book book.now) conditions phases k (length book.now.alerts.items) self.old
+            → TruthsStand (the_book book.now) conditions phases (suc k) self.new }
+        ensures moments { self.new.moments ≡ self.old.moments + 1 }
+    {
+        let stars_changed = self.stars.settle(&self.active, book);
+        self.changed = self.changing | stars_changed;
+        self.changing = false;
+        self.moments += 1;
+    }
+}
+
+impl Truths {
+    /// Per alert whether it is present in the last moment. An alert that `step_one` has stepped since is told of the
+    /// moment that hasn't ended; so are `active` and `waiting`.
+    pub fn present(&self) -> &[bool]
+        ensures value { result.now ≡ self.now.present.items }
+        ensures tells { (b : plain.Book) (conditions : ℕ → Signal) (phases : ℕ → ℕ) (k : ℕ)
+            → TruthsStand b conditions phases k self.now
+            → Tells (length b.alerts) result.now (present b conditions phases) k }
+    {
+        &self.present
+    }
+
+    /// Per alert whether it is active.
+    pub fn active(&self) -> &[bool]
+        ensures value { result.now ≡ self.now.active.items }
+        ensures tells { (b : plain.Book) (conditions : ℕ → Signal) (phases : ℕ → ℕ) (k : ℕ)
+            → TruthsStand b conditions phases k self.now
+            → Tells (length b.alerts) result.now (active b conditions phases) k }
+    {
+        &self.active
+    }
+
+    /// Per alert whether it is present and not active.
+    pub fn waiting(&self) -> &[bool]
+        ensures value { result.now ≡ self.now.waiting.items }
+        ensures tells { (b : plain.Book) (conditions : ℕ → Signal) (phases : ℕ → ℕ) (k : ℕ)
+            → TruthsStand b conditions phases k self.now
+            → Tells (length b.alerts) result.now (waiting b conditions phases) k }
+    {
+        &self.waiting
+    }
+
+    /// Per alert whether it is active and starred by no primary failure, in the last moment.
+    pub fn up(&self) -> &[bool]
+        ensures value { result.now ≡ self.now.stars.up.items }
+        ensures tells { (b : plain.Book) (conditions : ℕ → Signal) (phases : ℕ → ℕ) (k : ℕ)
+            → TruthsStand b conditions phases k self.now
+            → Tells (length b.alerts) result.now (up b conditions phases) k }
+    {
+        &self.stars.up
+    }
+
+    /// Per alert whether it is active and an active alert lists it as secondary, in the last moment.
+    pub fn starred(&self) -> &[bool]
+        ensures value { result.now ≡ self.now.stars.starred.items }
+        ensures tells { (b : plain.Book) (conditions : ℕ → Signal) (phases : ℕ → ℕ) (k : ℕ)
+            → TruthsStand b conditions phases k self.now
+            → Tells (length b.alerts) result.now (starred b conditions phases) k }
+    {
+        &self.stars.starred
+    }
+
+    /// The first active alert, in the book's order, that lists a starred alert as secondary: `None` exactly where the
+    /// alert isn't starred in the last moment. Of a number that no alert has it is `None` too.
+    pub fn starred_by(&self, alert: usize) -> Option<u32>
+        ensures value { result ≡ slice_index_or self.now.stars.primaries.items alert None }
+        ensures tells { (b : plain.Book) (conditions : ℕ → Signal) (phases : ℕ → ℕ) (k : ℕ)
+            → TruthsStand b conditions phases k self.now → alert < length b.alerts
+            → result ≡ previously (starred_by b conditions phases alert) k }
+    {
+        if alert < self.stars.primaries.len() {
+            self.stars.primaries[alert]
+        } else {
+            None
+        }
+    }
+
+    /// Whether anything that the calls above tell changed in the last moment, for some alert: it is `false` exactly
+    /// where each of them tells what it told a moment earlier. Before the first moment nothing has changed.
+    pub fn changed(&self) -> bool
+        ensures value { result ≡ self.now.changed }
+        ensures tells { (b : plain.Book) (conditions : ℕ → Signal) (phases : ℕ → ℕ) (k : ℕ)
+            → TruthsStand b conditions phases (suc k) self.now
+            → (result ≡ false) ↔ Unchanged b conditions phases k }
+    {
+        self.changed
+    }
+}
+
+// Writes a flag, where it is another than stands there.
+fn put_flag(flags: &mut Vec<bool>, place: usize, flag: bool)
+    requires { place < length flags.old.items }
+    ensures { flags.new.items ≡ set flags.old.items place flag }
+{
+    if flags[place] != flag {
+        flags[place] = flag;
+    }
+}
+
+// Writes a moment, where it is another than stands there.
+fn put_moment(moments: &mut Vec<Option<u64>>, place: usize, moment: Option<u64>)
+    requires { place < length moments.old.items }
+    ensures { moments.new.items ≡ set moments.old.items place moment }
+{
+    if moments[place] != moment {
+        moments[place] = moment;
+    }
+}

@@ -1,0 +1,58 @@
+-- A moment in which nothing comes leaves what is kept of each alert, and what they call for.
+use Rattle.std.proofs.Common.{◌≡◌, ℕ, suc, Bool, true, false, not, ◌&&◌, ◌||◌, Some, cond, refl, sym, ◌∙◌, ap}
+use Rattle.std.specs.Prelude.{option_map}
+use Rattle.ecam_spec.specs.Past.{previous, rise}
+use Rattle.ecam_spec.specs.Alert.{onset}
+use Rattle.ecam_spec.specs.Levels.{is_three, is_two}
+use Rattle.ecam_spec.specs.declared.kinds.Level.{Level}
+use Rattle.ecam_spec.specs.declared.kinds.Level.TheVariants.{One, Two, Three}
+use Rattle.ecam_spec.specs.Lamps as lamps
+use Rattle.ecam_spec.proofs.LampLaws.{last_onset-suc, open_now}
+use Rattle.attention.specs.declared.calls.Calls.{Calls}
+use Rattle.attention.specs.Watches.{watch_after}
+use Rattle.attention.specs.Calling.{AreCalls, chimes_in}
+use Rattle.attention.specs.State.{NothingComes}
+use Rattle.attention.proofs.Passing.{find-agree, any-agree}
+
+same-before : (x y : Bool) → x ≡ y → (x && not y) ≡ false
+same-before true true h = refl
+same-before false y h = refl
+same-before true false h = h
+
+module _ (a : lamps.Attention) (k : ℕ) (nothing : NothingComes a k) where
+  none-comes : (i : ℕ) → onset (a.up i) (suc k) ≡ false
+  unfolding onset rise previous
+  none-comes i = same-before (a.up i (suc k)) (a.up i k) (nothing.up i)
+
+  none-pressed : (l : Level) → lamps.acknowledges a l (suc k) ≡ false
+  unfolding lamps.acknowledges
+  none-pressed Three = rw (nothing.mw, nothing.emer) refl
+  none-pressed Two = rw (nothing.mc, nothing.emer) refl
+  none-pressed One = refl
+
+  same-onset : (i : ℕ) → lamps.last_onset a i (suc k) ≡ lamps.last_onset a i k
+  same-onset i = last_onset-suc a i k ∙ ap (λ b. cond b (Some (suc k)) (lamps.last_onset a i k)) (none-comes i)
+
+  same-open : (i : ℕ) → lamps.is_open a i (suc k) ≡ lamps.is_open a i k
+  unfolding previous
+  same-open i =
+      open_now a i (suc k)
+      ∙ ap (λ b. b || (not (lamps.acknowledges a (a.level i) (suc k)) && lamps.is_open a i k)) (none-comes i)
+      ∙ ap (λ b. not b && lamps.is_open a i k) (none-pressed (a.level i))
+
+  same-calls : (i : ℕ) → lamps.calls a i (suc k) ≡ lamps.calls a i k
+  unfolding lamps.calls
+  same-calls i = rw (nothing.up i, same-open i) refl
+
+  pub watch-rests : (i : ℕ) → watch_after a i (suc k) ≡ watch_after a i (suc (suc k))
+  unfolding previous
+  watch-rests i = rw (nothing.up i, same-onset i, same-open i) refl
+
+  pub calls-rest : (c : Calls) → AreCalls a k (a.shown k) c → AreCalls a (suc k) (a.shown (suc k)) c
+  calls-rest c are =
+      rw nothing.shown
+      (record {
+        warning = are.warning ∙ ap (option_map a.sound) (find-agree (λ i. is_three (a.level i) && lamps.calls a i k) (λ i. is_three (a.level i) && lamps.calls a i (suc k)) (λ i. ap (λ x. is_three (a.level i) && x) (sym (same-calls i))) (a.shown k));
+        caution = are.caution ∙ any-agree (λ i. is_two (a.level i) && lamps.calls a i k) (λ i. is_two (a.level i) && lamps.calls a i (suc k)) (λ i. ap (λ x. is_two (a.level i) && x) (sym (same-calls i))) (a.shown k);
+        chime = λ j. are.chime j ∙ any-agree (chimes_in a k j) (chimes_in a (suc k) j) (λ i. rw (same-calls i, same-onset i) refl) (a.shown k);
+      })

@@ -1,0 +1,79 @@
+-- A walk over the alerts, on its way: some have been stepped to the new moment, and the others haven't.
+use Rattle.std.proofs.Common.{◌≡◌, ◌≢◌, ℕ, zero, suc, ◌+◌, ◌<◌, ◌≤◌, Bool, true, false, List, [], ◌∷◌, ◌++◌, length, get_or, set, cond, add-one, slice_get, Some, inl, inr, refl, ◌∙◌, ap, arith}
+use Rattle.std.specs.Prelude.{filter}
+use Rattle.std.proofs.lemmas.List.{append-nil, length-set, get_or-set_same}
+use Rattle.std.proofs.lemmas.List.Elements.{filter-append}
+use Rattle.std.proofs.lemmas.Option.{slice_get-get_or, get_or_from_slice_get}
+use Rattle.std.proofs.lemmas.Bool.{cases_lt}
+use Rattle.ecam_spec.specs.Places.{below}
+use Rattle.ecam_spec.specs.Lamps as lamps
+use Rattle.attention.specs.declared.calls.Calls.{Calls}
+use Rattle.attention.specs.declared.watch.Watch.{Watch}
+use Rattle.attention.specs.Watches.{watch_after, AreWatched}
+use Rattle.attention.specs.Calling.{no_calls, AreCalls}
+
+-- those below i of n alerts have been stepped to moment k, and of them those that are shown call so
+pub record HalfWalked (a : lamps.Attention) (k n i : ℕ) (shown : ℕ → Bool) (watches : List Watch) (c : Calls) : Type 0 where
+  pub stepped : (j : ℕ) → j < i → slice_get watches j ≡ Some (watch_after a j (suc k))
+  pub left : (j : ℕ) → i ≤ j → j < n → slice_get watches j ≡ Some (watch_after a j k)
+  pub calls : AreCalls a k (filter shown (below i)) c
+
+get-same : (xs : List Watch) (i : ℕ) (w : Watch) → i < length xs → slice_get (set xs i w) i ≡ Some w
+get-same xs i w within =
+    slice_get-get_or (set xs i w) i w (omega (arith, length-set {A = Watch})) ∙ ap Some (get_or-set_same xs i w w within)
+
+get-other : (xs : List Watch) (i j : ℕ) (w : Watch) → j ≢ i → slice_get (set xs i w) j ≡ slice_get xs j
+get-other [] i j w apart = refl
+get-other (x ∷ xs) zero zero w apart = absurd (apart refl)
+get-other (x ∷ xs) zero (suc j) w apart = refl
+get-other (x ∷ xs) (suc i) zero w apart = refl
+get-other (x ∷ xs) (suc i) (suc j) w apart = get-other xs i j w (λ e. apart (ap suc e))
+
+module _ (a : lamps.Attention) (k n : ℕ) (shown : ℕ → Bool) where
+  pub half-start : (watches : List Watch) → AreWatched a k n watches → HalfWalked a k n 0 shown watches no_calls
+  unfolding below
+  half-start watches kept = record {
+    stepped = λ j h. absurd (omega arith);
+    left = λ j low h. kept j h;
+    calls = record { warning = refl; caution = refl; chime = λ j. refl };
+  }
+
+  -- what is read of the alert whose turn it is
+  pub half-read : (i : ℕ) (watches : List Watch) (c : Calls) (w : Watch) → i < n → HalfWalked a k n i shown watches c → get_or watches i w ≡ watch_after a i k
+  half-read i watches c w within half = get_or_from_slice_get watches i (watch_after a i k) w (half.left i (omega arith) within)
+
+  below-more : (i : ℕ) → filter shown (below (i + 1)) ≡ filter shown (below i) ++ cond (shown i) (i ∷ []) []
+  unfolding below
+  below-more i = rw add-one (filter-append shown (below i) (i ∷ []))
+
+  -- it is stepped, and what the shown ones call for is known of one more
+  pub half-more : (i : ℕ) (watches news : List Watch) (c d : Calls) (w : Watch) → i < n → length watches ≡ n
+      → news ≡ set watches i w → w ≡ watch_after a i (suc k)
+      → AreCalls a k (filter shown (below i) ++ cond (shown i) (i ∷ []) []) d
+      → HalfWalked a k n i shown watches c → HalfWalked a k n (i + 1) shown news d
+  half-more i watches news c d w within long written stepped calls half =
+      rw written
+      (record {
+        stepped = λ j h.
+            elim (cases_lt j i) [
+              | inl low ↦ get-other watches i j w (λ e. absurd (let x : ⊥ = omega arith in x)) ∙ half.stepped j low
+              | inr high ↦
+                  let same : j ≡ i = omega arith in
+                  rw same (get-same watches i w (omega arith) ∙ ap Some stepped)
+            ];
+        left = λ j low h. get-other watches i j w (λ e. absurd (let x : ⊥ = omega arith in x)) ∙ half.left j (omega arith) h;
+        calls = rw (below-more i) calls;
+      })
+
+  pub calls-shown : (i : ℕ) (d : Calls) → shown i ≡ true → AreCalls a k (filter shown (below i) ++ i ∷ []) d → AreCalls a k (filter shown (below i) ++ cond (shown i) (i ∷ []) []) d
+  calls-shown i d here calls = rw here calls
+
+  pub calls-hidden : (i : ℕ) (d : Calls) → shown i ≡ false → AreCalls a k (filter shown (below i)) d → AreCalls a k (filter shown (below i) ++ cond (shown i) (i ∷ []) []) d
+  calls-hidden i d hidden calls = rw hidden (rw (append-nil (filter shown (below i))) calls)
+
+  -- the whole walk
+  pub all-walked : (i : ℕ) (watches : List Watch) (c : Calls) → n ≤ i → HalfWalked a k n i shown watches c → AreWatched a (suc k) n watches
+  all-walked i watches c whole half = λ j h. half.stepped j (omega arith)
+
+  pub all-called : (i : ℕ) (watches : List Watch) (c : Calls) → i ≡ n → HalfWalked a k n i shown watches c → AreCalls a k (filter shown (below n)) c
+  all-called i watches c whole half = rw whole at half.calls

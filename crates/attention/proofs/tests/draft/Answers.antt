@@ -1,0 +1,153 @@
+use Rattle.std.proofs.Common.{◌≡◌, Bool, true, false, List, [], ◌∷◌, map, codes, None, All, refl, sym, ap, ◌∙◌, subst, arith}
+use Rattle.std.proofs.lemmas.List.Elements.{All-nil, All-cons}
+use Rattle.ecam_spec.specs.declared.kinds.Level.{Level}
+use Rattle.ecam_spec.specs.declared.kinds.Level.TheVariants.{One, Two, Three}
+use Rattle.ecam_spec.specs.declared.kinds.Sound.{Sound}
+use Rattle.ecam_spec.specs.declared.kinds.Sound.TheVariants.{Quiet, Chime, Repetitive, Cavalry}
+use Rattle.ecam_spec.specs.Book.{Text, constant}
+use Rattle.ecam_spec.specs.BookText.{is_name, is_text, reserved}
+use Rattle.ecam_spec.specs.TermSize.{nodes, depth}
+use Rattle.ecam_spec.specs.TermNames.{IsWithin}
+use Rattle.ecam_spec.specs.Draft as plain
+use Rattle.ecam_spec.specs.KeepsLimits.{IsSound, IsSoundAlert, IsSoundTerm, IsInRange, is_repeated}
+use Rattle.ecam_spec.specs.DraftFaults.{draft_fault, has_atom}
+use Rattle.book_model.specs.declared.draft.Draft.{Draft}
+use Rattle.book_model.specs.View.{draft_of, tree_in, alert_of, bytes_of}
+use Rattle.attention.proofs.tests.draft.Goals as goal
+
+abbrev own : Text → Level → Sound → plain.DraftAlert
+own name level sound = record {
+  name = name;
+  title = codes "T";
+  system = 0;
+  level = level;
+  when = constant true;
+  page = None;
+  confirm = 0;
+  sound = sound;
+  inhibit = 256;
+  secondary = [];
+  lines = [];
+  status = [];
+}
+
+abbrev five : List plain.DraftAlert
+five =
+    own (codes "c") Two Chime
+    ∷ own (codes "w") Three Repetitive
+    ∷ own (codes "q") Two Quiet
+    ∷ own (codes "v") Three Cavalry
+    ∷ own (codes "a") One Quiet ∷ []
+
+abbrev names : List Text
+names = codes "c" ∷ codes "w" ∷ codes "q" ∷ codes "v" ∷ codes "a" ∷ []
+
+abbrev sample : plain.Draft
+sample = record {
+  systems = codes "S" ∷ [];
+  pages = [];
+  parameters = [];
+  phase = record { gnd = constant false; run = constant false; tp = constant false; fast = constant false; high = constant false; low = constant false };
+  alerts = five;
+  memos = [];
+}
+
+is_sample : (d : Draft) → map bytes_of d.systems.items ≡ codes "S" ∷ [] → d.pages.items ≡ [] → d.params.items ≡ []
+    → tree_in d.phase.gnd ≡ constant false → tree_in d.phase.run ≡ constant false → tree_in d.phase.tp ≡ constant false
+    → tree_in d.phase.fast ≡ constant false → tree_in d.phase.high ≡ constant false → tree_in d.phase.low ≡ constant false
+    → map alert_of d.alerts.items ≡ five → d.memos.items ≡ [] → draft_of d ≡ sample
+unfolding draft_of
+is_sample d systems pages params gnd run tp fast high low alerts memos = rw (systems, pages, params, gnd, run, tp, fast, high, low, alerts, memos) refl
+
+sound_term : (b : Bool) → IsSoundTerm 0 5 (constant b)
+unfolding IsWithin IsInRange nodes depth
+sound_term b = record { within = tt; in_range = tt; small = omega arith; flat = omega arith }
+
+sound_alert : (name : Text) (level : Level) (sound : Sound) → is_name name ≡ true → IsSoundAlert 0 5 1 0 (own name level sound)
+unfolding is_text
+sound_alert name level sound is-name = record {
+  name = is-name;
+  title = refl;
+  system = omega arith;
+  when = sound_term true;
+  page = tt;
+  confirm = omega arith;
+  inhibit = omega arith;
+  secondary = omega arith;
+  short_names = All-nil _;
+  line_count = omega arith;
+  lines = All-nil _;
+  status_count = omega arith;
+  status = All-nil _;
+}
+
+sound_alerts : All (IsSoundAlert 0 5 1 0) five
+unfolding is_name reserved
+sound_alerts =
+    All-cons (IsSoundAlert 0 5 1 0) (own (codes "c") Two Chime) (own (codes "w") Three Repetitive ∷ own (codes "q") Two Quiet ∷ own (codes "v") Three Cavalry ∷ own (codes "a") One Quiet ∷ []) (sound_alert (codes "c") Two Chime refl)
+    (All-cons (IsSoundAlert 0 5 1 0) (own (codes "w") Three Repetitive) (own (codes "q") Two Quiet ∷ own (codes "v") Three Cavalry ∷ own (codes "a") One Quiet ∷ []) (sound_alert (codes "w") Three Repetitive refl)
+    (All-cons (IsSoundAlert 0 5 1 0) (own (codes "q") Two Quiet) (own (codes "v") Three Cavalry ∷ own (codes "a") One Quiet ∷ []) (sound_alert (codes "q") Two Quiet refl)
+    (All-cons (IsSoundAlert 0 5 1 0) (own (codes "v") Three Cavalry) (own (codes "a") One Quiet ∷ []) (sound_alert (codes "v") Three Cavalry refl)
+    (All-cons (IsSoundAlert 0 5 1 0) (own (codes "a") One Quiet) ([]) (sound_alert (codes "a") One Quiet refl)
+    (All-nil (IsSoundAlert 0 5 1 0))))))
+
+abbrev Once : Text → Type 0
+Once n = is_repeated names n ≡ false
+
+sound : IsSound sample
+unfolding is_text
+sound = record {
+  system_count = omega arith;
+  systems = All-cons (λ s. is_text 16 s ≡ true) (codes "S") [] refl (All-nil (λ s. is_text 16 s ≡ true));
+  systems_once = All-cons (λ n. is_repeated (codes "S" ∷ []) n ≡ false) (codes "S") [] refl (All-nil (λ n. is_repeated (codes "S" ∷ []) n ≡ false));
+  page_count = omega arith;
+  pages = All-nil _;
+  pages_once = All-nil _;
+  parameter_count = omega arith;
+  parameters = All-nil _;
+  parameters_once = All-nil _;
+  phase = record { gnd = sound_term false; run = sound_term false; tp = sound_term false; fast = sound_term false; high = sound_term false; low = sound_term false };
+  alert_count = omega arith;
+  alerts = sound_alerts;
+  alerts_once =
+      All-cons Once (codes "c") (codes "w" ∷ codes "q" ∷ codes "v" ∷ codes "a" ∷ []) refl
+      (All-cons Once (codes "w") (codes "q" ∷ codes "v" ∷ codes "a" ∷ []) refl
+      (All-cons Once (codes "q") (codes "v" ∷ codes "a" ∷ []) refl
+      (All-cons Once (codes "v") (codes "a" ∷ []) refl
+      (All-cons Once (codes "a") ([]) refl (All-nil Once)))));
+  memo_count = omega arith;
+  memos = All-nil _;
+  memos_once = All-nil _;
+}
+
+faultless : draft_fault sample ≡ None
+unfolding draft_fault has_atom
+faultless = refl
+
+pub returns-clause-sound : goal.returns-clause-sound
+returns-clause-sound c =
+    let d : Draft = record {
+      systems = c.in_ok-vec.field-0;
+      pages = c.new.result;
+      params = c.new-2.result;
+      phase = record { gnd = c.term.result; run = c.term-2.result; tp = c.term-3.result; fast = c.term-4.result; high = c.term-5.result; low = c.term-6.result };
+      alerts = c.in_ok-alerts.field-0;
+      memos = c.new-3.result;
+    } in
+    let is : draft_of d ≡ sample =
+    is_sample d (ap (map bytes_of) c.in_ok-vec.ensures.items ∙ ap (λ t. t ∷ []) c.text.ensures) c.new.ensures.items c.new-2.ensures.items c.term.ensures c.term-2.ensures c.term-3.ensures c.term-4.ensures c.term-5.ensures c.term-6.ensures c.in_ok-alerts.ensures c.new-3.ensures.items in
+    subst IsSound (sym is) sound
+
+pub returns-clause-faultless : goal.returns-clause-faultless
+returns-clause-faultless c =
+    let d : Draft = record {
+      systems = c.in_ok-vec.field-0;
+      pages = c.new.result;
+      params = c.new-2.result;
+      phase = record { gnd = c.term.result; run = c.term-2.result; tp = c.term-3.result; fast = c.term-4.result; high = c.term-5.result; low = c.term-6.result };
+      alerts = c.in_ok-alerts.field-0;
+      memos = c.new-3.result;
+    } in
+    let is : draft_of d ≡ sample =
+    is_sample d (ap (map bytes_of) c.in_ok-vec.ensures.items ∙ ap (λ t. t ∷ []) c.text.ensures) c.new.ensures.items c.new-2.ensures.items c.term.ensures c.term-2.ensures c.term-3.ensures c.term-4.ensures c.term-5.ensures c.term-6.ensures c.in_ok-alerts.ensures c.new-3.ensures.items in
+    ap draft_fault is ∙ faultless

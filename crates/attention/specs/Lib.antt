@@ -1,0 +1,4 @@
+pub mod Watches
+pub mod Moments
+pub mod Calling
+pub mod State

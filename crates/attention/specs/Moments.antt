@@ -1,0 +1,20 @@
+-- What a moment brings, by the signals.
+use Rattle.std.specs.Prelude.{◌≡◌, ℕ, ◌<◌, false, List, length, get_or}
+use Rattle.ecam_spec.specs.Lamps as lamps
+use Rattle.attention.specs.declared.moment.Presses.{Presses}
+use Rattle.attention.specs.declared.moment.Moment.{Moment}
+use Rattle.book_model.specs.declared.draft.Alert.{Alert}
+
+-- these keys are pressed in moment k
+pub record ArePresses (a : lamps.Attention) (k : ℕ) (p : Presses) : Type 0 where
+  pub mw : p.mw ≡ a.mw k
+  pub mc : p.mc ≡ a.mc k
+  pub emer : p.emer ≡ a.emer k
+
+-- this is what moment k brings to these alerts
+pub record IsMoment (a : lamps.Attention) (k : ℕ) (alerts : List Alert) (m : Moment) : Type 0 where
+  pub number : m.number ≡ k
+  pub level : (i : ℕ) (x : Alert) → i < length alerts → x ≡ get_or alerts i x → x.level ≡ a.level i
+  pub sound : (i : ℕ) (x : Alert) → i < length alerts → x ≡ get_or alerts i x → x.sound ≡ a.sound i
+  pub up : (i : ℕ) → i < length alerts → get_or m.up.now i false ≡ a.up i k
+  pub presses : ArePresses a k m.presses

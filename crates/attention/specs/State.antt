@@ -1,0 +1,67 @@
+-- What is kept after some moments, by the signals.
+use Rattle.std.specs.Prelude.{◌≡◌, ◌≢◌, ◌↔◌, true, is_some, ℕ, zero, suc, ◌^◌, ◌<◌, Bool, false, List, length, filter, get_or}
+use Rattle.std.specs.Box.{boxed_slice_items}
+use Rattle.ecam_spec.specs.declared.kinds.Key.TheVariants.{Mw, Mc, Emer}
+use Rattle.ecam_spec.specs.declared.kinds.Sound.TheVariants.{Quiet}
+use Rattle.ecam_spec.specs.Book.{Book}
+use Rattle.ecam_spec.specs.Situation.{alert_at}
+use Rattle.ecam_spec.specs.Screen.{order}
+use Rattle.ecam_spec.specs.Lamps as lamps
+use Rattle.ecam_kinds.specs.declared.keys.Keys.{Keys}
+use Rattle.ecam_kinds.specs.KeyState.{is_pressed}
+use Rattle.attention.specs.declared.state.Lights.{Lights}
+use Rattle.attention.specs.declared.state.Attention.{Attention}
+use Rattle.attention.specs.Watches.{AreWatched}
+use Rattle.attention.specs.Calling.{no_calls, AreCalls, sounding}
+
+-- it was made for the book: something is kept of each alert
+abbrev pub AttentionFits : Book → Attention → Type 0
+AttentionFits b t = length (boxed_slice_items t.watches) ≡ length b.alerts
+
+-- the number of the moment can grow: there are 2 ^ 63 moments of 100 ms in 29 thousand million years
+abbrev pub CanGoOn : Attention → Type 0
+CanGoOn t = t.moments < 2 ^ 63
+
+-- the levels and the sounds are the book's
+pub record AreOfBook (b : Book) (a : lamps.Attention) : Type 0 where
+  pub level : (i : ℕ) → a.level i ≡ (alert_at b i).level
+  pub sound : (i : ℕ) → a.sound i ≡ (alert_at b i).sound
+
+-- these are what moment k says: which alerts are up, which are shown, and the presses
+pub record Brings (b : Book) (a : lamps.Attention) (k : ℕ) (ups showns : List Bool) (keys : Keys) : Type 0 where
+  pub up : (i : ℕ) → i < length b.alerts → get_or ups i false ≡ a.up i k
+  pub shown : a.shown k ≡ filter (λ i. get_or showns i false) (order b)
+  pub mw : is_pressed keys Mw ≡ a.mw k
+  pub mc : is_pressed keys Mc ≡ a.mc k
+  pub emer : is_pressed keys Emer ≡ a.emer k
+
+-- nothing comes in the moment after k: what is up and shown stays so, and no press acknowledges
+pub record NothingComes (a : lamps.Attention) (k : ℕ) : Type 0 where
+  pub up : (i : ℕ) → a.up i (suc k) ≡ a.up i k
+  pub shown : a.shown (suc k) ≡ a.shown k
+  pub mw : a.mw (suc k) ≡ false
+  pub mc : a.mc (suc k) ≡ false
+  pub emer : a.emer (suc k) ≡ false
+
+-- the lights and the sound in the last of k moments; before the first there are none
+abbrev pub lights_after : lamps.Attention → ℕ → Lights
+lights_after a zero = record { warn = false; caut = false; sound = Quiet }
+lights_after a (suc k) = record { warn = lamps.warns a k; caut = lamps.cautions a k; sound = lamps.sound a k }
+
+-- it stands for the first k moments
+pub record AttentionStands (b : Book) (a : lamps.Attention) (k : ℕ) (t : Attention) : Type 0 where
+  pub fits : AttentionFits b t
+  pub moments : t.moments ≡ k
+  pub watches : AreWatched a k (length b.alerts) (boxed_slice_items t.watches)
+  pub before : k ≡ 0 → t.calls ≡ no_calls
+  pub calls : (j : ℕ) → k ≡ suc j → AreCalls a j (a.shown j) t.calls
+  pub changed : (j : ℕ) → k ≡ suc j → (t.changed ≡ false) ↔ (lights_after a k ≡ lights_after a j)
+
+-- the lights and the sound by what it keeps
+abbrev pub lights_of : Attention → Lights
+lights_of t = record { warn = is_some t.calls.warning; caut = t.calls.caution; sound = sounding t.calls t.moments }
+
+-- it tells whether they are other than they were
+pub record TellsChange (old new : Attention) : Type 0 where
+  pub same : new.changed ≡ false → lights_of new ≡ lights_of old
+  pub other : new.changed ≡ true → lights_of new ≢ lights_of old

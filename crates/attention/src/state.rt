@@ -1,0 +1,183 @@
+// The lights and the sound.
+ghost use Rattle.std.specs.Prelude.{◌≡◌, ◌↔◌, ℕ, suc, ◌+◌, length, IfOk, false};
+ghost use Rattle.ecam_spec.specs.Book as plain;
+ghost use Rattle.ecam_spec.specs.Lamps as lamps;
+ghost use Rattle.book_model.specs.Sealed.{the_book};
+ghost use Rattle.attention.specs.State.{AttentionFits, CanGoOn, AreOfBook, Brings, NothingComes, AttentionStands, lights_after, lights_of, TellsChange};
+
+use crate::calls::Calls;
+use crate::moment::{Moment, Presses};
+use crate::walk::walk;
+use crate::watch::Watch;
+use book_model::Book;
+use ecam_kinds::{Keys, Sound};
+use std::alloc::{AllocError, Global};
+use std::boxed::BoxedSlice;
+
+/// What MASTER WARN, MASTER CAUT and the aural warning are after the moments so far, and what these leave for the
+/// next. Memory is taken in `new` alone, and nothing grows with the history.
+#[derive(Drop)]
+pub struct Attention {
+    // How many moments there were.
+    moments: u64,
+    // Per alert, by its place in the book.
+    watches: BoxedSlice<Watch>,
+    // What the last moment called for.
+    calls: Calls,
+    changed: bool,
+}
+
+// What the others see of it.
+#[derive(Clone, Copy, PartialEq, Eq)]
+struct Lights {
+    warn: bool,
+    caut: bool,
+    sound: Sound,
+}
+
+impl Attention {
+    /// Before the first moment: no light, no sound. An error is want of memory.
+    pub fn new(alloc: Global, book: &Book) -> Result<Attention, AllocError>
+        ensures fits { IfOk result (AttentionFits (the_book book.now)) }
+        ensures moments { IfOk result (λ t. t.moments ≡ 0) }
+        ensures stands { IfOk result (λ t. (a : lamps.Attention) → AttentionStands (the_book book.now) a 0 t) }
+        ensures changed { IfOk result (λ t. t.changed ≡ false) }
+    {
+        let mut watches = Vec::new(alloc);
+        watches.resize(book.alerts().len(), Watch::new())?;
+        Ok(Attention {
+            moments: 0,
+            watches: watches.into_boxed_slice(),
+            calls: Calls::none(),
+            changed: false,
+        })
+    }
+
+    /// Forgets all moments. Its cost is one write an alert.
+    pub fn clear(&mut self)
+        ensures fits { (b : plain.Book) → AttentionFits b self.old → AttentionFits b self.new }
+        ensures moments { self.new.moments ≡ 0 }
+        ensures stands { (b : plain.Book) (a : lamps.Attention) → AttentionFits b self.old
+            → AttentionStands b a 0 self.new }
+        ensures changed { self.new.changed ≡ false }
+    {
+        self.moments = 0;
+        self.watches.as_mut_slice().fill(Watch::new());
+        self.calls = Calls::none();
+        self.changed = false;
+    }
+
+    /// Takes over the moments of another of the same book. Its cost is one write an alert.
+    pub fn copy_from(&mut self, other: &Attention)
+        requires { (b : plain.Book) × AttentionFits b self.old × AttentionFits b other.now }
+        ensures fits { (b : plain.Book) → AttentionFits b other.now → AttentionFits b self.new }
+        ensures moments { self.new.moments ≡ other.now.moments }
+        ensures stands { (b : plain.Book) (a : lamps.Attention) (k : ℕ) → AttentionStands b a k other.now
+            → AttentionStands b a k self.new }
+        ensures changed { self.new.changed ≡ other.now.changed }
+    {
+        self.moments = other.moments;
+        self.watches
+            .as_mut_slice()
+            .copy_from_slice(other.watches.as_slice());
+        self.calls = other.calls;
+        self.changed = other.changed;
+    }
+
+    /// Takes one moment more, of 100 ms: per alert whether it is up and whether it is shown, and the keys that are
+    /// pressed in it. Its cost is one look at each alert, and a write for each of which something else is kept then.
+    pub fn step(&mut self, book: &Book, up: &[bool], shown: &[bool], keys: &Keys)
+        requires fits { AttentionFits (the_book book.now) self.old }
+        requires goes_on { CanGoOn self.old }
+        requires up { length up.now ≡ length book.now.alerts.items }
+        requires shown { length shown.now ≡ length book.now.alerts.items }
+        ensures fits { AttentionFits (the_book book.now) self.new }
+        ensures moments { self.new.moments ≡ self.old.moments + 1 }
+        // Whatever the moments before were, the state then stands for one more.
+        ensures stands { (a : lamps.Attention) (k : ℕ) → AreOfBook (the_book book.now) a
+            → Brings (the_book book.now) a k up.now shown.now keys.now
+            → AttentionStands (the_book book.now) a k self.old
+            → AttentionStands (the_book book.now) a (suc k) self.new }
+    {
+        let moment = Moment {
+            number: self.moments,
+            up,
+            shown,
+            presses: Presses::among(keys),
+        };
+        let calls = walk(self.watches.as_mut_slice(), book.alerts(), &moment);
+        self.hear(calls);
+    }
+
+    /// Takes one moment more in which nothing comes: each alert is up and shown as in the last moment, and no press
+    /// acknowledges. A chime may end in it. It looks at no alert.
+    pub fn rest(&mut self)
+        requires { CanGoOn self.old }
+        ensures fits { (b : plain.Book) → AttentionFits b self.old → AttentionFits b self.new }
+        ensures moments { self.new.moments ≡ self.old.moments + 1 }
+        ensures stands { (b : plain.Book) (a : lamps.Attention) (k : ℕ) → NothingComes a k
+            → AttentionStands b a (suc k) self.old → AttentionStands b a (suc (suc k)) self.new }
+    {
+        self.hear(self.calls);
+    }
+
+    // One moment more, with these calls.
+    fn hear(&mut self, calls: Calls)
+        requires { CanGoOn self.old }
+        ensures moments { self.new.moments ≡ self.old.moments + 1 }
+        ensures calls { self.new.calls ≡ calls }
+        ensures watches { self.new.watches ≡ self.old.watches }
+        ensures changed { TellsChange self.old self.new }
+    {
+        let before = self.lights();
+        self.moments += 1;
+        self.calls = calls;
+        self.changed = self.lights() != before;
+    }
+
+    fn lights(&self) -> Lights
+        ensures { result ≡ lights_of self.now }
+    {
+        Lights {
+            warn: self.warn(),
+            caut: self.caut(),
+            sound: self.sound(),
+        }
+    }
+
+    /// MASTER WARN is lit in the last moment. Before the first it isn't.
+    pub fn warn(&self) -> bool
+        ensures value { result ≡ (lights_of self.now).warn }
+        ensures answer { (b : plain.Book) (a : lamps.Attention) (k : ℕ) → AttentionStands b a k self.now
+            → result ≡ (lights_after a k).warn }
+    {
+        self.calls.warning.is_some()
+    }
+
+    /// MASTER CAUT is lit in the last moment. Before the first it isn't.
+    pub fn caut(&self) -> bool
+        ensures value { result ≡ (lights_of self.now).caut }
+        ensures answer { (b : plain.Book) (a : lamps.Attention) (k : ℕ) → AttentionStands b a k self.now
+            → result ≡ (lights_after a k).caut }
+    {
+        self.calls.caution
+    }
+
+    /// The aural warning in the last moment. Before the first there is none.
+    pub fn sound(&self) -> Sound
+        ensures value { result ≡ (lights_of self.now).sound }
+        ensures answer { (b : plain.Book) (a : lamps.Attention) (k : ℕ) → AttentionStands b a k self.now
+            → result ≡ (lights_after a k).sound }
+    {
+        self.calls.sound(self.moments)
+    }
+
+    /// In the last moment a light or the sound is other than in the one before. Before the first it is `false`.
+    pub fn changed(&self) -> bool
+        ensures value { result ≡ self.now.changed }
+        ensures answer { (b : plain.Book) (a : lamps.Attention) (k : ℕ) → AttentionStands b a (suc k) self.now
+            → (result ≡ false) ↔ (lights_after a (suc k) ≡ lights_after a k) }
+    {
+        self.changed
+    }
+}

@@ -1,0 +1,466 @@
+// The lights and the sound of a small book, moment by moment. The expected values follow from the rules by hand.
+ghost use Rattle.std.specs.Prelude.{◌≡◌, ◌≤◌, ◌+◌, List, ℕ, [], ◌∷◌, true, length, map, codes, IfOk, Some, None};
+ghost use Rattle.ecam_spec.specs.Book.{constant};
+ghost use Rattle.ecam_spec.specs.Draft.{DraftAlert};
+ghost use Rattle.ecam_spec.specs.KeepsLimits.{IsSound};
+ghost use Rattle.ecam_spec.specs.DraftFaults.{draft_fault};
+ghost use Rattle.book_model.specs.View.{draft_of, tree_in, alert_of};
+ghost use Rattle.book_model.specs.Sealed.{the_book};
+ghost use Rattle.attention.specs.State.{AttentionFits, CanGoOn};
+
+use crate::Attention;
+use book_model::{Alert, Book, Draft, Name, PhaseTerms, Term, Text};
+use ecam_kinds::{Key, Keys, Level, PhaseSet, Sound};
+use std::alloc::{AllocError, Global};
+use std::test::Fail;
+use term_tree::Cond;
+
+fn name(text: &str) -> Name
+    requires { length text.now ≤ 24 }
+    ensures { result.bytes ≡ text.now }
+{
+    let mut name = Name::new();
+    name.push_str(text);
+    name
+}
+
+fn text(text: &str) -> Text
+    requires { length text.now ≤ 36 }
+    ensures { result.bytes ≡ text.now }
+{
+    let mut result = Text::new();
+    result.push_str(text);
+    result
+}
+
+fn term(holds: bool) -> Term
+    ensures { tree_in result ≡ constant holds }
+{
+    Term {
+        cond: Cond::Const(holds),
+        at: 0,
+    }
+}
+
+fn alert(alloc: Global, own: &str, level: Level, sound: Sound) -> Alert
+    requires { length own.now ≤ 24 }
+    ensures { alert_of result ≡ record {
+      name = own.now;
+      title = codes "T";
+      system = 0;
+      level = level;
+      when = constant true;
+      page = None;
+      confirm = 0;
+      sound = sound;
+      inhibit = 256;
+      secondary = [];
+      lines = [];
+      status = [];
+    } }
+{
+    Alert {
+        name: name(own),
+        title: text("T"),
+        system: 0,
+        level,
+        when: term(true),
+        page: None,
+        confirm: 0,
+        sound,
+        inhibit: PhaseSet::NINE,
+        secondary: Vec::new(alloc),
+        lines: Vec::new(alloc),
+        status: Vec::new(alloc),
+    }
+}
+
+// A caution with a chime, a warning, a caution without a sound, a second warning, and an alert of level 1.
+fn alerts(alloc: Global) -> Result<Vec<Alert>, AllocError>
+    ensures { IfOk result (λ v. map alert_of v.items ≡
+        (let plain : List ℕ → DraftAlert = λ name. record {
+          name = name;
+          title = codes "T";
+          system = 0;
+          level = Level.One;
+          when = constant true;
+          page = None;
+          confirm = 0;
+          sound = Sound.Quiet;
+          inhibit = 256;
+          secondary = [];
+          lines = [];
+          status = [];
+        } in
+        record (plain (codes "c")) { level = Level.Two; sound = Sound.Chime }
+        ∷ record (plain (codes "w")) { level = Level.Three; sound = Sound.Repetitive }
+        ∷ record (plain (codes "q")) { level = Level.Two }
+        ∷ record (plain (codes "v")) { level = Level.Three; sound = Sound.Cavalry }
+        ∷ plain (codes "a") ∷ [])) }
+{
+    Ok(vec![in alloc;
+        alert(alloc, "c", Level::Two, Sound::Chime),
+        alert(alloc, "w", Level::Three, Sound::Repetitive),
+        alert(alloc, "q", Level::Two, Sound::Quiet),
+        alert(alloc, "v", Level::Three, Sound::Cavalry),
+        alert(alloc, "a", Level::One, Sound::Quiet),
+    ]?)
+}
+
+fn draft(alloc: Global) -> Result<Draft, AllocError>
+    ensures sound { IfOk result (λ d. IsSound (draft_of d)) }
+    ensures faultless { IfOk result (λ d. draft_fault (draft_of d) ≡ None) }
+{
+    Ok(Draft {
+        systems: vec![in alloc; text("S")]?,
+        pages: Vec::new(alloc),
+        params: Vec::new(alloc),
+        phase: PhaseTerms {
+            gnd: term(false),
+            run: term(false),
+            tp: term(false),
+            fast: term(false),
+            high: term(false),
+            low: term(false),
+        },
+        alerts: alerts(alloc)?,
+        memos: Vec::new(alloc),
+    })
+}
+
+const NONE: u8 = 0;
+
+// The alerts, one bit each.
+const CHIMING: u8 = 1;
+
+const WARNING: u8 = 2;
+
+const SILENT: u8 = 4;
+
+const SECOND: u8 = 8;
+
+const ADVISORY: u8 = 16;
+
+// The keys, or that nothing comes, or that a history begins.
+const MW: u8 = 1;
+
+const MC: u8 = 2;
+
+const EMER: u8 = 4;
+
+const REST: u8 = 8;
+
+const START: u8 = 16;
+
+fn flags(alerts: u8) -> [bool; 5] {
+    [
+        alerts & CHIMING != 0,
+        alerts & WARNING != 0,
+        alerts & SILENT != 0,
+        alerts & SECOND != 0,
+        alerts & ADVISORY != 0,
+    ]
+}
+
+fn keys(pressed: u8) -> Keys {
+    let mut keys = Keys::new();
+    if pressed & MW != 0 {
+        keys.press(Key::Mw);
+    }
+    if pressed & MC != 0 {
+        keys.press(Key::Mc);
+    }
+    if pressed & EMER != 0 {
+        keys.press(Key::Emer);
+    }
+    keys
+}
+
+// One moment of a history.
+fn moment(attention: &mut Attention, book: &Book, up: u8, shown: u8, pressed: u8)
+    requires fits { AttentionFits (the_book book.now) attention.old }
+    requires goes_on { CanGoOn attention.old }
+    requires five { length book.now.alerts.items ≡ 5 }
+    ensures fits { AttentionFits (the_book book.now) attention.new }
+    ensures moments { attention.new.moments ≡ attention.old.moments + 1 }
+{
+    if pressed == REST {
+        attention.rest();
+        return;
+    }
+    attention.step(book, &flags(up), &flags(shown), &keys(pressed));
+}
+
+// The same, or the start of a history. Another computer takes the moment, and lends what it keeps back.
+fn turn(
+    attention: &mut Attention,
+    other: &mut Attention,
+    book: &Book,
+    up: u8,
+    shown: u8,
+    pressed: u8,
+)
+    requires fits { AttentionFits (the_book book.now) attention.old }
+    requires other { AttentionFits (the_book book.now) other.old }
+    requires goes_on { CanGoOn attention.old }
+    requires five { length book.now.alerts.items ≡ 5 }
+    ensures fits { AttentionFits (the_book book.now) attention.new }
+    ensures other { AttentionFits (the_book book.now) other.new }
+    ensures moments { attention.new.moments ≤ attention.old.moments + 1 }
+{
+    if pressed == START {
+        attention.clear();
+        return;
+    }
+    other.copy_from(attention);
+    moment(other, book, up, shown, pressed);
+    attention.copy_from(other);
+}
+
+#[test]
+fn lights_and_sounds_are_what_the_rules_say(rt: HostRuntime) -> Result<(), Fail> {
+    // Who is up, who is shown, the keys; then whether MASTER WARN and MASTER CAUT are lit, and the sound.
+    let rows: [(u8, u8, u8, bool, bool, Sound); 72] = [
+        // a chime ends by itself after five moments
+        (NONE, NONE, START, false, false, Sound::Quiet),
+        (NONE, NONE, NONE, false, false, Sound::Quiet),
+        (CHIMING, CHIMING, NONE, false, true, Sound::Chime),
+        (CHIMING, CHIMING, NONE, false, true, Sound::Chime),
+        (CHIMING, CHIMING, REST, false, true, Sound::Chime),
+        (CHIMING, CHIMING, REST, false, true, Sound::Chime),
+        (CHIMING, CHIMING, NONE, false, true, Sound::Chime),
+        (CHIMING, CHIMING, NONE, false, true, Sound::Quiet),
+        (CHIMING, CHIMING, REST, false, true, Sound::Quiet),
+        // by MASTER CAUT, which doesn't act on an onset of its own moment; a second onset is as good as the first
+        (NONE, NONE, START, false, false, Sound::Quiet),
+        (CHIMING, CHIMING, MC, false, true, Sound::Chime),
+        (CHIMING, CHIMING, MW, false, true, Sound::Chime),
+        (CHIMING, CHIMING, MC, false, false, Sound::Quiet),
+        (CHIMING, CHIMING, REST, false, false, Sound::Quiet),
+        (NONE, NONE, NONE, false, false, Sound::Quiet),
+        (CHIMING, CHIMING, NONE, false, true, Sound::Chime),
+        // by EMER CANC, and by the alert's end
+        (CHIMING, CHIMING, EMER, false, false, Sound::Quiet),
+        (NONE, NONE, NONE, false, false, Sound::Quiet),
+        (CHIMING, CHIMING, EMER, false, true, Sound::Chime),
+        (NONE, NONE, NONE, false, false, Sound::Quiet),
+        // and by nothing else while nothing comes
+        (NONE, NONE, START, false, false, Sound::Quiet),
+        (CHIMING, CHIMING, NONE, false, true, Sound::Chime),
+        (CHIMING, CHIMING, REST, false, true, Sound::Chime),
+        (CHIMING, CHIMING, REST, false, true, Sound::Chime),
+        (CHIMING, CHIMING, REST, false, true, Sound::Chime),
+        (CHIMING, CHIMING, REST, false, true, Sound::Chime),
+        (CHIMING, CHIMING, REST, false, true, Sound::Quiet),
+        // the first warning in order sounds, of those that are shown; MASTER CAUT acknowledges none
+        (NONE, NONE, START, false, false, Sound::Quiet),
+        (SECOND, SECOND, NONE, true, false, Sound::Cavalry),
+        (
+            WARNING | SECOND,
+            WARNING | SECOND,
+            NONE,
+            true,
+            false,
+            Sound::Repetitive,
+        ),
+        (
+            WARNING | SECOND,
+            WARNING | SECOND,
+            MC,
+            true,
+            false,
+            Sound::Repetitive,
+        ),
+        (WARNING | SECOND, SECOND, NONE, true, false, Sound::Cavalry),
+        (WARNING | SECOND, SECOND, MW, false, false, Sound::Quiet),
+        (
+            WARNING | SECOND,
+            WARNING | SECOND,
+            REST,
+            false,
+            false,
+            Sound::Quiet,
+        ),
+        (SECOND, SECOND, NONE, false, false, Sound::Quiet),
+        (
+            WARNING | SECOND,
+            WARNING | SECOND,
+            NONE,
+            true,
+            false,
+            Sound::Repetitive,
+        ),
+        (
+            WARNING | SECOND,
+            WARNING | SECOND,
+            EMER,
+            false,
+            false,
+            Sound::Quiet,
+        ),
+        // a warning sounds over a chime, and the chime goes on behind it
+        (NONE, NONE, START, false, false, Sound::Quiet),
+        (
+            CHIMING | WARNING,
+            CHIMING | WARNING,
+            NONE,
+            true,
+            true,
+            Sound::Repetitive,
+        ),
+        (
+            CHIMING | WARNING,
+            CHIMING | WARNING,
+            MW,
+            false,
+            true,
+            Sound::Chime,
+        ),
+        (
+            CHIMING | WARNING,
+            CHIMING | WARNING,
+            REST,
+            false,
+            true,
+            Sound::Chime,
+        ),
+        (
+            CHIMING | WARNING | SILENT,
+            CHIMING | WARNING | SILENT,
+            NONE,
+            false,
+            true,
+            Sound::Chime,
+        ),
+        (
+            CHIMING | WARNING | SILENT,
+            CHIMING | WARNING | SILENT,
+            NONE,
+            false,
+            true,
+            Sound::Chime,
+        ),
+        (
+            CHIMING | WARNING | SILENT,
+            CHIMING | WARNING | SILENT,
+            NONE,
+            false,
+            true,
+            Sound::Quiet,
+        ),
+        (
+            CHIMING | WARNING | SILENT,
+            CHIMING | WARNING | SILENT,
+            MC,
+            false,
+            false,
+            Sound::Quiet,
+        ),
+        // an onset counts while its alert isn't shown, and a press acknowledges it
+        (NONE, NONE, START, false, false, Sound::Quiet),
+        (CHIMING | WARNING, NONE, NONE, false, false, Sound::Quiet),
+        (CHIMING | WARNING, NONE, REST, false, false, Sound::Quiet),
+        (CHIMING | WARNING, NONE, MW, false, false, Sound::Quiet),
+        (
+            CHIMING | WARNING,
+            CHIMING | WARNING,
+            NONE,
+            false,
+            true,
+            Sound::Chime,
+        ),
+        (
+            CHIMING | WARNING,
+            CHIMING | WARNING,
+            REST,
+            false,
+            true,
+            Sound::Chime,
+        ),
+        (
+            CHIMING | WARNING,
+            CHIMING | WARNING,
+            NONE,
+            false,
+            true,
+            Sound::Quiet,
+        ),
+        // what is shown and not up lights nothing, whatever its last onset
+        (NONE, NONE, START, false, false, Sound::Quiet),
+        (
+            CHIMING | WARNING | SILENT,
+            CHIMING | WARNING | SILENT,
+            NONE,
+            true,
+            true,
+            Sound::Repetitive,
+        ),
+        (
+            NONE,
+            CHIMING | WARNING | SILENT,
+            NONE,
+            false,
+            false,
+            Sound::Quiet,
+        ),
+        (
+            SILENT,
+            CHIMING | WARNING | SILENT,
+            NONE,
+            false,
+            true,
+            Sound::Quiet,
+        ),
+        // one warning, and MASTER WARN
+        (NONE, NONE, START, false, false, Sound::Quiet),
+        (WARNING, WARNING, NONE, true, false, Sound::Repetitive),
+        (WARNING, WARNING, MW, false, false, Sound::Quiet),
+        // which doesn't act on an onset of its own moment, but on one of the moment before, as MASTER CAUT does
+        (NONE, NONE, START, false, false, Sound::Quiet),
+        (WARNING, WARNING, MW, true, false, Sound::Repetitive),
+        (WARNING, WARNING, MW, false, false, Sound::Quiet),
+        (NONE, NONE, START, false, false, Sound::Quiet),
+        (CHIMING, CHIMING, NONE, false, true, Sound::Chime),
+        (CHIMING, CHIMING, MC, false, false, Sound::Quiet),
+        // a recalled alert is silent until it comes up
+        (NONE, NONE, START, false, false, Sound::Quiet),
+        (NONE, CHIMING, NONE, false, false, Sound::Quiet),
+        (CHIMING, CHIMING, NONE, false, true, Sound::Chime),
+        // level 1 lights nothing, and level 2 without a sound is silent
+        (NONE, NONE, START, false, false, Sound::Quiet),
+        (ADVISORY, ADVISORY, NONE, false, false, Sound::Quiet),
+        (
+            ADVISORY | SILENT,
+            SILENT | ADVISORY,
+            MW,
+            false,
+            true,
+            Sound::Quiet,
+        ),
+        (
+            ADVISORY | SILENT,
+            SILENT | ADVISORY,
+            MC,
+            false,
+            false,
+            Sound::Quiet,
+        ),
+    ];
+    let alloc = rt.alloc();
+    let book = Book::build(alloc, draft(alloc)?)?;
+    assert_eq!(rt; book.alerts().len(), 5);
+    let mut attention = Attention::new(alloc, &book)?;
+    let mut other = Attention::new(alloc, &book)?;
+    let mut before = (false, false, Sound::Quiet);
+    for row in 0..rows.len() {
+        let (up, shown, pressed, warn, caut, sound) = rows[row];
+        turn(&mut attention, &mut other, &book, up, shown, pressed);
+        assert_eq!(rt; attention.warn(), warn, "row {row}");
+        assert_eq!(rt; attention.caut(), caut, "row {row}");
+        assert_eq!(rt; attention.sound(), sound, "row {row}");
+        let changed = pressed != START && before != (warn, caut, sound);
+        assert_eq!(rt; attention.changed(), changed, "row {row}");
+        before = (warn, caut, sound);
+    }
+    Ok(())
+}

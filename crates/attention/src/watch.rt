@@ -1,0 +1,83 @@
+// What is kept of one alert.
+ghost use Rattle.std.specs.Prelude.{◌≡◌, ℕ, suc, ◌&&◌, not};
+ghost use Rattle.ecam_spec.specs.Lamps as lamps;
+ghost use Rattle.attention.specs.Watches.{acknowledged, onset_after, watch_after};
+
+/// How the last onset of an alert stands.
+#[derive(Clone, Copy, PartialEq, Eq)]
+pub enum Onset {
+    /// The alert hasn't come up yet.
+    Never,
+    /// It came up in the moment of this number, and no press of a later one has acknowledged it.
+    Open(u64),
+    /// A press of a later moment has acknowledged it.
+    Acknowledged,
+}
+
+impl Onset {
+    // After a press that acknowledges.
+    fn acknowledged(self) -> Onset
+        ensures { result ≡ acknowledged self }
+    {
+        match self {
+            Onset::Never => Onset::Never,
+            Onset::Open(_) => Onset::Acknowledged,
+            Onset::Acknowledged => Onset::Acknowledged,
+        }
+    }
+}
+
+/// What the moments so far leave of an alert for the next.
+#[derive(Clone, Copy, PartialEq, Eq)]
+pub struct Watch {
+    /// It was up in the last moment.
+    pub up: bool,
+    /// How its last onset stands.
+    pub onset: Onset,
+}
+
+impl Watch {
+    /// Before the first moment.
+    pub fn new() -> Watch
+        ensures { (a : lamps.Attention) (i : ℕ) → result ≡ watch_after a i 0 }
+    {
+        Watch {
+            up: false,
+            onset: Onset::Never,
+        }
+    }
+
+    /// After one moment more: whether the alert is up in it, whether a press in it acknowledges its level, and
+    /// the moment's number.
+    pub fn next(self, up: bool, pressed: bool, now: u64) -> Watch
+        ensures { (a : lamps.Attention) (i k : ℕ) → up ≡ a.up i k
+            → pressed ≡ lamps.acknowledges a (a.level i) k → now ≡ k
+            → self ≡ watch_after a i k → result ≡ watch_after a i (suc k) }
+    {
+        Watch {
+            up,
+            onset: self.next_onset(up, pressed, now),
+        }
+    }
+
+    fn comes_up(self, up: bool) -> bool
+        ensures { result ≡ (up && not self.up) }
+    {
+        up && !self.up
+    }
+
+    // A press acknowledges onsets of earlier moments alone.
+    fn next_onset(self, up: bool, pressed: bool, now: u64) -> Onset
+        ensures { (a : lamps.Attention) (i k : ℕ) → up ≡ a.up i k
+            → pressed ≡ lamps.acknowledges a (a.level i) k → now ≡ k
+            → self ≡ watch_after a i k → result ≡ onset_after a i (suc k) }
+    {
+        if self.comes_up(up) {
+            return Onset::Open(now);
+        }
+        if pressed {
+            return self.onset.acknowledged();
+        }
+        self.onset
+    }
+}

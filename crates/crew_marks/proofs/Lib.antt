@@ -1,0 +1,6 @@
+pub mod Orders
+pub mod BookAlerts
+pub mod Walking
+pub mod Stretches
+pub mod Crews
+pub mod Stepping

@@ -1,0 +1,19 @@
+use Rattle.std.proofs.Common.{◌≤◌, ◌*◌, ◌+◌}
+use Rattle.book_model.specs.Sealed.{the_book}
+use Rattle.crew_marks.specs.MarksState.{MarksFit}
+use Rattle.crew_marks.proofs.tests.rows_hold.Given as goal
+
+-- there are fewer than 256 moments a row
+abbrev pub invariant-loop-row : goal.invariant-loop-row
+invariant-loop-row g l = record {
+  fits : MarksFit (the_book l.book) l.marks;
+  other : MarksFit (the_book l.book) l.other;
+  moments : l.marks.moments ≤ 256 * l.row-counter;
+}
+
+abbrev pub invariant-loop-time : goal.invariant-loop-time
+invariant-loop-time g l = record {
+  fits : MarksFit (the_book l.book) l.marks;
+  other : MarksFit (the_book l.book) l.other;
+  moments : l.marks.moments ≤ 256 * l.row + l._time;
+}

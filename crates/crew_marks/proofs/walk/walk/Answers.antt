@@ -1,0 +1,54 @@
+use Rattle.std.proofs.Common.{◌<◌, false, length, get_or, refl, sym, ◌∙◌, ap, subst, arith}
+use Rattle.std.specs.Option.{option_or}
+use Rattle.std.specs.Bool.{then_some}
+use Rattle.std.specs.List.{find}
+use Rattle.std.proofs.lemmas.Bool.{lt-ltb}
+use Rattle.ecam_spec.proofs.ListLaws.{mem, distinct}
+use Rattle.ecam_spec.proofs.OrderLaws.{distinct-order}
+use Rattle.book_model.specs.Sealed.{the_book}
+use Rattle.crew_marks.specs.MarkSets.{mark_at, set_mark, AreMany}
+use Rattle.crew_marks.specs.MarkStep.{mark_after}
+use Rattle.crew_marks.proofs.Orders.{mem-order}
+use Rattle.crew_marks.proofs.BookAlerts.{place-within}
+use Rattle.crew_marks.proofs.Walking.{has-mark, many-set, then_some-cond, walk-more, walked-mark, walked-first}
+use Rattle.crew_marks.proofs.walk.walk.Goals as goal
+
+pub look-sight-requires-clause-place : goal.look-sight-requires-clause-place
+look-sight-requires-clause-place c =
+    place-within c.args.book.now c.order-order.result.now c.loop-place.place-index c.order-order.ensures.within (omega arith)
+
+pub step-turned-requires : goal.step-turned-requires
+step-turned-requires c =
+    has-mark c.loop-place.sets (length (the_book c.args.book.now).alerts) _ c.loop-place.invariant.many
+    (place-within c.args.book.now c.order-order.result.now c.loop-place.place-index c.order-order.ensures.within (omega arith))
+
+pub is_shown-requires : goal.is_shown-requires
+is_shown-requires c =
+    has-mark c.step-turned.new.self (length (the_book c.args.book.now).alerts) _
+    (subst (λ s. AreMany s (length (the_book c.args.book.now).alerts)) (sym c.step-turned.ensures.mark) (many-set c.loop-place.sets _ _ _ c.loop-place.invariant.many))
+    (place-within c.args.book.now c.order-order.result.now c.loop-place.place-index c.order-order.ensures.within (omega arith))
+
+pub loop-place-preserved : goal.loop-place-preserved
+loop-place-preserved c =
+    let n = length (the_book c.args.book.now).alerts in
+    let x = get_or c.order-order.result.now c.loop-place.place-index 0 in
+    let place : x < n = place-within c.args.book.now c.order-order.result.now c.loop-place.place-index c.order-order.ensures.within (omega arith) in
+    record {
+      many = subst (λ s. AreMany s n) (sym c.step-turned.ensures.mark) (many-set c.loop-place.sets _ _ _ c.loop-place.invariant.many);
+      walked =
+          walk-more _ _ _ _ x c.loop-place.sets c.step-turned.new.self c.loop-place.first c.loop-place.changed c.step-turned.result
+          (ap distinct c.order-order.ensures.value ∙ distinct-order (the_book c.args.book.now)) (omega arith) refl
+          (has-mark c.loop-place.sets n x c.loop-place.invariant.many place)
+          (c.step-turned.ensures.mark ∙ ap (λ g. set_mark c.loop-place.sets x (mark_after (mark_at c.loop-place.sets x) g c.args.actions.now)) c.look-sight.ensures)
+          c.step-turned.ensures.changed c.loop-place.invariant.walked c.or-first.result
+          (c.or-first.ensures ∙ ap (option_or c.loop-place.first) (c.then_some.ensures ∙ ap (λ b. then_some b x) c.is_shown.ensures ∙ then_some-cond (get_or c.step-turned.new.self.shown x false) x));
+    }
+
+pub returns-clause-marks : goal.returns-clause-marks
+returns-clause-marks c = λ a h.
+    walked-mark _ _ _ _ _ _ _ (omega arith) c.loop-place.invariant.walked a
+    (ap (mem a) c.order-order.ensures.value ∙ mem-order (the_book c.args.book.now) a ∙ lt-ltb a (length (the_book c.args.book.now).alerts) h)
+
+pub returns-clause-first : goal.returns-clause-first
+returns-clause-first c =
+    walked-first _ _ _ _ _ _ _ (omega arith) c.loop-place.invariant.walked ∙ ap (find (λ a. get_or c.loop-place.sets.shown a false)) c.order-order.ensures.value

@@ -1,0 +1,5 @@
+pub mod MarkStep
+pub mod MarkSets
+pub mod Runs
+pub mod CrewMarks
+pub mod MarksState

@@ -1,0 +1,34 @@
+-- The marks of all alerts.
+use Rattle.std.specs.Prelude.{◌≡◌, ℕ, ◌<◌, Bool, false, List, length, get_or, slice_set}
+use Rattle.crew_marks.specs.declared.mark.Mark.{Mark}
+
+-- by alert: whether it is cleared, cancelled, recalled, and shown
+pub record MarkSets : Type 0 where
+  pub cleared : List Bool
+  pub cancelled : List Bool
+  pub recalled : List Bool
+  pub shown : List Bool
+
+-- the mark of an alert
+abbrev pub mark_at : MarkSets → ℕ → Mark
+mark_at s a =
+    record { cleared = get_or s.cleared a false; cancelled = get_or s.cancelled a false; recalled = get_or s.recalled a false; shown = get_or s.shown a false }
+
+-- the same with another mark of one alert
+abbrev pub set_mark : MarkSets → ℕ → Mark → MarkSets
+set_mark s a m =
+    record { cleared = slice_set s.cleared a m.cleared; cancelled = slice_set s.cancelled a m.cancelled; recalled = slice_set s.recalled a m.recalled; shown = slice_set s.shown a m.shown }
+
+-- the alert has a mark
+pub record HasMark (s : MarkSets) (a : ℕ) : Type 0 where
+  pub cleared : a < length s.cleared
+  pub cancelled : a < length s.cancelled
+  pub recalled : a < length s.recalled
+  pub shown : a < length s.shown
+
+-- there are so many alerts
+pub record AreMany (s : MarkSets) (n : ℕ) : Type 0 where
+  pub cleared : length s.cleared ≡ n
+  pub cancelled : length s.cancelled ≡ n
+  pub recalled : length s.recalled ≡ n
+  pub shown : length s.shown ≡ n

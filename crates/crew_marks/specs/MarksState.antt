@@ -1,0 +1,61 @@
+-- When marks stand for what the crew did in the moments so far.
+use Rattle.std.specs.Prelude.{◌≡◌, ℕ, ◌<◌, Bool, true, false, List, length, get_or, find, IfSome}
+use Rattle.ecam_spec.specs.declared.kinds.Key.TheVariants.{Clr, Rcl, Emer}
+use Rattle.ecam_spec.specs.Past.{previous}
+use Rattle.ecam_spec.specs.Levels.{is_caution_level}
+use Rattle.ecam_spec.specs.Book.{Book}
+use Rattle.ecam_spec.specs.Situation.{alert_at}
+use Rattle.ecam_spec.specs.Screen.{order}
+use Rattle.ecam_spec.specs.Crew as crew
+use Rattle.ecam_spec.specs.Crew.{Cockpit, shown, shows_nothing}
+use Rattle.ecam_kinds.specs.declared.keys.Keys.{Keys}
+use Rattle.ecam_kinds.specs.KeyState.{is_pressed, is_held}
+use Rattle.crew_marks.specs.declared.mark.Mark.{Mark}
+use Rattle.crew_marks.specs.Runs.{running_since, last_within, previously}
+use Rattle.crew_marks.specs.MarkSets.{mark_at, AreMany}
+use Rattle.crew_marks.specs.CrewMarks.{CrewMarks, is_cleared, is_recalled, is_shown}
+
+-- the cockpit is one of the book: its alerts, their order, and which of them are cautions
+pub record IsCrewOf (b : Book) (c : Cockpit) : Type 0 where
+  pub order : c.order ≡ order b
+  pub is_caution : (a : ℕ) → c.is_caution a ≡ is_caution_level (alert_at b a).level
+
+-- what comes is what moment k of the cockpit says: which alerts are up and waiting, the keys, and the start of phase 1
+pub record SeesCrew (c : Cockpit) (k : ℕ) (ups waits : List Bool) (keys : Keys) (enters : Bool) : Type 0 where
+  pub up : (a : ℕ) → a < length ups → get_or ups a false ≡ c.up a k
+  pub waiting : (a : ℕ) → a < length waits → get_or waits a false ≡ c.waiting a k
+  pub clr : is_pressed keys Clr ≡ c.clr k
+  pub rcl : is_pressed keys Rcl ≡ c.rcl k
+  pub emer : is_pressed keys Emer ≡ c.emer k
+  pub rcl_held : is_held keys Rcl ≡ c.rcl_held k
+  pub enters_one : enters ≡ c.enters_one k
+
+-- the marks are those of the book: there is one for each alert, the target is an alert, the first shown is the first in
+-- order, and an alert that is cleared and not recalled isn't shown
+pub record MarksFit (b : Book) (m : CrewMarks) : Type 0 where
+  pub many : AreMany m.sets (length b.alerts)
+  pub target : IfSome m.target (λ a. a < length b.alerts)
+  pub first : m.first ≡ find (is_shown m) (order b)
+  pub hidden : (a : ℕ) → is_cleared m a ≡ true → is_recalled m a ≡ false → is_shown m a ≡ false
+
+-- the mark of alert a after k moments
+pub record MarkStands (c : Cockpit) (a k : ℕ) (m : Mark) : Type 0 where
+  pub cleared : m.cleared ≡ previous (crew.cleared c (shown c) a) k
+  pub cancelled : m.cancelled ≡ previous (crew.cancelled c (shown c) a) k
+  pub recalled : m.recalled ≡ previous (crew.recalled c (shown c) a) k
+  pub shown : m.shown ≡ previous (crew.is_shown c (shown c) a) k
+
+-- the marks stand for the first k moments of the cockpit
+pub record MarksStand (b : Book) (c : Cockpit) (k : ℕ) (m : CrewMarks) : Type 0 where
+  pub moments : m.moments ≡ k
+  pub marks : (a : ℕ) → a < length b.alerts → MarkStands c a k (mark_at m.sets a)
+  pub target : m.target ≡ previously (crew.target (shown c)) k
+  pub first : m.first ≡ crew.target (shown c) k
+  pub held_since : m.held_since ≡ running_since c.rcl_held k
+  pub quiet_press : m.quiet_press ≡ previously (last_within c.rcl (shows_nothing c)) k
+
+-- the alert was cleared, and was neither recalled nor waits now
+pub record OnlyCleared (m : CrewMarks) (waits : List Bool) (a : ℕ) : Type 0 where
+  pub cleared : is_cleared m a ≡ true
+  pub recalled : is_recalled m a ≡ false
+  pub waiting : get_or waits a false ≡ false

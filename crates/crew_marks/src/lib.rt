@@ -1,0 +1,13 @@
+//! What the crew makes of the alerts by CLR, RCL and EMER CANC, moment by moment: which are cleared, cancelled, recalled
+//! and shown, the target of the next press, and NORMAL.
+#![tactic(auto)]
+
+mod mark;
+mod marks;
+mod sets;
+mod stretch;
+#[cfg(test)]
+mod tests;
+mod walk;
+
+pub use marks::Marks;

@@ -1,0 +1,212 @@
+// The marks of a book's alerts, stepped moment by moment.
+ghost use Rattle.std.specs.Prelude.{◌≡◌, ◌↔◌, ℕ, suc, ◌+◌, ◌<◌, true, false, not, ◌&&◌, length, slice_index_or, IfOk, IfSome};
+ghost use Rattle.ecam_spec.specs.declared.kinds.Key.TheVariants.{Rcl};
+ghost use Rattle.ecam_spec.specs.Book as plain;
+ghost use Rattle.ecam_spec.specs.Past.{previous};
+ghost use Rattle.ecam_spec.specs.Crew.{Cockpit, normal};
+ghost use Rattle.ecam_kinds.specs.KeyState.{is_pressed};
+ghost use Rattle.book_model.specs.Sealed.{the_book};
+ghost use Rattle.crew_marks.specs.CrewMarks.{CanGoOn, is_shown, is_cancelled, strikes};
+ghost use Rattle.crew_marks.specs.MarksState.{IsCrewOf, SeesCrew, MarksFit, MarksStand, OnlyCleared};
+
+use crate::mark::actions_of;
+use crate::sets::Sets;
+use crate::stretch::{is_normal, press_after, restores, running_after};
+use crate::walk::walk;
+use book_model::Book;
+use ecam_kinds::{Key, Keys};
+use std::alloc::{AllocError, Global};
+use std::marker::Model;
+
+/// What the crew made of a book's alerts in the moments so far: which are cleared, cancelled, recalled and shown, the
+/// target of CLR and EMER CANC, and NORMAL. Memory is taken in `new` alone, and nothing grows with the history: of the
+/// past it keeps the moments in which RCL went down and was pressed last.
+#[derive(Drop)]
+pub struct Marks {
+    sets: Sets,
+    target: Option<u32>,
+    first: Option<u32>,
+    changed: bool,
+    moments: u64,
+    held_since: Option<u64>,
+    quiet_press: Option<u64>,
+}
+
+impl Model for Marks {
+    ghost use Rattle.crew_marks.specs.CrewMarks.{CrewMarks};
+
+    ghost Value = { CrewMarks };
+
+    ghost view = { λ m. record {
+      sets = m.sets;
+      target = m.target;
+      first = m.first;
+      changed = m.changed;
+      moments = m.moments;
+      held_since = m.held_since;
+      quiet_press = m.quiet_press;
+    } };
+}
+
+impl Marks {
+    /// The marks of a book before any moment: nothing is marked or shown. An error is want of memory.
+    pub fn new(alloc: Global, book: &Book) -> Result<Marks, AllocError>
+        ensures fits { IfOk result (MarksFit (the_book book.now)) }
+        ensures moments { IfOk result (λ m. m.moments ≡ 0) }
+        ensures stands { IfOk result (λ m. (c : Cockpit) → MarksStand (the_book book.now) c 0 m) }
+        ensures changed { IfOk result (λ m. m.changed ≡ false) }
+    {
+        Ok(Marks {
+            sets: Sets::new(alloc, book.alerts().len())?,
+            target: None,
+            first: None,
+            changed: false,
+            moments: 0,
+            held_since: None,
+            quiet_press: None,
+        })
+    }
+
+    /// Forgets all moments. Its cost is one write a mark.
+    pub fn clear(&mut self)
+        ensures fits { (b : plain.Book) → MarksFit b self.old → MarksFit b self.new }
+        ensures moments { self.new.moments ≡ 0 }
+        ensures stands { (b : plain.Book) (c : Cockpit) → MarksFit b self.old → MarksStand b c 0 self.new }
+        ensures changed { self.new.changed ≡ false }
+    {
+        self.sets.clear();
+        self.target = None;
+        self.first = None;
+        self.changed = false;
+        self.moments = 0;
+        self.held_since = None;
+        self.quiet_press = None;
+    }
+
+    /// Takes over what other marks of the same book hold. Its cost is one write a mark.
+    pub fn copy_from(&mut self, other: &Marks)
+        requires { (b : plain.Book) × MarksFit b self.old × MarksFit b other.now }
+        ensures { self.new ≡ other.now }
+    {
+        self.sets.copy_from(&other.sets);
+        self.target = other.target;
+        self.first = other.first;
+        self.changed = other.changed;
+        self.moments = other.moments;
+        self.held_since = other.held_since;
+        self.quiet_press = other.quiet_press;
+    }
+
+    /// Takes one moment more, of 100 ms: which alerts are up and which wait in it, the keys of the moment, and whether
+    /// phase 1 starts with it. Its cost is one look at each alert, and a write for each mark that changes.
+    pub fn step(
+        &mut self,
+        book: &Book,
+        up: &[bool],
+        waiting: &[bool],
+        keys: &Keys,
+        enters_one: bool,
+    )
+        requires fits { MarksFit (the_book book.now) self.old }
+        requires up { length up.now ≡ length (the_book book.now).alerts }
+        requires waiting { length waiting.now ≡ length (the_book book.now).alerts }
+        requires moments { CanGoOn self.old }
+        ensures fits { MarksFit (the_book book.now) self.new }
+        ensures moments { self.new.moments ≡ self.old.moments + 1 }
+        // Whatever the moments before were, all is as the definitions say of all of them.
+        ensures stands { (c : Cockpit) (k : ℕ) → IsCrewOf (the_book book.now) c
+            → SeesCrew c k up.now waiting.now keys.now enters_one
+            → MarksStand (the_book book.now) c k self.old
+            → MarksStand (the_book book.now) c (suc k) self.new }
+        ensures changed { (self.new.changed ≡ false) ↔ (self.new.sets ≡ self.old.sets) }
+
+        // An alert that was cleared, and neither was recalled nor waits: without a press of RCL it stays hidden, and with
+        // one it is shown where it is up and not cancelled. In a replay each cleared alert is one of these: it is active.
+        ensures hidden { is_pressed keys.now Rcl ≡ false → (a : ℕ) → OnlyCleared self.old waiting.now a
+            → is_shown self.new a ≡ false }
+        ensures restored { is_pressed keys.now Rcl ≡ true → (a : ℕ) → OnlyCleared self.old waiting.now a
+            → is_shown self.new a ≡ (slice_index_or up.now a false && not (is_cancelled self.new a)) }
+
+        // An alert that waits: with a press of RCL it is shown where CLR doesn't strike it in this moment, and it isn't
+        // cancelled.
+        ensures recalled { is_pressed keys.now Rcl ≡ true → (a : ℕ) → slice_index_or waiting.now a false ≡ true
+            → is_shown self.new a ≡ (not (strikes self.old keys.now a) && not (is_cancelled self.new a)) }
+    {
+        let held_since = running_after(self.held_since, keys.held(Key::Rcl), self.moments);
+        let actions = actions_of(keys, restores(held_since, self.moments, enters_one));
+        let walked = walk(&mut self.sets, book, up, waiting, self.first, &actions);
+        self.target = self.first;
+        self.first = walked.first;
+        self.changed = walked.changed;
+        self.quiet_press = press_after(
+            self.quiet_press,
+            actions.rcl,
+            walked.first.is_none(),
+            self.moments,
+        );
+        self.held_since = held_since;
+        self.moments += 1;
+    }
+
+    /// By alert, whether it is shown.
+    pub fn shown(&self) -> &[bool]
+        ensures { result.now ≡ self.now.sets.shown }
+    {
+        self.sets.shown()
+    }
+
+    /// By alert, whether it is cleared.
+    pub fn cleared(&self) -> &[bool]
+        ensures { result.now ≡ self.now.sets.cleared }
+    {
+        self.sets.cleared()
+    }
+
+    /// By alert, whether it is cancelled.
+    pub fn cancelled(&self) -> &[bool]
+        ensures { result.now ≡ self.now.sets.cancelled }
+    {
+        self.sets.cancelled()
+    }
+
+    /// By alert, whether it is recalled.
+    pub fn recalled(&self) -> &[bool]
+        ensures { result.now ≡ self.now.sets.recalled }
+    {
+        self.sets.recalled()
+    }
+
+    /// The target of CLR and EMER CANC in the moment just stepped: the first alert, in order, that the moment before it
+    /// showed. `None` where that showed nothing, or there is no such moment.
+    pub fn target(&self) -> Option<u32>
+        ensures value { result ≡ self.now.target }
+        ensures within { (b : plain.Book) → MarksFit b self.now → IfSome result (λ a. a < length b.alerts) }
+    {
+        self.target
+    }
+
+    /// The first alert, in order, that is shown; `None` exactly where nothing is shown. It is the target of the moment to
+    /// come.
+    pub fn first(&self) -> Option<u32>
+        ensures value { result ≡ self.now.first }
+        ensures within { (b : plain.Book) → MarksFit b self.now → IfSome result (λ a. a < length b.alerts) }
+    {
+        self.first
+    }
+
+    /// Whether NORMAL stands: RCL was pressed in the last three seconds, and nothing is shown since.
+    pub fn normal(&self) -> bool
+        ensures { (b : plain.Book) (c : Cockpit) (k : ℕ) → MarksStand b c k self.now
+            → result ≡ previous (normal c) k }
+    {
+        is_normal(self.quiet_press, self.moments)
+    }
+
+    /// Whether the moment just stepped changed which alerts are cleared, cancelled, recalled or shown. Before the first
+    /// moment nothing has changed.
+    pub fn changed(&self) -> bool
+        ensures { result ≡ self.now.changed }
+    {
+        self.changed
+    }
+}

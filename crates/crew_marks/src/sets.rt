@@ -1,0 +1,166 @@
+// The marks of all alerts.
+ghost use Rattle.std.specs.Prelude.{◌≡◌, ◌↔◌, ℕ, false, length, replicate, slice_index_or, IfOk};
+ghost use Rattle.std.specs.Box.{boxed_slice_items};
+ghost use Rattle.crew_marks.specs.MarkSets.{mark_at, set_mark, HasMark, AreMany};
+ghost use Rattle.crew_marks.specs.MarkStep.{mark_after};
+
+use crate::mark::{Actions, Mark, Sight};
+use std::alloc::{AllocError, Global};
+use std::boxed::BoxedSlice;
+use std::marker::Model;
+
+/// By alert: whether it is cleared, cancelled, recalled, and shown.
+#[derive(Drop)]
+pub struct Sets {
+    cleared: BoxedSlice<bool>,
+    cancelled: BoxedSlice<bool>,
+    recalled: BoxedSlice<bool>,
+    shown: BoxedSlice<bool>,
+}
+
+impl Model for Sets {
+    ghost use Rattle.std.specs.Box.{boxed_slice_items};
+    ghost use Rattle.crew_marks.specs.MarkSets.{MarkSets};
+
+    ghost Value = { MarkSets };
+
+    ghost view = { λ s. record {
+      cleared = boxed_slice_items s.cleared;
+      cancelled = boxed_slice_items s.cancelled;
+      recalled = boxed_slice_items s.recalled;
+      shown = boxed_slice_items s.shown;
+    } };
+}
+
+impl Sets {
+    /// The marks of so many alerts, none of which is marked.
+    pub fn new(alloc: Global, alerts: usize) -> Result<Sets, AllocError>
+        ensures cleared { IfOk result (λ s. s.cleared ≡ replicate alerts false) }
+        ensures cancelled { IfOk result (λ s. s.cancelled ≡ replicate alerts false) }
+        ensures recalled { IfOk result (λ s. s.recalled ≡ replicate alerts false) }
+        ensures shown { IfOk result (λ s. s.shown ≡ replicate alerts false) }
+    {
+        Ok(Sets {
+            cleared: none(alloc, alerts)?,
+            cancelled: none(alloc, alerts)?,
+            recalled: none(alloc, alerts)?,
+            shown: none(alloc, alerts)?,
+        })
+    }
+
+    /// The mark of an alert.
+    pub fn mark(&self, alert: usize) -> Mark
+        requires { HasMark self.now alert }
+        ensures { result ≡ mark_at self.now alert }
+    {
+        Mark {
+            cleared: self.cleared[alert],
+            cancelled: self.cancelled[alert],
+            recalled: self.recalled[alert],
+            shown: self.shown[alert],
+        }
+    }
+
+    /// Changes the mark of an alert.
+    pub fn set(&mut self, alert: usize, mark: Mark)
+        requires { HasMark self.old alert }
+        ensures { self.new ≡ set_mark self.old alert mark }
+    {
+        self.cleared[alert] = mark.cleared;
+        self.cancelled[alert] = mark.cancelled;
+        self.recalled[alert] = mark.recalled;
+        self.shown[alert] = mark.shown;
+    }
+
+    /// One moment more makes this of an alert's mark. Answers whether that changed it.
+    pub fn step(&mut self, alert: usize, sight: &Sight, actions: &Actions) -> bool
+        requires { HasMark self.old alert }
+        ensures mark { self.new
+            ≡ set_mark self.old alert (mark_after (mark_at self.old alert) sight.now actions.now) }
+        ensures changed { (result ≡ false) ↔ (self.new ≡ self.old) }
+    {
+        let old = self.mark(alert);
+        let new = old.next(sight, actions);
+        if new == old {
+            return false;
+        }
+        self.set(alert, new);
+        true
+    }
+
+    /// Whether an alert is shown.
+    pub fn is_shown(&self, alert: usize) -> bool
+        requires { HasMark self.now alert }
+        ensures { result ≡ slice_index_or self.now.shown alert false }
+    {
+        self.shown[alert]
+    }
+
+    /// No alert is marked any more.
+    pub fn clear(&mut self)
+        ensures cleared { self.new.cleared ≡ replicate (length self.old.cleared) false }
+        ensures cancelled { self.new.cancelled ≡ replicate (length self.old.cancelled) false }
+        ensures recalled { self.new.recalled ≡ replicate (length self.old.recalled) false }
+        ensures shown { self.new.shown ≡ replicate (length self.old.shown) false }
+    {
+        self.cleared.as_mut_slice().fill(false);
+        self.cancelled.as_mut_slice().fill(false);
+        self.recalled.as_mut_slice().fill(false);
+        self.shown.as_mut_slice().fill(false);
+    }
+
+    /// The marks of others, of which there are as many.
+    pub fn copy_from(&mut self, other: &Sets)
+        requires { (n : ℕ) × AreMany self.old n × AreMany other.now n }
+        ensures { self.new ≡ other.now }
+    {
+        self.cleared
+            .as_mut_slice()
+            .copy_from_slice(other.cleared.as_slice());
+        self.cancelled
+            .as_mut_slice()
+            .copy_from_slice(other.cancelled.as_slice());
+        self.recalled
+            .as_mut_slice()
+            .copy_from_slice(other.recalled.as_slice());
+        self.shown
+            .as_mut_slice()
+            .copy_from_slice(other.shown.as_slice());
+    }
+
+    /// Which alerts are cleared.
+    pub fn cleared(&self) -> &[bool]
+        ensures { result.now ≡ self.now.cleared }
+    {
+        self.cleared.as_slice()
+    }
+
+    /// Which alerts are cancelled.
+    pub fn cancelled(&self) -> &[bool]
+        ensures { result.now ≡ self.now.cancelled }
+    {
+        self.cancelled.as_slice()
+    }
+
+    /// Which alerts are recalled.
+    pub fn recalled(&self) -> &[bool]
+        ensures { result.now ≡ self.now.recalled }
+    {
+        self.recalled.as_slice()
+    }
+
+    /// Which alerts are shown.
+    pub fn shown(&self) -> &[bool]
+        ensures { result.now ≡ self.now.shown }
+    {
+        self.shown.as_slice()
+    }
+}
+
+// As many flags, none of which is set.
+fn none(alloc: Global, alerts: usize) -> Result<BoxedSlice<bool>, AllocError>
+    ensures { IfOk result (λ flags. boxed_slice_items flags ≡ replicate alerts false) }
+{
+    let flags = vec![in alloc; false; alerts]?;
+    Ok(flags.into_boxed_slice())
+}

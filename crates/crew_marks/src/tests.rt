@@ -1,0 +1,367 @@
+// What the crew makes of the alerts of a small book, moment by moment. The expected values follow from the rules by hand.
+ghost use Rattle.std.specs.Prelude.{◌≡◌, ◌+◌, ◌≤◌, ℕ, true, List, [], ◌∷◌, length, map, codes, vec_len, IfOk, OnOk, None};
+ghost use Rattle.ecam_spec.specs.declared.kinds.Level as Levels;
+ghost use Rattle.ecam_spec.specs.declared.kinds.Sound as Sounds;
+ghost use Rattle.ecam_spec.specs.Book.{constant};
+ghost use Rattle.ecam_spec.specs.Draft.{DraftAlert};
+ghost use Rattle.ecam_spec.specs.KeepsLimits.{IsSound};
+ghost use Rattle.ecam_spec.specs.DraftFaults.{draft_fault};
+ghost use Rattle.book_model.specs.View.{draft_of, tree_in, alert_of};
+ghost use Rattle.book_model.specs.Sealed.{the_book};
+ghost use Rattle.crew_marks.specs.CrewMarks.{CanGoOn};
+ghost use Rattle.crew_marks.specs.MarksState.{MarksFit};
+
+use crate::Marks;
+use book_model::{Alert, Book, Draft, Name, PhaseTerms, Term, Text};
+use ecam_kinds::{Key, Keys, Level, PhaseSet, Sound};
+use std::alloc::{AllocError, Global};
+use std::process::Abort;
+use std::test::Fail;
+use term_tree::Cond;
+
+/// The alerts of the book by a letter each: two cautions and a warning, which is shown before them.
+const LETTERS: &[u8] = b"xyw";
+
+fn name(text: &str) -> Name
+    requires { length text.now ≤ 24 }
+    ensures { result.bytes ≡ text.now }
+{
+    let mut name = Name::new();
+    name.push_str(text);
+    name
+}
+
+fn text(text: &str) -> Text
+    requires { length text.now ≤ 36 }
+    ensures { result.bytes ≡ text.now }
+{
+    let mut result = Text::new();
+    result.push_str(text);
+    result
+}
+
+fn term(holds: bool) -> Term
+    ensures { tree_in result ≡ constant holds }
+{
+    Term {
+        cond: Cond::Const(holds),
+        at: 0,
+    }
+}
+
+fn alert(alloc: Global, own: &str, level: Level, sound: Sound) -> Alert
+    requires { length own.now ≤ 24 }
+    ensures { alert_of result ≡ record {
+      name = own.now;
+      title = codes "T";
+      system = 0;
+      level = level;
+      when = constant true;
+      page = None;
+      confirm = 0;
+      sound = sound;
+      inhibit = 256;
+      secondary = [];
+      lines = [];
+      status = [];
+    } }
+{
+    Alert {
+        name: name(own),
+        title: text("T"),
+        system: 0,
+        level,
+        when: term(true),
+        page: None,
+        confirm: 0,
+        sound,
+        inhibit: PhaseSet::NINE,
+        secondary: Vec::new(alloc),
+        lines: Vec::new(alloc),
+        status: Vec::new(alloc),
+    }
+}
+
+fn alerts(alloc: Global) -> Result<Vec<Alert>, AllocError>
+    ensures { IfOk result (λ v. map alert_of v.items ≡
+        (let plain : List ℕ → Levels.Level → Sounds.Sound → DraftAlert = λ name level sound. record {
+          name = name;
+          title = codes "T";
+          system = 0;
+          level = level;
+          when = constant true;
+          page = None;
+          confirm = 0;
+          sound = sound;
+          inhibit = 256;
+          secondary = [];
+          lines = [];
+          status = [];
+        } in
+        plain (codes "x") Level.One Sound.Quiet ∷ plain (codes "y") Level.Two Sound.Quiet
+        ∷ plain (codes "w") Level.Three Sound.Cricket ∷ [])) }
+{
+    let first = alert(alloc, "x", Level::One, Sound::Quiet);
+    let second = alert(alloc, "y", Level::Two, Sound::Quiet);
+    let warning = alert(alloc, "w", Level::Three, Sound::Cricket);
+    Ok(vec![in alloc; first, second, warning]?)
+}
+
+fn draft(alloc: Global) -> Result<Draft, AllocError>
+    ensures sound { IfOk result (λ d. IsSound (draft_of d)) }
+    ensures faultless { IfOk result (λ d. draft_fault (draft_of d) ≡ None) }
+{
+    Ok(Draft {
+        systems: vec![in alloc; text("S")]?,
+        pages: Vec::new(alloc),
+        params: Vec::new(alloc),
+        phase: PhaseTerms {
+            gnd: term(false),
+            run: term(false),
+            tp: term(false),
+            fast: term(false),
+            high: term(false),
+            low: term(false),
+        },
+        alerts: alerts(alloc)?,
+        memos: Vec::new(alloc),
+    })
+}
+
+// A flag for each of so many alerts: whether its letter is there.
+fn flags(alloc: Global, alerts: usize, letters: &[u8]) -> Result<Vec<bool>, AllocError>
+    ensures { IfOk result (λ v. vec_len v ≡ alerts) }
+{
+    let mut flags = Vec::new(alloc);
+    for alert in 0..alerts {
+        let letter = LETTERS.get(alert).copied().unwrap_or(b'-');
+        flags.push(letters.contains(&letter))?;
+    }
+    Ok(flags)
+}
+
+// The keys that go down (`C`lear, `R`ecall, `E`mergency cancel) and RCL that goes up (`r`).
+fn strike(keys: &mut Keys, letters: &[u8]) {
+    if letters.contains(&b'C') {
+        keys.press(Key::Clr);
+    }
+    if letters.contains(&b'R') {
+        keys.press(Key::Rcl);
+    }
+    if letters.contains(&b'r') {
+        keys.release(Key::Rcl);
+    }
+    if letters.contains(&b'E') {
+        keys.press(Key::Emer);
+    }
+}
+
+// One moment with these keys, in which phase 1 may start (`1`), and the alerts of a row are up and waiting.
+fn step(
+    alloc: Global,
+    marks: &mut Marks,
+    book: &Book,
+    keys: &Keys,
+    letters: &[u8],
+    row: &[u8],
+) -> Result<(), AllocError>
+    requires fits { MarksFit (the_book book.now) marks.old }
+    requires goes_on { CanGoOn marks.old }
+    ensures fits { OnOk result (MarksFit (the_book book.now) marks.new) }
+    ensures moments { OnOk result (marks.new.moments ≡ marks.old.moments + 1) }
+{
+    let alerts = marks.shown().len();
+    let up = flags(alloc, alerts, column(row, 0))?;
+    let waiting = flags(alloc, alerts, column(row, 1))?;
+    marks.step(
+        book,
+        up.as_slice(),
+        waiting.as_slice(),
+        keys,
+        letters.contains(&b'1'),
+    );
+    Ok(())
+}
+
+fn is(flags: &[bool], letters: &[u8]) -> bool {
+    flags
+        .iter()
+        .zip(LETTERS)
+        .all(|(flag, letter)| *flag == letters.contains(letter))
+}
+
+// The number of the first of these alerts.
+fn first(letters: &[u8]) -> Option<u32> {
+    match letters.first() {
+        Some(b'x') => Some(0),
+        Some(b'y') => Some(1),
+        Some(b'w') => Some(2),
+        _ => None,
+    }
+}
+
+// Which letters stand in a column of a row.
+fn column(row: &[u8], n: usize) -> &[u8] {
+    row.split(|byte| *byte == b' ').nth(n).unwrap_or(b"-")
+}
+
+// Whether the marks are those of a row.
+fn are(marks: &Marks, row: &[u8], normal: bool) -> bool {
+    is(marks.shown(), column(row, 3))
+        && is(marks.cleared(), column(row, 4))
+        && is(marks.cancelled(), column(row, 5))
+        && is(marks.recalled(), column(row, 6))
+        && marks.first() == first(column(row, 3))
+        && marks.target() == first(column(row, 7))
+        && marks.normal() == normal
+}
+
+// Whether two rows have the same sets.
+fn same_sets(row: &[u8], other: &[u8]) -> bool {
+    (3..7usize).all(|n| column(row, n) == column(other, n))
+}
+
+/// What comes in the first of some moments, how many moments these are (0: all moments are forgotten), and then the alerts
+/// that are up, and that wait; those that are shown, in order, cleared, cancelled, and recalled; the target. At the end
+/// stands NORMAL.
+type Row = (&'static [u8], u8, &'static [u8], bool);
+
+fn rows_hold(rt: &impl Abort, alloc: Global, book: &Book, rows: &[Row]) -> Result<(), Fail>
+    requires { length rows.now ≤ 64 }
+{
+    let mut marks = Marks::new(alloc, book)?;
+    let mut other = Marks::new(alloc, book)?;
+    let mut keys = Keys::new();
+    let mut before: &[u8] = b"";
+    for row in 0..rows.len() {
+        let (letters, times, expected, normal) = rows[row];
+        if times == 0 {
+            marks.clear();
+            keys = Keys::new();
+        }
+        strike(&mut keys, letters);
+        for _time in 0..times {
+            // another computer takes the moment, and lends its marks back
+            other.copy_from(&marks);
+            step(alloc, &mut other, book, &keys, letters, expected)?;
+            marks.copy_from(&other);
+            keys.tick();
+        }
+        assert_eq!(rt; marks.shown().len(), 3);
+        assert!(rt; are(&marks, expected, normal), "row {row}");
+        let changed = times == 1 && !same_sets(expected, before);
+        assert_eq!(rt; marks.changed(), changed, "row {row}");
+        before = expected;
+    }
+    Ok(())
+}
+
+#[test]
+fn cleared_alerts_come_back_by_a_press_of_rcl(rt: HostRuntime) -> Result<(), Fail> {
+    let rows: [Row; 10] = [
+        // CLR acts on what the moment before showed
+        (b"", 1, b"x - | x - - - -", false),
+        (b"C", 1, b"y - | y - - - x", false),
+        // RCL brings back what was cleared before, and not what CLR strikes in that moment
+        (b"", 0, b"", false),
+        (b"", 1, b"yx - | yx - - - -", false),
+        (b"C", 1, b"yx - | x y - - y", false),
+        (b"CR", 1, b"yx - | y x - - x", false),
+        (b"R", 1, b"yx - | yx - - - y", false),
+        // what was cleared and ended comes back shown
+        (b"C", 1, b"yx - | x y - - y", false),
+        (b"", 1, b"x - | x - - - x", false),
+        (b"", 1, b"yx - | yx - - - x", false),
+    ];
+    let alloc = rt.alloc();
+    let book = Book::build(alloc, draft(alloc)?)?;
+    rows_hold(&rt, alloc, &book, &rows)
+}
+
+#[test]
+fn cancelled_cautions_come_back_by_a_long_recall(rt: HostRuntime) -> Result<(), Fail> {
+    let rows: [Row; 20] = [
+        // a cancelled caution stays so while it comes and goes, until a long recall
+        (b"", 1, b"x - | x - - - -", false),
+        (b"E", 1, b"x - | - - x - x", false),
+        (b"", 1, b"- - | - - x - -", false),
+        (b"", 1, b"x - | - - x - -", false),
+        (b"R", 29, b"x - | - - x - -", true),
+        (b"", 1, b"x - | x - - - -", false),
+        // held for 29 moments it is no long recall; NORMAL stands for thirty moments
+        (b"", 0, b"", false),
+        (b"", 1, b"x - | x - - - -", false),
+        (b"E", 1, b"x - | - - x - x", false),
+        (b"R", 29, b"x - | - - x - -", true),
+        (b"r", 1, b"x - | - - x - -", true),
+        (b"", 1, b"x - | - - x - -", false),
+        // NORMAL ends with what is shown, and a press before that doesn't count
+        (b"", 0, b"", false),
+        (b"Rr", 2, b"- - | - - - - -", true),
+        (b"", 1, b"x - | x - - - -", false),
+        (b"", 1, b"- - | - - - - x", false),
+        // one that is cancelled in the moment in which it ends
+        (b"", 0, b"", false),
+        (b"", 1, b"x - | x - - - -", false),
+        (b"E", 1, b"- - | - - x - x", false),
+        (b"", 1, b"x - | - - x - -", false),
+    ];
+    let alloc = rt.alloc();
+    let book = Book::build(alloc, draft(alloc)?)?;
+    rows_hold(&rt, alloc, &book, &rows)
+}
+
+#[test]
+fn cancellations_end_but_for_those_of_the_moment(rt: HostRuntime) -> Result<(), Fail> {
+    let rows: [Row; 15] = [
+        // a warning isn't cancelled
+        (b"", 1, b"wx - | wx - - - -", false),
+        (b"E", 1, b"wx - | wx - - - w", false),
+        (b"C", 1, b"wx - | x w - - w", false),
+        (b"E", 1, b"wx - | - w x - x", false),
+        // the start of phase 1 ends a cancellation, but for one of its own moment
+        (b"", 0, b"", false),
+        (b"", 1, b"yx - | yx - - - -", false),
+        (b"E", 1, b"yx - | x - y - y", false),
+        (b"E1", 1, b"yx - | y - x - x", false),
+        (b"1", 1, b"yx - | yx - - - y", false),
+        // and so does a long recall, in each of its moments
+        (b"", 0, b"", false),
+        (b"R", 1, b"yx - | yx - - - -", false),
+        (b"E", 1, b"yx - | x - y - y", false),
+        (b"", 27, b"yx - | x - y - x", false),
+        (b"E", 1, b"yx - | y - x - x", false),
+        (b"", 1, b"yx - | yx - - - y", false),
+    ];
+    let alloc = rt.alloc();
+    let book = Book::build(alloc, draft(alloc)?)?;
+    rows_hold(&rt, alloc, &book, &rows)
+}
+
+#[test]
+fn waiting_alerts_are_shown_by_a_press_of_rcl(rt: HostRuntime) -> Result<(), Fail> {
+    let rows: [Row; 15] = [
+        // RCL shows what waits, and it stays shown when it becomes active
+        (b"", 1, b"- y | - - - - -", false),
+        (b"R", 1, b"- y | y - - y -", false),
+        (b"", 1, b"y - | y - - - y", false),
+        // until it is struck, in the moment of a new press too
+        (b"", 0, b"", false),
+        (b"R", 1, b"- y | y - - y -", false),
+        (b"C", 1, b"- y | - - - - y", false),
+        (b"R", 1, b"- y | y - - y -", false),
+        (b"CR", 1, b"- y | - - - - y", true),
+        // until it ends, so that it isn't shown when it comes back
+        (b"", 0, b"", false),
+        (b"R", 2, b"- y | y - - y y", false),
+        (b"", 1, b"- - | - - - - y", false),
+        (b"", 1, b"- y | - - - - -", false),
+        // and EMER CANC hides it, though it stays recalled
+        (b"R", 1, b"- y | y - - y -", false),
+        (b"E", 1, b"- y | - - y y y", false),
+        (b"1", 1, b"- y | y - - y -", false),
+    ];
+    let alloc = rt.alloc();
+    let book = Book::build(alloc, draft(alloc)?)?;
+    rows_hold(&rt, alloc, &book, &rows)
+}

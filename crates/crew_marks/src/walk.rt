@@ -1,0 +1,79 @@
+// A walk over the alerts in their order.
+ghost use Rattle.std.specs.Prelude.{◌≡◌, ◌↔◌, ℕ, ◌<◌, false, length, find, slice_index_or};
+ghost use Rattle.ecam_spec.specs.Levels.{is_caution_level};
+ghost use Rattle.ecam_spec.specs.Screen.{order};
+ghost use Rattle.book_model.specs.Sealed.{the_book};
+ghost use Rattle.crew_marks.specs.MarkSets.{mark_at, AreMany};
+ghost use Rattle.crew_marks.specs.MarkStep.{mark_after, sight_of};
+
+use crate::mark::{Actions, Sight};
+use crate::sets::Sets;
+use book_model::Book;
+use ecam_kinds::Level;
+
+/// What a walk over the alerts found.
+#[derive(Clone, Copy, Debug)]
+pub struct Walked {
+    /// The first alert, in order, that is shown.
+    pub first: Option<u32>,
+    /// A mark changed.
+    pub changed: bool,
+}
+
+/// Steps the mark of each alert by one moment. Its cost is one look at each alert, and a write for each mark that
+/// changes.
+pub fn walk(
+    sets: &mut Sets,
+    book: &Book,
+    up: &[bool],
+    waiting: &[bool],
+    target: Option<u32>,
+    actions: &Actions,
+) -> Walked
+    requires many { AreMany sets.old (length (the_book book.now).alerts) }
+    requires up { length up.now ≡ length (the_book book.now).alerts }
+    requires waiting { length waiting.now ≡ length (the_book book.now).alerts }
+    ensures many { AreMany sets.new (length (the_book book.now).alerts) }
+    ensures marks { (a : ℕ) → a < length (the_book book.now).alerts → mark_at sets.new a
+        ≡ mark_after (mark_at sets.old a) (sight_of (the_book book.now) up.now waiting.now target a) actions.now }
+    ensures first { result.first
+        ≡ find (λ a. slice_index_or sets.new.shown a false) (order (the_book book.now)) }
+    ensures changed { (result.changed ≡ false) ↔ (sets.new ≡ sets.old) }
+{
+    let order = book.order();
+    let mut first = None;
+    let mut changed = false;
+    for place in order {
+        let sight = look(book, up, waiting, target, *place);
+        let turned = sets.step(*place as usize, &sight, actions);
+        changed |= turned;
+        first = first.or(sets.is_shown(*place as usize).then_some(*place));
+    }
+    Walked { first, changed }
+}
+
+// How an alert stands in the moment.
+fn look(book: &Book, up: &[bool], waiting: &[bool], target: Option<u32>, place: u32) -> Sight
+    requires place { place < length (the_book book.now).alerts }
+    requires up { length up.now ≡ length (the_book book.now).alerts }
+    requires waiting { length waiting.now ≡ length (the_book book.now).alerts }
+    ensures { result ≡ sight_of (the_book book.now) up.now waiting.now target place }
+{
+    let alert = place as usize;
+    let level = book.alerts()[alert].level;
+    Sight {
+        up: up[alert],
+        waiting: waiting[alert],
+        is_caution: is_caution(level),
+        is_target: Some(place) == target,
+    }
+}
+
+fn is_caution(level: Level) -> bool
+    ensures { result ≡ is_caution_level level }
+{
+    match level {
+        Level::One | Level::Two => true,
+        Level::Three => false,
+    }
+}

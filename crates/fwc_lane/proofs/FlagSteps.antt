@@ -1,0 +1,21 @@
+-- One flag of a list is set.
+use Rattle.std.proofs.Common.{◌≡◌, ◌≢◌, ℕ, ◌<◌, Bool, true, false, ◌||◌, List, length, get_or, set, refl, ap, ◌∙◌, arith}
+use Rattle.std.proofs.lemmas.List.{get_or-set_same, get_or-set_other, length-set}
+
+module _ {X : Type 0} (old new : List X) (i : ℕ) (x d : X) (is : new ≡ set old i x) where
+  pub set-own : i < length old → get_or new i d ≡ x
+  set-own within = ap (λ ys. get_or ys i d) is ∙ get_or-set_same old i x d within
+
+  pub set-other : (j : ℕ) → j < i → get_or new j d ≡ get_or old j d
+  set-other j lt = let ne : j ≢ i = omega arith in ap (λ ys. get_or ys j d) is ∙ get_or-set_other old i j x d ne
+
+  pub set-length : length new ≡ length old
+  set-length = ap length is ∙ length-set old i x
+
+pub left-false : (a b : Bool) → (a || b) ≡ false → a ≡ false
+left-false true b e = absurd (let w : ⊥ = cc in w)
+left-false false b e = refl
+
+pub right-false : (a b : Bool) → (a || b) ≡ false → b ≡ false
+right-false true b e = absurd (let w : ⊥ = cc in w)
+right-false false b e = e

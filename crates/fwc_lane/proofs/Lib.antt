@@ -1,0 +1,16 @@
+pub mod Stepping
+pub mod Showing
+pub mod FlightSteps
+pub mod AlertSteps
+pub mod FlagSteps
+pub mod ProcedureSteps
+pub mod MemoSteps
+pub mod CrewMoments
+pub mod ZoneRest
+pub mod PageChoice
+pub mod ZonePictures
+pub mod Lanes
+pub mod FreshLanes
+pub mod ValueSteps
+pub mod ZoneSteps
+pub mod Ticks

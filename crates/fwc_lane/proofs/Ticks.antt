@@ -1,0 +1,87 @@
+-- The end of a moment: what turned in it, and what a lane is then.
+use Rattle.std.proofs.Common.{Bor, ◌≡◌, ℕ, zero, suc, ◌<◌, Bool, false, not, List, length, get_or, Option, None, sym, ap, subst, ◌∙◌, arith, ltb, eqb}
+use Rattle.std.specs.Prelude.{ℤ}
+use Rattle.std.proofs.lemmas.Bool.{lt-ltb, ne_eqb}
+use Rattle.ecam_spec.specs.Book.{Book}
+use Rattle.ecam_spec.specs.BookTerms.{lines_of}
+use Rattle.ecam_spec.specs.Past.{previous}
+use Rattle.ecam_spec.specs.Term.{holds}
+use Rattle.ecam_spec.specs.Crew.{normal}
+use Rattle.ecam_spec.specs.History.{Moment}
+use Rattle.ecam_spec.specs.Value.{value}
+use Rattle.ecam_spec.specs.Situation.{words_in, parameter_at, phase_in, value_in, world}
+use Rattle.ecam_kinds.specs.declared.keys.Keys.{Keys}
+use Rattle.ecam_kinds.specs.KeyState.{is_pressed}
+use Rattle.param_table.specs.declared.table.Params.{Params}
+use Rattle.ecam_spec.specs.Screen.{cockpit, line_stands}
+use Rattle.ecam_kinds.specs.declared.phase.Phase.{Phase}
+use Rattle.book_model.specs.Told.{TellsOf}
+use Rattle.crew_marks.specs.CrewMarks.{CrewMarks}
+use Rattle.crew_marks.specs.MarkSets.{MarkSets}
+use Rattle.crew_marks.specs.MarksState.{MarksStand}
+use Rattle.fwc_lane.specs.declared.lane.Lane.{Lane}
+use Rattle.fwc_lane.specs.declared.scene.Turned.{Turned}
+use Rattle.fwc_lane.specs.Scenes.{AreTurned}
+use Rattle.fwc_lane.specs.LaneStands.{WholeStands}
+use Rattle.fwc_lane.specs.Given.{Lends, Came}
+use Rattle.fwc_lane.proofs.CrewMoments.{shown-told, cancelled-told}
+
+-- what is so of moment k is so of the one before moment k + 1
+pub of-last : (P : ℕ → Type 0) (k : ℕ) → P k → (j : ℕ) → suc k ≡ suc j → P j
+of-last P k p j e = subst P (let same : k ≡ j = omega arith in same) p
+
+-- there was no moment, or some
+pub first-is : (k : ℕ) (ticked first : Bool) → ticked ≡ ltb 0 k → first ≡ not ticked → first ≡ eqb k 0
+first-is zero ticked first was is = is ∙ ap not was
+first-is (suc k) ticked first was is = is ∙ ap not (was ∙ lt-ltb 0 (suc k) (omega arith)) ∙ sym (ne_eqb (suc k) 0 (λ e. absurd (omega arith)))
+
+-- what turned, by what the lane held before and what the moment made of it
+pub record TurnedFrom (b : Book) (m : ℕ → Moment) (k : ℕ) (old : Lane) (t : Turned) (phase : Phase) (values : List (Option ℤ)) (lines memos : List Bool) (marks : CrewMarks) (was calm : Bool) : Type 0 where
+  pub first : t.first ≡ not old.ticked
+  pub phase_kept : t.phase ≡ false → phase ≡ old.phase
+  pub values_kept : t.values ≡ false → values ≡ old.values.items
+  pub lines_kept : t.lines ≡ false → lines ≡ old.lines.items
+  pub memos_kept : t.memos ≡ false → memos ≡ old.memos.items
+  pub marks_kept : t.marks ≡ false → marks.sets ≡ old.marks.sets
+  pub normal_kept : t.normal ≡ false → calm ≡ was
+  pub phase_is : phase.number ≡ phase_in b m k
+  pub values_are : (p : ℕ) → p < length b.parameters → get_or values p None ≡ value_in b m p k
+  pub lines_are : TellsOf lines (lines_of b.alerts) (line_stands b m k)
+  pub memos_are : TellsOf memos b.memos (λ x. holds (world b m) x.when k)
+  pub marks_are : MarksStand b (cockpit b m) (suc k) marks
+  pub was_is : was ≡ previous (normal (cockpit b m)) k
+  pub calm_is : calm ≡ previous (normal (cockpit b m)) (suc k)
+
+pub are-turned : (b : Book) (m : ℕ → Moment) (k : ℕ) (old : Lane) (t : Turned) (phase : Phase) (values : List (Option ℤ)) (lines memos : List Bool) (marks : CrewMarks) (was calm : Bool)
+    → WholeStands b m k old → TurnedFrom b m k old t phase values lines memos marks was calm → AreTurned b m k t
+unfolding previous
+are-turned b m k old t phase values lines memos marks was calm stands from = record {
+  first = first-is k old.ticked t.first stands.ticked from.first;
+  phase = λ j e off. sym from.phase_is ∙ ap (λ (p : Phase). p.number) (from.phase_kept off) ∙ stands.phase j e;
+  values = λ j e off p lt. sym (from.values_are p lt) ∙ ap (λ vs. get_or vs p None) (from.values_kept off) ∙ stands.values j e p lt;
+  lines = λ j e off i l is. sym (from.lines_are i l is) ∙ ap (λ fs. get_or fs i false) (from.lines_kept off) ∙ stands.lines j e i l is;
+  memos = λ j e off i x is. sym (from.memos_are i x is) ∙ ap (λ fs. get_or fs i false) (from.memos_kept off) ∙ stands.memos j e i x is;
+  shown = λ j e off a lt.
+      sym (shown-told b m k marks from.marks_are a lt) ∙ ap (λ (s : MarkSets). get_or s.shown a false) (from.marks_kept off)
+      ∙ shown-told b m j old.marks (subst (λ n. MarksStand b (cockpit b m) n old.marks) e stands.marks) a lt;
+  cancelled = λ j e off a lt.
+      sym (cancelled-told b m k marks from.marks_are a lt) ∙ ap (λ (s : MarkSets). get_or s.cancelled a false) (from.marks_kept off)
+      ∙ cancelled-told b m j old.marks (subst (λ n. MarksStand b (cockpit b m) n old.marks) e stands.marks) a lt;
+  normal = λ j e off. sym from.calm_is ∙ from.normal_kept off ∙ from.was_is ∙ ap (previous (normal (cockpit b m))) e;
+}
+
+-- the environment of the moment, by what came in it
+pub lends-from : (b : Book) (m : ℕ → Moment) (k : ℕ) (v : Bor (List (Option ℤ))) (p : Phase) (a : Bor (List Bool)) (q : Bor Keys) (o t : Bool) (params : Params) (keys : Keys) → q.now ≡ keys
+    → Came b m k params keys o t → ((i : ℕ) → i < length v.now → get_or v.now i None ≡ value_in b m i k) → Lends b m k (record { values = v; phase = p; active = a; keys = q; one_up = o; two_up = t })
+lends-from b m k v p a q o t params keys same came values = record {
+  values = values;
+  pressed = λ key is. ap (λ (ks : Keys). is_pressed ks key) same ∙ came.strokes.pressed key is;
+  one_up = came.one_up;
+  two_up = came.two_up;
+}
+
+-- the values of a moment, by the words so far
+pub values-told : (b : Book) (m : ℕ → Moment) (k : ℕ) (values : List (Option ℤ)) → ((p : ℕ) → p < length b.parameters → get_or values p None ≡ value (parameter_at b p) (words_in b m) k)
+    → (p : ℕ) → p < length b.parameters → get_or values p None ≡ value_in b m p k
+unfolding value_in
+values-told b m k values told = told

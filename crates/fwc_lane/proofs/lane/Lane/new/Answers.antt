@@ -1,0 +1,40 @@
+use Rattle.std.proofs.Common.{false, length, refl, ap, ◌∙◌, arith}
+use Rattle.std.specs.Prelude.{replicate}
+use Rattle.book_model.specs.Sealed.{the_book}
+use Rattle.book_model.proofs.BookLists.{many-parameters, many-memos}
+use Rattle.fwc_lane.proofs.FreshLanes.{none-set, fresh-lane}
+use Rattle.fwc_lane.proofs.lane.Lane.new.Goals as goal
+
+pub returns-clause-fits : goal.returns-clause-fits
+returns-clause-fits c = record {
+  params = c.in_ok-params.ensures.fits;
+  truths = c.in_ok-truths.ensures.fits;
+  marks = c.in_ok-marks.ensures.fits;
+  attention = c.in_ok-attention.ensures.fits;
+  selector = c.new-7.ensures.fits (the_book c.args.book.now);
+  values = omega (arith, c.in_ok-values.ensures.len, c.in_ok-values.values.ok.0, ap length c.params.ensures.value, many-parameters c.args.book.now);
+  cells = c.in_ok-cells.ensures.len ∙ c.slots.ensures.value;
+  lines = omega (arith, c.in_ok-lines.ensures.len, c.in_ok-lines.lines.ok.0, c.line_count.ensures.value);
+  memos = omega (arith, c.in_ok-memos.ensures.len, c.in_ok-memos.memos.ok.0, ap length c.memos.ensures.value, many-memos c.args.book.now);
+  truths_moments = c.in_ok-truths.ensures.moments;
+  marks_moments = c.in_ok-marks.ensures.moments;
+  attention_moments = c.in_ok-attention.ensures.moments;
+  selector_moments = c.new-7.ensures.moments;
+}
+
+pub returns-clause-stands : goal.returns-clause-stands
+returns-clause-stands c = λ f.
+    fresh-lane (the_book c.args.book.now) f _ (returns-clause-fits c) record {
+      moments = refl;
+      ticked = refl;
+      params = c.in_ok-params.ensures.stands;
+      keys = c.new-8.ensures.stands;
+      cells = c.in_ok-cells.ensures.stands;
+      phases = c.new-6.ensures;
+      truths = c.in_ok-truths.ensures.stands;
+      marks = c.in_ok-marks.ensures.stands;
+      attention = c.in_ok-attention.ensures.stands;
+      selector = c.new-7.ensures.stands;
+      picture = c.blank.ensures;
+      changed = λ i lt. none-set (replicate 36 false) refl i;
+    }

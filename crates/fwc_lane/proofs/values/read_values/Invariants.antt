@@ -1,0 +1,16 @@
+use Rattle.std.proofs.Common.{◌≡◌, ℕ, ◌<◌, false, List, length, get_or, None, IfSome}
+use Rattle.ecam_spec.specs.Value.{BusWord, value}
+use Rattle.ecam_spec.specs.Situation.{parameter_at}
+use Rattle.book_model.specs.Sealed.{the_book}
+use Rattle.param_table.specs.TableState.{ParamsStand}
+use Rattle.system_display.specs.Pages.{IsShort}
+use Rattle.fwc_lane.proofs.values.read_values.Given as goal
+
+abbrev pub invariant-loop-i : goal.invariant-loop-i
+invariant-loop-i l = record {
+  many : length l.values.items ≡ length l.fn.values.items;
+  read : (words : ℕ → List BusWord) (k : ℕ) → ParamsStand (the_book l.book) words k l.params
+      → (p : ℕ) → p < l.i → get_or l.values.items p None ≡ value (parameter_at (the_book l.book) p) words k;
+  short : (p : ℕ) → p < l.i → IfSome (get_or l.values.items p None) IsShort;
+  kept : l.turned ≡ false → l.values.items ≡ l.fn.values.items;
+}

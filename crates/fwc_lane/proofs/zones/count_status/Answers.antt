@@ -1,0 +1,32 @@
+use Rattle.std.proofs.Common.{suc, false, length, get_or, sym, ap, ◌∙◌, arith}
+use Rattle.ecam_spec.specs.Past.{previous}
+use Rattle.ecam_spec.specs.Situation.{condition_in, phase_in, active_in}
+use Rattle.ecam_spec.specs.Screen.{cancelled_in}
+use Rattle.book_model.specs.Sealed.{the_book}
+use Rattle.book_model.proofs.BookLists.{many-alerts}
+use Rattle.fwc_lane.proofs.Showing.{active-is}
+use Rattle.fwc_lane.proofs.CrewMoments.{cancelled-told}
+use Rattle.fwc_lane.proofs.ZoneSteps.{status-stays, status-drawn}
+use Rattle.fwc_lane.proofs.zones.count_status.Goals as goal
+
+pub returns-then-not-status_turned : goal.returns-then-not-status_turned
+returns-then-not-status_turned c = λ m k scene turned was.
+    let b = the_book c.args.book.now in
+    status-stays b m k c.args.turned c.changed.result turned (c.changed.ensures.tells b (condition_in b m) (phase_in b m) k scene.truths)
+    (sym c.status_turned.ensures ∙ c.if-not-status_turned.true) c.args.was was
+
+pub status_rows-requires-clause-active : goal.status_rows-requires-clause-active
+status_rows-requires-clause-active c = ap length c.active.ensures.value ∙ c.requires.truths.active ∙ many-alerts c.args.book.now
+
+pub status_rows-requires-clause-cancelled : goal.status_rows-requires-clause-cancelled
+status_rows-requires-clause-cancelled c = ap length c.cancelled.ensures ∙ c.requires.marks.many.cancelled ∙ many-alerts c.args.book.now
+
+pub returns : goal.returns
+unfolding previous
+returns c = λ m k scene turned was.
+    let d = c.args.book.now in
+    let b = the_book d in
+    c.status_rows.ensures.rows (λ a. active_in b m a k) (λ a. cancelled_in b m a k)
+    (λ a lt. c.active.ensures.tells b (condition_in b m) (phase_in b m) (suc k) scene.truths a (omega (arith, many-alerts d)) ∙ active-is b m a k)
+    (λ a lt. ap (λ xs. get_or xs a false) c.cancelled.ensures ∙ cancelled-told b m k _ scene.marks a (omega (arith, many-alerts d)))
+    ∙ ap length (status-drawn b m k)

@@ -1,0 +1,7 @@
+use Rattle.fwc_lane.proofs.ZoneSteps.{flags-stay}
+use Rattle.fwc_lane.proofs.zones.draw_flags.Goals as goal
+
+pub returns-then-is_kept-clause-rows : goal.returns-then-is_kept-clause-rows
+returns-then-is_kept-clause-rows c = λ b m k first now was.
+    let kept = c.is_kept.ensures c.if-is_kept.true in
+    flags-stay b m k c.args.first c.args.was c.args.counts first now kept.0 kept.1 _ was

@@ -1,0 +1,28 @@
+-- What a moment brings to a computer.
+use Rattle.std.specs.Prelude.{◌≡◌, ℕ, ◌<◌, Bool, length}
+use Rattle.ecam_spec.specs.declared.kinds.Key.{Key}
+use Rattle.ecam_spec.specs.Keys.{IsKey, pressed}
+use Rattle.ecam_spec.specs.Book.{Book}
+use Rattle.ecam_spec.specs.History.{Moment}
+use Rattle.ecam_spec.specs.Situation.{words_in, strokes_in, value_in, computer_up}
+use Rattle.ecam_kinds.specs.KeyState.{is_pressed, KeysStand}
+use Rattle.ecam_kinds.specs.declared.keys.Keys.{Keys}
+use Rattle.param_table.specs.TableState.{ParamsStand}
+use Rattle.param_table.specs.declared.table.Params.{Params}
+use Rattle.term_eval.specs.declared.env.Env.{Env}
+use Rattle.term_eval.specs.Shown.{value_of}
+
+-- the environment lends what came in moment k: the values, the keys, and which computers are up. Of the phase and of the
+-- alerts nothing is said
+pub record Lends (b : Book) (m : ℕ → Moment) (k : ℕ) (env : Env) : Type 0 where
+  pub values : (p : ℕ) → p < length env.values.now → value_of env p ≡ value_in b m p k
+  pub pressed : (key : Key) → IsKey key → is_pressed env.keys.now key ≡ pressed (strokes_in b m) key k
+  pub one_up : env.one_up ≡ computer_up b m 1 k
+  pub two_up : env.two_up ≡ computer_up b m 2 k
+
+-- this came in moment k: the words and the strokes so far, and which computers are up at its end
+pub record Came (b : Book) (m : ℕ → Moment) (k : ℕ) (params : Params) (keys : Keys) (one two : Bool) : Type 0 where
+  pub words : ParamsStand b (words_in b m) k params
+  pub strokes : KeysStand (strokes_in b m) k keys
+  pub one_up : one ≡ computer_up b m 1 k
+  pub two_up : two ≡ computer_up b m 2 k

@@ -1,0 +1,76 @@
+// What the crew makes of a moment: the marks, the lights and the sound, and the selection.
+ghost use Rattle.std.specs.Prelude.{◌≡◌, ◌+◌, ◌==◌, ◌&&◌, ℕ, suc, false, not, nat_lt};
+ghost use Rattle.ecam_spec.specs.Book as plain;
+ghost use Rattle.ecam_spec.specs.History.{Moment};
+ghost use Rattle.ecam_spec.specs.Situation.{strokes_in, phase_in, condition_in};
+ghost use Rattle.ecam_spec.specs.Screen as screen;
+ghost use Rattle.ecam_kinds.specs.KeyState.{KeysStand};
+ghost use Rattle.book_model.specs.Sealed.{the_book};
+ghost use Rattle.alert_truth.specs.TruthsState.{TruthsFit, TruthsStand};
+ghost use Rattle.crew_marks.specs.MarksState.{MarksFit};
+ghost use Rattle.crew_marks.specs.CrewMarks as marking;
+ghost use Rattle.attention.specs.State.{AttentionFits};
+ghost use Rattle.attention.specs.State as lighting;
+ghost use Rattle.system_display.specs.Selecting.{SelectorFits};
+ghost use Rattle.system_display.specs.Selecting as selecting;
+ghost use Rattle.fwc_lane.specs.CrewStands.{CrewStands};
+
+use alert_truth::Truths;
+use attention::Attention;
+use book_model::Book;
+use crew_marks::Marks;
+use ecam_kinds::{Keys, Phase};
+use system_display::Selector;
+
+/// Whether phase 1 starts with a moment that isn't the first.
+pub fn enters_one(ticked: bool, was: Phase, phase: Phase) -> bool
+    ensures { (b : plain.Book) (m : ℕ → Moment) (k : ℕ) → ticked ≡ nat_lt 0 k → phase.number ≡ phase_in b m k
+        → ((j : ℕ) → k ≡ suc j → was.number ≡ phase_in b m j) → result ≡ screen.enters_one b m k }
+{
+    enters(ticked, was.number, phase.number)
+}
+
+fn enters(ticked: bool, was: u8, phase: u8) -> bool
+    ensures { result ≡ (phase == 1 && (ticked && not (was == 1))) }
+{
+    phase == 1 && ticked && was != 1
+}
+
+/// Steps the crew's marks, the lights and the sound, and the selection by one moment. CLR and EMER CANC aim at the first
+/// alert that the moment before showed. Its cost is two looks at each alert, and one at the key of each page.
+pub fn step_crew(
+    marks: &mut Marks,
+    attention: &mut Attention,
+    selector: &mut Selector,
+    truths: &Truths,
+    book: &Book,
+    keys: &Keys,
+    enters_one: bool,
+)
+    requires truths { TruthsFit (the_book book.now) truths.now }
+    requires marks { MarksFit (the_book book.now) marks.old }
+    requires attention { AttentionFits (the_book book.now) attention.old }
+    requires selector { SelectorFits (the_book book.now) selector.old }
+    requires marks_go_on { marking.CanGoOn marks.old }
+    requires attention_goes_on { lighting.CanGoOn attention.old }
+    requires selector_goes_on { selecting.CanGoOn selector.old }
+    ensures marks { MarksFit (the_book book.now) marks.new }
+    ensures attention { AttentionFits (the_book book.now) attention.new }
+    ensures selector { SelectorFits (the_book book.now) selector.new }
+    ensures marks_moments { marks.new.moments ≡ marks.old.moments + 1 }
+    ensures attention_moments { attention.new.moments ≡ attention.old.moments + 1 }
+    ensures selector_moments { selector.new.moments ≡ selector.old.moments + 1 }
+    ensures stands { (m : ℕ → Moment) (k : ℕ)
+        → TruthsStand (the_book book.now) (condition_in (the_book book.now) m) (phase_in (the_book book.now) m) (suc k) truths.now
+        → KeysStand (strokes_in (the_book book.now) m) k keys.now
+        → enters_one ≡ screen.enters_one (the_book book.now) m k
+        → CrewStands (the_book book.now) m k marks.old attention.old selector.old
+        → CrewStands (the_book book.now) m (suc k) marks.new attention.new selector.new }
+    ensures kept { marks.new.changed ≡ false → marks.new.sets ≡ marks.old.sets }
+{
+    book.sealed();
+    marks.step(book, truths.up(), truths.waiting(), keys, enters_one);
+    attention.step(book, truths.up(), marks.shown(), keys);
+    let target = marks.target();
+    selector.step(book, keys, target);
+}

@@ -1,0 +1,261 @@
+// The running state of one flight warning computer.
+ghost use Rattle.std.specs.Prelude.{◌≡◌, ◌+◌, ℕ, suc, true, List, [], IfOk, if◌then◌else◌};
+ghost use Rattle.ecam_spec.specs.Book as plain;
+ghost use Rattle.ecam_spec.specs.Value.{BusWord};
+ghost use Rattle.ecam_spec.specs.History.{Flags, Moment, Stroke, Era, empty_era, era_with};
+ghost use Rattle.ecam_spec.specs.Replay.{is_tick};
+ghost use Rattle.ecam_spec.specs.Keys.{IsEvent};
+ghost use Rattle.book_model.specs.Sealed.{the_book};
+ghost use Rattle.fwc_lane.specs.LaneFits.{LaneFits, CanGoOn};
+ghost use Rattle.fwc_lane.specs.LaneStands.{LaneStands, WholeStands, AreUp};
+ghost use Rattle.fwc_lane.specs.Given.{Came};
+ghost use Rattle.ecam_kinds.specs.KeyState.{KeysStand};
+ghost use Rattle.param_table.specs.TableState.{ParamsStand};
+
+use crate::counts::FlagCounts;
+use crate::crew::{enters_one, step_crew};
+use crate::drawing::draw;
+use crate::scene::{Scene, Turned};
+use crate::step::step_conditions;
+use crate::values::read_values;
+use alert_truth::Truths;
+use attention::Attention;
+use book_model::Book;
+use crew_marks::Marks;
+use ecam_kinds::{Event, Keys, Phase, Picture, ROWS};
+use flight_phases::PhaseState;
+use param_table::Params;
+use std::alloc::{AllocError, Global};
+use system_display::Selector;
+use term_eval::{Cells, Env};
+
+/// What a computer holds of its era: the words and the keys so far, and of the last whole moment all that the next one
+/// goes by, with its picture. Memory is taken in `new` alone, and nothing grows with the history.
+#[derive(Drop)]
+pub struct Lane {
+    /// The words that the sources took last.
+    pub params: Params,
+    /// Per parameter its value in the last moment.
+    pub values: Vec<Option<i64>>,
+    /// What the conditions remember.
+    pub cells: Cells,
+    /// What the phases so far leave for the next.
+    pub phase_state: PhaseState,
+    /// The flight phase of the last moment.
+    pub phase: Phase,
+    /// Which alerts are present, active, waiting, starred and up.
+    pub truths: Truths,
+    /// Which alerts are cleared, cancelled, recalled and shown.
+    pub marks: Marks,
+    /// The lights and the sound.
+    pub attention: Attention,
+    /// What the system display is asked to show.
+    pub selector: Selector,
+    /// The keys that were pressed in the moment that hasn't ended, and those that are held.
+    pub keys: Keys,
+    /// Per procedure line whether it stands in the last moment.
+    pub lines: Vec<bool>,
+    /// Per memo whether it holds in the last moment.
+    pub memos: Vec<bool>,
+    /// There was a moment.
+    pub ticked: bool,
+    /// How many moments there were: the number of the one that hasn't ended.
+    pub moments: u64,
+    /// The picture of the last moment, blank before the first.
+    pub picture: Picture,
+    /// Which rows of the picture differ from those of the moment before; before the first moment none.
+    pub changed: [bool; ROWS],
+    // The numbers of which FL tells in the picture.
+    counts: FlagCounts,
+}
+
+impl Lane {
+    /// A lane before anything happened. An error is want of memory.
+    pub fn new(alloc: Global, book: &Book) -> Result<Lane, AllocError>
+        ensures fits { IfOk result (LaneFits (the_book book.now)) }
+        ensures stands { IfOk result (λ l. (f : Flags) → LaneStands (the_book book.now) (empty_era f) l) }
+        ensures moments { IfOk result (λ l. l.moments ≡ 0) }
+    {
+        let params = Params::new(alloc, book)?;
+        let values = vec![in alloc; None; book.params().len()]?;
+        let cells = Cells::new(alloc, book.slots())?;
+        let truths = Truths::new(alloc, book)?;
+        let marks = Marks::new(alloc, book)?;
+        let attention = Attention::new(alloc, book)?;
+        let lines = vec![in alloc; false; book.line_count()]?;
+        let memos = vec![in alloc; false; book.memos().len()]?;
+        Ok(Lane {
+            params,
+            values,
+            cells,
+            phase_state: PhaseState::new(),
+            phase: Phase { number: 1 },
+            truths,
+            marks,
+            attention,
+            selector: Selector::new(),
+            keys: Keys::new(),
+            lines,
+            memos,
+            ticked: false,
+            moments: 0,
+            picture: Picture::blank(),
+            changed: [false; ROWS],
+            counts: FlagCounts::none(),
+        })
+    }
+
+    /// Forgets all that happened. Its cost is a few writes for each source, slot and alert.
+    pub fn cold(&mut self, book: &Book)
+        requires { LaneFits (the_book book.now) self.old }
+        ensures fits { LaneFits (the_book book.now) self.new }
+        ensures stands { (f : Flags) → LaneStands (the_book book.now) (empty_era f) self.new }
+        ensures moments { self.new.moments ≡ 0 }
+    {
+        let _ = book;
+        self.params.clear();
+        self.cells.clear();
+        self.phase_state = PhaseState::new();
+        self.phase = Phase { number: 1 };
+        self.truths.clear();
+        self.marks.clear();
+        self.attention.clear();
+        self.selector = Selector::new();
+        self.keys = Keys::new();
+        self.ticked = false;
+        self.moments = 0;
+        self.picture.copy_from(&Picture::blank());
+        self.changed = [false; ROWS];
+    }
+
+    /// Takes over all that another lane of the same book holds. Its cost is a copy of each of its lists.
+    pub fn copy_from(&mut self, other: &Lane)
+        requires { (b : plain.Book) × LaneFits b self.old × LaneFits b other.now }
+        ensures fits { (b : plain.Book) → LaneFits b self.old → LaneFits b other.now → LaneFits b self.new }
+        ensures stands { (b : plain.Book) (e : Era) → LaneFits b self.old → LaneStands b e other.now
+            → LaneStands b e self.new }
+        ensures moments { self.new.moments ≡ other.now.moments }
+    {
+        self.params.copy_from(&other.params);
+        self.values.copy_from_slice(&other.values);
+        self.cells.copy_from(&other.cells);
+        self.phase_state = other.phase_state;
+        self.phase = other.phase;
+        self.truths.copy_from(&other.truths);
+        self.marks.copy_from(&other.marks);
+        self.attention.copy_from(&other.attention);
+        self.selector = other.selector;
+        self.keys = other.keys;
+        self.lines.copy_from_slice(&other.lines);
+        self.memos.copy_from_slice(&other.memos);
+        self.ticked = other.ticked;
+        self.moments = other.moments;
+        self.picture.copy_from(&other.picture);
+        self.changed = other.changed;
+        self.counts = other.counts;
+    }
+
+    /// Takes one event more, after which these computers are up. A word costs a look at the sources that listen to it, a
+    /// key one write or two; what becomes of the computers themselves changes nothing here. A Tick costs one visit of each
+    /// node of the book's conditions, a look at each source, and a few at each alert, line and memo; a zone of the picture
+    /// is filled only where something that it shows turned.
+    pub fn event(&mut self, book: &Book, event: &Event, one_up: bool, two_up: bool)
+        requires fits { LaneFits (the_book book.now) self.old }
+        requires event { IsEvent event.now }
+        requires goes_on { is_tick event.now ≡ true → CanGoOn self.old }
+        ensures fits { LaneFits (the_book book.now) self.new }
+        // Whatever came before in the era, the lane then stands for the era with this event.
+        ensures stands { (e : Era) → AreUp (era_with e event.now) one_up two_up → LaneStands (the_book book.now) e self.old
+            → LaneStands (the_book book.now) (era_with e event.now) self.new }
+        ensures moments { self.new.moments ≡ self.old.moments + (if is_tick event.now then 1 else 0) }
+    {
+        match event {
+            Event::Word { bus, bits } => self.params.take(book, *bus, *bits),
+            Event::Tick => self.tick(book, one_up, two_up),
+            Event::Press(key) => self.keys.press(*key),
+            Event::Release(key) => self.keys.release(*key),
+            Event::Fail(_) => {}
+            Event::Up(_) => {}
+            Event::End => {}
+        }
+    }
+
+    // The moment ends.
+    fn tick(&mut self, book: &Book, one_up: bool, two_up: bool)
+        requires fits { LaneFits (the_book book.now) self.old }
+        requires goes_on { CanGoOn self.old }
+        ensures fits { LaneFits (the_book book.now) self.new }
+        ensures moments { self.new.moments ≡ self.old.moments + 1 }
+        ensures params { (words : ℕ → List BusWord) (k : ℕ) → words (suc k) ≡ []
+            → ParamsStand (the_book book.now) words k self.old.params
+            → ParamsStand (the_book book.now) words (suc k) self.new.params }
+        ensures keys { (strokes : ℕ → List Stroke) (k : ℕ) → strokes (suc k) ≡ []
+            → KeysStand strokes k self.old.keys → KeysStand strokes (suc k) self.new.keys }
+        ensures whole { (m : ℕ → Moment)
+            → Came (the_book book.now) m self.old.moments self.old.params self.old.keys one_up two_up
+            → WholeStands (the_book book.now) m self.old.moments self.old
+            → WholeStands (the_book book.now) m (suc self.old.moments) self.new }
+    {
+        let values = read_values(&mut self.values, &self.params, book);
+        let lent = Env {
+            values: &self.values,
+            phase: Phase { number: 1 },
+            active: &[],
+            keys: &self.keys,
+            one_up,
+            two_up,
+        };
+        let stepped = step_conditions(
+            &mut self.cells,
+            &mut self.phase_state,
+            &mut self.truths,
+            &mut self.lines,
+            &mut self.memos,
+            book,
+            &lent,
+            self.moments,
+        );
+        let normal = self.marks.normal();
+        step_crew(
+            &mut self.marks,
+            &mut self.attention,
+            &mut self.selector,
+            &self.truths,
+            book,
+            &self.keys,
+            enters_one(self.ticked, self.phase, stepped.phase),
+        );
+        let turned = Turned::of(
+            self.ticked,
+            self.phase,
+            stepped,
+            values,
+            self.marks.changed(),
+            normal,
+            self.marks.normal(),
+        );
+        let scene = Scene {
+            phase: stepped.phase,
+            values: &self.values,
+            lines: &self.lines,
+            memos: &self.memos,
+            truths: &self.truths,
+            marks: &self.marks,
+            attention: &self.attention,
+            selector: &self.selector,
+        };
+        self.counts = draw(
+            book,
+            &scene,
+            turned,
+            self.counts,
+            &mut self.picture,
+            &mut self.changed,
+        );
+        self.phase = stepped.phase;
+        self.ticked = true;
+        self.moments += 1;
+        self.params.tick(book);
+        self.keys.tick();
+    }
+}

@@ -1,0 +1,91 @@
+// All conditions of a moment.
+ghost use Rattle.std.specs.Prelude.{◌≡◌, ◌<◌, ◌≤◌, ◌^◌, ◌+◌, ℕ, suc, false, length};
+ghost use Rattle.ecam_spec.specs.BookTerms.{terms_of, slots_in, lines_of};
+ghost use Rattle.ecam_spec.specs.Term.{holds};
+ghost use Rattle.ecam_spec.specs.History.{Moment};
+ghost use Rattle.ecam_spec.specs.Situation.{world, phase_in};
+ghost use Rattle.ecam_spec.specs.Screen.{line_stands};
+ghost use Rattle.book_model.specs.Sealed.{the_book};
+ghost use Rattle.book_model.specs.Told.{TellsOf};
+ghost use Rattle.alert_truth.specs.TruthsState.{TruthsFit};
+ghost use Rattle.fwc_lane.specs.Conditions.{ConditionsStand};
+ghost use Rattle.fwc_lane.specs.Given.{Lends};
+
+use crate::alerts::step_alerts;
+use crate::flight::step_phase;
+use crate::memos::step_memos;
+use crate::procedures::step_lines;
+use alert_truth::Truths;
+use book_model::Book;
+use ecam_kinds::Phase;
+use flight_phases::PhaseState;
+use term_eval::{Cells, Env};
+
+/// What the conditions of a moment made of it.
+#[derive(Clone, Copy, Debug)]
+pub struct Stepped {
+    pub phase: Phase,
+    /// Some line's flag turned.
+    pub lines: bool,
+    /// Some memo's flag turned.
+    pub memos: bool,
+}
+
+/// Steps all conditions of the book by moment `now`, in their order. Its cost is one visit of each of their nodes, a look
+/// at each alert, and one at each secondary of the active ones.
+pub fn step_conditions(
+    cells: &mut Cells,
+    state: &mut PhaseState,
+    truths: &mut Truths,
+    lines: &mut Vec<bool>,
+    memos: &mut Vec<bool>,
+    book: &Book,
+    env: &Env<'_>,
+    now: u64,
+) -> Stepped
+    requires cells { length cells.old.slots ≡ slots_in (terms_of (the_book book.now)) }
+    requires truths { TruthsFit (the_book book.now) truths.old }
+    requires moments { truths.old.moments ≡ now }
+    requires lines { length lines.old.items ≡ length (lines_of (the_book book.now).alerts) }
+    requires memos { length memos.old.items ≡ length (the_book book.now).memos }
+    requires values { length env.now.values.now ≡ length book.now.params.items }
+    requires active { length env.now.active.now ≡ 0 }
+    requires phase { env.now.phase.number ≡ 1 }
+    requires now { now < 2 ^ 63 }
+    ensures cells { length cells.new.slots ≡ length cells.old.slots }
+    ensures truths { TruthsFit (the_book book.now) truths.new }
+    ensures moments { truths.new.moments ≡ truths.old.moments + 1 }
+    ensures lines { length lines.new.items ≡ length lines.old.items }
+    ensures memos { length memos.new.items ≡ length memos.old.items }
+    ensures first { 1 ≤ result.phase.number }
+    ensures last { result.phase.number ≤ 10 }
+    ensures stands { (m : ℕ → Moment) → Lends (the_book book.now) m now env.now
+        → ConditionsStand (the_book book.now) m now cells.old.slots state.old truths.old
+        → ConditionsStand (the_book book.now) m (suc now) cells.new.slots state.new truths.new }
+    ensures phase { (m : ℕ → Moment) → Lends (the_book book.now) m now env.now
+        → ConditionsStand (the_book book.now) m now cells.old.slots state.old truths.old
+        → result.phase.number ≡ phase_in (the_book book.now) m now }
+    ensures line_flags { (m : ℕ → Moment) → Lends (the_book book.now) m now env.now
+        → ConditionsStand (the_book book.now) m now cells.old.slots state.old truths.old
+        → TellsOf lines.new.items (lines_of (the_book book.now).alerts) (line_stands (the_book book.now) m now) }
+    ensures memo_flags { (m : ℕ → Moment) → Lends (the_book book.now) m now env.now
+        → ConditionsStand (the_book book.now) m now cells.old.slots state.old truths.old
+        → TellsOf memos.new.items (the_book book.now).memos (λ x. holds (world (the_book book.now) m) x.when now) }
+    ensures lines_kept { result.lines ≡ false → lines.new.items ≡ lines.old.items }
+    ensures memos_kept { result.memos ≡ false → memos.new.items ≡ memos.old.items }
+{
+    let phase = step_phase(cells, state, book, env, now);
+    step_alerts(cells, truths, book, &Env { phase, ..*env }, now);
+    let whole = Env {
+        phase,
+        active: truths.active(),
+        ..*env
+    };
+    let lines = step_lines(cells, lines, book, &whole, now);
+    let memos = step_memos(cells, memos, book, &whole, now);
+    Stepped {
+        phase,
+        lines,
+        memos,
+    }
+}

@@ -1,0 +1,64 @@
+-- The picture that stands, mended row by row.
+use Rattle.std.proofs.Common.{◌≡◌, ℕ, zero, suc, ◌+◌, ◌<◌, ◌≤◌, Bool, true, false, not, ◌||◌, List, [], ◌∷◌, ◌++◌, length, take, drop, get_or, replicate, inl, inr, ◌⊎◌, refl, sym, ◌∙◌, ap, subst, arith, add-one}
+use Rattle.std.proofs.lemmas.List.{take_more, length-take, append-nil, drop_all, get_or-replicate}
+use Rattle.std.proofs.lemmas.Bool.{cases_lt}
+use Rattle.std.proofs.Math.Seq.{drop-cons}
+use Rattle.ecam_spec.specs.Picture.{Row, row, blank_row, Picture, dead, zone, same_row}
+use Rattle.zone_rows.specs.Tracked.{TrackedRows, IsWhole, changed_at, row_at, TellsChanges}
+use Rattle.zone_rows.specs.Mended.{put_rows, Mends}
+use Rattle.zone_rows.specs.Zones.{StandAt, IsMended}
+use Rattle.fwc_pair.specs.Faces.{IsShown}
+use Rattle.zone_rows.proofs.Mending.{mends-both, mends_kept}
+use Rattle.zone_rows.proofs.Places.{row-behind, put-none}
+
+-- nothing is mended yet
+pub mended-none : (picture : List Row) (t : TrackedRows) → Mends 0 (take 0 picture) t t
+mended-none picture t = mends_kept 0 [] t refl
+
+-- and one row more
+pub mended-more : (picture : List Row) (i : ℕ) (start now next : TrackedRows) → length start.rows ≡ 36 → length picture ≡ 36 → i < 36
+    → Mends 0 (take i picture) start now → Mends i (get_or picture i blank_row ∷ []) now next → Mends 0 (take (i + 1) picture) start next
+mended-more picture i start now next whole long within before row =
+    let front : length (take i picture) ≡ i = length-take i picture ∙ omega arith in
+    let at : 0 + length (take i picture) ≡ i = omega arith in
+    subst (λ these. Mends 0 these start next) (sym (take_more picture i blank_row (omega arith)))
+    (mends-both 0 (take i picture) (get_or picture i blank_row ∷ []) start now next (omega arith) before
+    (subst (λ n. Mends n (get_or picture i blank_row ∷ []) now next) (sym at) row))
+
+-- a row that stands is mended as it is
+pub mended-as-is : (t : TrackedRows) (i : ℕ) (r : Row) → i < length t.rows → get_or t.rows i blank_row ≡ r → Mends i (r ∷ []) t t
+mended-as-is t i r within is =
+    mends_kept i (r ∷ []) t (ap (take 1) (drop-cons t.rows i blank_row within) ∙ ap (λ x. x ∷ []) is)
+
+-- what isn't mended yet is as it was
+pub row-waits : (picture : List Row) (i : ℕ) (start now : TrackedRows) → length start.rows ≡ 36 → length picture ≡ 36 → i < 36
+    → Mends 0 (take i picture) start now → get_or now.rows i blank_row ≡ get_or start.rows i blank_row
+row-waits picture i start now whole long within mended =
+    let front : length (take i picture) ≡ i = length-take i picture ∙ omega arith in
+    ap (λ rs. get_or rs i blank_row) mended.rows
+    ∙ row-behind 0 (take i picture) start.rows (omega arith) i (omega arith)
+
+-- with all rows mended the picture stands
+pub mended-all : (picture : List Row) (start now : TrackedRows) → length start.rows ≡ 36 → length picture ≡ 36 → Mends 0 picture start now → IsMended picture start now
+mended-all picture start now whole long mended = record {
+  rows = mended.rows ∙ ap (λ rs. picture ++ rs) (drop_all (0 + length picture) start.rows (omega arith)) ∙ append-nil picture;
+  changed = mended.changed;
+}
+
+-- from rows of which none was told as changed, exactly those that differ are told
+pub mended-shown : (picture old now : List Row) (clear flags : List Bool) → ((i : ℕ) → i < 36 → get_or clear i false ≡ false)
+    → IsMended picture (record { rows = old; changed = clear }) (record { rows = now; changed = flags }) → IsShown picture old now flags
+mended-shown picture old now clear flags none mended = record {
+  rows = mended.rows;
+  changed = λ i within.
+      mended.changed i within
+      ∙ ap (λ t. t || not (same_row (get_or old i blank_row) (get_or now i blank_row))) (none i within)
+      ∙ ap (λ p. not (same_row (get_or old i blank_row) (get_or p i blank_row))) mended.rows;
+}
+
+pub none-told : (flags : List Bool) → flags ≡ replicate 36 false → (i : ℕ) → i < 36 → get_or flags i false ≡ false
+none-told flags none i within = ap (λ fs. get_or fs i false) none ∙ get_or-replicate 36 i false false within
+
+pub or-parts : (a b : Bool) → (a || b) ≡ false → (a ≡ false) × (b ≡ false)
+or-parts true b e = absurd (let w : ⊥ = cc in w)
+or-parts false b e = (refl, e)

@@ -1,0 +1,6 @@
+pub mod Histories
+pub mod Accounts
+pub mod Titles
+pub mod Faces
+pub mod Pairs
+pub mod Stood

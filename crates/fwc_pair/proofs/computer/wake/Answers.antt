@@ -1,0 +1,8 @@
+use Rattle.book_model.specs.Sealed.{the_book}
+use Rattle.fwc_pair.proofs.computer.wake.Goals as goal
+
+pub returns-then-other_up-clause-goes_on : goal.returns-then-other_up-clause-goes_on
+returns-then-other_up-clause-goes_on c = λ e own others some. c.copy_from.ensures.stands (the_book c.args.book.now) e c.requires.lane (others c.if-other_up.true)
+
+pub returns-else-other_up-clause-begins : goal.returns-else-other_up-clause-begins
+returns-else-other_up-clause-begins c = λ f none. c.cold.ensures.stands f

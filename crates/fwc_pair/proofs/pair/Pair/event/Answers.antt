@@ -1,0 +1,41 @@
+use Rattle.std.proofs.Common.{◌≡◌, ◌+◌, ◌∷◌, [], ◌++◌, refl, sym, ap, cond, ◌∙◌, subst}
+use Rattle.ecam_spec.specs.History.{flags_with, begun}
+use Rattle.ecam_spec.specs.Replay.{is_tick}
+use Rattle.ecam_kinds.specs.Shown.{picture_of}
+use Rattle.book_model.specs.Sealed.{the_book}
+use Rattle.fwc_pair.specs.PairState.{PairStands}
+use Rattle.fwc_pair.specs.declared.pair.Pair.{Pair}
+use Rattle.fwc_pair.proofs.Pairs.{ShowsUp, are-up, went-on, ended}
+use Rattle.fwc_pair.proofs.pair.Pair.event.Goals as goal
+
+pub returns-clause-stands : goal.returns-clause-stands
+returns-clause-stands c = λ h st.
+    let b = the_book c.args.book.now in
+    let x = c.args.event.now in
+    let old = c.args.self.now in
+    let mid = c.note_health.new.self in
+    let new : Pair = record { one = c.step.new.lane; two = c.step-2.new.lane; one_up = mid.one_up; two_up = mid.two_up; face = c.show.new.face; changed = c.show.new.changed } in
+    let up = c.note_health.ensures.stands h st.flags st.up in
+    let flags = c.note_health.ensures.flags in
+    let here = are-up h x mid.one_up mid.two_up (flags ∙ ap (λ f. flags_with f x) st.flags) in
+    went-on b h x old mid new st
+    (record {
+      one = c.step.ensures.fits;
+      two = c.step-2.ensures.fits;
+      together = λ e f. c.step-2.ensures.moments f ∙ ap (λ n. n + cond (is_tick x) 1 0) (c.note_health.ensures.fits.together e f) ∙ sym (c.step.ensures.moments e);
+    })
+    flags refl
+    (λ e. c.step.ensures.stands (begun h x) here up.one e)
+    (λ e. c.step-2.ensures.stands (begun h x) here up.two e)
+    (λ quiet. c.show.ensures.face quiet ∙ c.note_health.ensures.face)
+    (λ quiet. c.show.ensures.changed quiet ∙ c.note_health.ensures.changed)
+    (λ tick.
+    subst (λ p. ShowsUp p mid.one_up mid.two_up new) (ap picture_of c.note_health.ensures.face)
+    (record { one = c.show.ensures.one tick; two = c.show.ensures.two tick; neither = c.show.ensures.dead tick }))
+
+pub returns-clause-end : goal.returns-clause-end
+returns-clause-end c = λ is h st.
+    let b = the_book c.args.book.now in
+    let mid = c.note_health.new.self in
+    let new : Pair = record { one = c.step.new.lane; two = c.step-2.new.lane; one_up = mid.one_up; two_up = mid.two_up; face = c.show.new.face; changed = c.show.new.changed } in
+    ended b h new (subst (λ x. PairStands b (h ++ x ∷ []) new) is (returns-clause-stands c h st))

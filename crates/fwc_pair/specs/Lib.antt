@@ -1,0 +1,6 @@
+pub mod PairState
+pub mod Alike
+pub mod Lasts
+pub mod Faces
+pub mod TitlePlaces
+pub mod Standings

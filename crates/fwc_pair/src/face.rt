@@ -1,0 +1,115 @@
+// The picture of the last Tick, mended in place, and the rows that it changed.
+ghost use Rattle.std.specs.Prelude.{◌≡◌, ◌||◌, ◌<◌, [], ◌∷◌, true, false, length, get_or, replicate};
+ghost use Rattle.ecam_spec.specs.Picture as spec;
+ghost use Rattle.ecam_spec.specs.Replay.{is_tick};
+ghost use Rattle.ecam_kinds.specs.Shown.{row_of, rows_of, picture_of};
+ghost use Rattle.zone_rows.specs.Tracked.{tracked, IsWhole};
+ghost use Rattle.zone_rows.specs.Mended.{Mends};
+ghost use Rattle.zone_rows.specs.Zones.{IsMended};
+ghost use Rattle.fwc_pair.specs.Faces.{IsShown, OthersStand, NamesChanges};
+
+use ecam_kinds::{Colour, Event, Picture, ROWS, Row};
+use fwc_lane::Lane;
+use zone_rows::{blank_rest, put_next, set_row};
+
+// Puts a row of a picture in its place, if it is named. A row that isn't has to stand there already.
+fn mend_row(rows: &mut [Row], changed: &mut [bool], place: usize, row: &Row, named: bool)
+    requires whole { IsWhole (tracked rows.old changed.old) }
+    requires place { place < ROWS }
+    ensures whole { IsWhole (tracked rows.new changed.new) }
+    ensures row { (named ≡ false → get_or (rows_of rows.old) place spec.blank_row ≡ row_of row.now)
+        → Mends place (row_of row.now ∷ []) (tracked rows.old changed.old) (tracked rows.new changed.new) }
+{
+    if named {
+        set_row(rows, changed, place, row.colour, row.text.as_slice());
+    }
+}
+
+// Puts the named rows of a picture, or all of them, in their places.
+fn mend(rows: &mut [Row], changed: &mut [bool], picture: &[Row], named: &[bool], all: bool)
+    requires whole { IsWhole (tracked rows.old changed.old) }
+    requires picture { length picture.now ≡ ROWS }
+    requires named { length named.now ≡ ROWS }
+    ensures whole { IsWhole (tracked rows.new changed.new) }
+    ensures mended { (all ≡ false → OthersStand named.now (rows_of rows.old) (rows_of picture.now))
+        → IsMended (rows_of picture.now) (tracked rows.old changed.old) (tracked rows.new changed.new) }
+{
+    for i in 0..ROWS {
+        mend_row(rows, changed, i, &picture[i], all | named[i]);
+    }
+}
+
+// Mends the rows so that the picture stands that is shown while no computer is up.
+fn mend_dead(rows: &mut [Row], changed: &mut [bool])
+    requires whole { IsWhole (tracked rows.old changed.old) }
+    ensures whole { IsWhole (tracked rows.new changed.new) }
+    ensures mended { IsMended spec.dead (tracked rows.old changed.old) (tracked rows.new changed.new) }
+{
+    let count = put_next(
+        rows,
+        changed,
+        0,
+        ROWS,
+        0,
+        Colour::Amber,
+        b"FWS FWC 1+2 FAULT",
+    );
+    blank_rest(rows, changed, 0, ROWS, count);
+}
+
+// Shows what a lane shows. Only the rows that it names as changed are compared, but for the first moment of an era:
+// what stood before that is none of its pictures.
+fn show_lane(face: &mut Picture, changed: &mut [bool; ROWS], lane: &Lane)
+    requires { changed.old ≡ replicate ROWS false }
+    ensures { NamesChanges lane.now (picture_of face.old)
+        → IsShown (picture_of lane.now.picture) (picture_of face.old) (picture_of face.new) changed.new }
+{
+    mend(
+        &mut face.rows,
+        changed,
+        &lane.picture.rows,
+        &lane.changed,
+        lane.moments < 2,
+    );
+}
+
+fn show_dead(face: &mut Picture, changed: &mut [bool; ROWS])
+    requires { changed.old ≡ replicate ROWS false }
+    ensures { IsShown spec.dead (picture_of face.old) (picture_of face.new) changed.new }
+{
+    mend_dead(&mut face.rows, changed);
+}
+
+/// At a Tick, shows what the first computer that is up shows, or that none is. Other events leave what stands. Costs at
+/// most the comparison of each row, and a copy of those that differ; after the first moment of an era no row is looked
+/// at but those that the computer changed.
+pub(crate) fn show(
+    face: &mut Picture,
+    changed: &mut [bool; ROWS],
+    event: &Event,
+    one: &Lane,
+    one_up: bool,
+    two: &Lane,
+    two_up: bool,
+)
+    ensures face { is_tick event.now ≡ false → face.new ≡ face.old }
+    ensures changed { is_tick event.now ≡ false → changed.new ≡ changed.old }
+    ensures one { is_tick event.now ≡ true → one_up ≡ true → NamesChanges one.now (picture_of face.old)
+        → IsShown (picture_of one.now.picture) (picture_of face.old) (picture_of face.new) changed.new }
+    ensures two { is_tick event.now ≡ true → one_up ≡ false → two_up ≡ true
+        → NamesChanges two.now (picture_of face.old)
+        → IsShown (picture_of two.now.picture) (picture_of face.old) (picture_of face.new) changed.new }
+    ensures dead { is_tick event.now ≡ true → (one_up || two_up) ≡ false
+        → IsShown spec.dead (picture_of face.old) (picture_of face.new) changed.new }
+{
+    if let Event::Tick = event {
+        *changed = [false; ROWS];
+        if one_up {
+            show_lane(face, changed, one);
+        } else if two_up {
+            show_lane(face, changed, two);
+        } else {
+            show_dead(face, changed);
+        }
+    }
+}

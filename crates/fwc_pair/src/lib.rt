@@ -1,0 +1,16 @@
+//! The two flight warning computers: their failures and starts, the picture that they show, and where each alert
+//! stands. Losing one of them changes nothing, and losing both begins the history anew.
+#![tactic(auto)]
+
+mod computer;
+mod face;
+pub mod laws;
+mod pair;
+mod standing;
+#[cfg(test)]
+mod tests;
+mod title;
+
+pub use fwc_lane::Lane;
+pub use pair::Pair;
+pub use standing::Standing;

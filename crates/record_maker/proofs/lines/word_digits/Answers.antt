@@ -1,0 +1,16 @@
+use Rattle.std.proofs.Common.{◌≡◌, ◌*◌, length, sym, ◌∙◌, ap, Result, Ok, Err, OnOk}
+use Rattle.std.specs.Result.{IsOk}
+use Rattle.hex.specs.Hex.{encode_lower}
+use Rattle.record_maker.proofs.Digits.{word_digits-encoded}
+use Rattle.record_maker.proofs.lines.word_digits.Goals as goal
+
+on_ok : {T E : Type 0} (r : Result T E) (P : Type 0) → IsOk r → OnOk r P → P
+on_ok (Ok v) P is p = p
+on_ok (Err e) P is p = absurd (let never : ⊥ = cc in never)
+
+pub returns : goal.returns
+returns c =
+    let fits : 8 ≡ 2 * length c.to_be_bytes.result = ap (λ l. 2 * length l) (sym c.to_be_bytes.ensures) in
+    let bytes = c.to_be_bytes.result in
+    on_ok c.encode_to_slice.result (c.encode_to_slice.new.output ≡ encode_lower bytes) (c.encode_to_slice.ensures.fits.1 fits) c.encode_to_slice.ensures.written
+    ∙ ap encode_lower c.to_be_bytes.ensures ∙ word_digits-encoded c.args.word c.ranges.word.fits

@@ -1,0 +1,48 @@
+-- Which calls of `read` a replay has made.
+use Rattle.std.proofs.Common.{◌≡◌, ℕ, List, [], ◌∷◌, ◌++◌, Result, Ok, Err, Some, sym, ap, ◌∙◌, subst, inr, append-nil, append_assoc}
+use Rattle.std.specs.Prelude.{All, Bool, IfErr}
+use Rattle.std.proofs.lemmas.List.Elements.{All-nil, All-append}
+use Rattle.ecam_io.specs.Outside.{ReadCall}
+use Rattle.ecam_io.proofs.Calls.{Appended-none, Appended-append}
+use Rattle.ecam_spec.specs.declared.kinds.Event.{Event}
+use Rattle.record_lines.specs.declared.outcome.LineError.{LineError}
+use Rattle.record_lines.specs.Reads.{piece_call, GivesBytes, last_call, Makes, Asks}
+use Rattle.replay_core.specs.declared.replay.RunError.{RunError}
+use Rattle.replay_core.specs.declared.replay.RunError.TheVariants.{Write}
+use Rattle.replay_core.specs.Runs.{IsLast, HasAsked}
+
+module _ {S : Type 0} (reads : S → List ReadCall → Type 0) where
+  pub asked-none : (s : S) → Makes reads s s (All GivesBytes)
+  asked-none s = record { calls = []; made = Appended-none reads s; so = All-nil GivesBytes }
+
+  module _ (before between after : S) (asked : Makes reads before between (All GivesBytes)) (needs : Bool) (a : Result Event LineError) (asks : Makes reads between after (Asks needs a)) where
+    abbrev pieces : List ReadCall
+    pieces = asked.calls ++ asks.so.pieces
+
+    all : All GivesBytes pieces
+    all = All-append GivesBytes asked.calls asks.so.pieces asked.so asks.so.full
+
+    calls : asked.calls ++ asks.calls ≡ pieces ++ last_call a
+    calls = ap (λ l. asked.calls ++ l) asks.so.calls_are ∙ sym (append_assoc asked.calls asks.so.pieces (last_call a))
+
+    -- all pieces came
+    pub asked-more : last_call a ≡ [] → Makes reads before after (All GivesBytes)
+    asked-more none = record {
+      calls = asked.calls ++ asks.calls;
+      made = Appended-append reads before between after asked.calls asks.calls asked.made asks.made;
+      so = subst (All GivesBytes) (sym (calls ∙ ap (λ l. pieces ++ l) none ∙ append-nil pieces)) all;
+    }
+
+    -- the replay ends
+    pub asked-last : (result : Result ℕ RunError) → IsLast result (last_call a) → Makes reads before after (HasAsked result)
+    asked-last result is = record {
+      calls = asked.calls ++ asks.calls;
+      made = Appended-append reads before between after asked.calls asks.calls asked.made asks.made;
+      so = record { pieces = pieces; last = last_call a; full = all; calls_are = calls; last_is = is };
+    }
+
+-- ---- what an ending tells of the last call
+
+pub finished-last : (result : Result ℕ RunError) (last : List ReadCall) → IfErr result (λ e. e ≡ Write) → last ≡ piece_call (Some 0) ∷ [] → IsLast result last
+finished-last (Ok n) last cause is = is
+finished-last (Err e) last cause is = subst (λ e. IsLast (Err e) last) (sym cause) (inr is)

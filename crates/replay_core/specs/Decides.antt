@@ -1,0 +1,51 @@
+-- Which ending must come, where a shelf tells its files and nothing failed.
+use Rattle.std.specs.Prelude.{◌≡◌, ◌⊎◌, ℕ, List, Option, Some, None}
+use Rattle.ecam_io.specs.Outside.{file_named}
+use Rattle.ecam_spec.specs.declared.kinds.BookFault.{BookFault}
+use Rattle.ecam_spec.specs.declared.kinds.RecordFault.{RecordFault}
+use Rattle.ecam_spec.specs.Book.{Text}
+use Rattle.ecam_spec.specs.Command.{no_limit}
+use Rattle.ecam_spec.specs.Record.{fault}
+use Rattle.book_spec.specs.BookBytes.{book_fault}
+use Rattle.replay_core.specs.Command.{Command, command_of, check, replay, why, drill}
+use Rattle.replay_core.specs.declared.outcome.Status.{Status}
+use Rattle.replay_core.specs.declared.outcome.Status.TheVariants as statuses
+
+-- the name of the book's file that a command reads
+abbrev pub book_asked : Command → Text
+book_asked (check book) = book
+book_asked (replay book record' limit) = book
+book_asked (why book record') = book
+book_asked (drill book seed moments) = book
+
+-- the name of the record's file that it reads, and the limit on the record's bytes, if it reads any
+abbrev pub record_asked : Command → Option (Text × ℕ)
+record_asked (check book) = None
+record_asked (replay book record' limit) = Some (record', limit)
+record_asked (why book record') = Some (record', no_limit)
+record_asked (drill book seed moments) = None
+
+-- this status, but for want of memory
+abbrev pub IsButForMemory : Status → Status → Type 0
+IsButForMemory status result = (result ≡ status) ⊎ (result ≡ statuses.NoMemory)
+
+-- the words have none of the forms exactly where the program ends so
+pub record DecidesUsage (words : List Text) (result : Status) : Type 0 where
+  pub usage : command_of words ≡ None → result ≡ statuses.Usage
+  pub form : result ≡ statuses.Usage → command_of words ≡ None
+
+-- where a shelf tells its files, and neither it nor the sink counted a fault, the words and the files say how the program
+-- ends: by the book's fault, by the record's, or with everything done
+pub record Decides (words : List Text) (files : List (Text × Text)) (result : Status) : Type 0 where
+  pub refused : (c : Command) → command_of words ≡ Some c
+      → (bytes : Text) → file_named files (book_asked c) ≡ Some bytes → (f : BookFault) → book_fault bytes ≡ Some f → IsButForMemory statuses.BookRefused result
+  pub told : (c : Command) → command_of words ≡ Some c → record_asked c ≡ None
+      → (bytes : Text) → file_named files (book_asked c) ≡ Some bytes → book_fault bytes ≡ None → IsButForMemory statuses.Done result
+  pub record_refused : (c : Command) → command_of words ≡ Some c
+      → (bytes : Text) → file_named files (book_asked c) ≡ Some bytes → book_fault bytes ≡ None
+      → (name : Text) (limit : ℕ) → record_asked c ≡ Some (name, limit) → (text : Text) → file_named files name ≡ Some text
+      → (f : RecordFault) → fault text limit ≡ Some f → IsButForMemory statuses.RecordRefused result
+  pub replayed : (c : Command) → command_of words ≡ Some c
+      → (bytes : Text) → file_named files (book_asked c) ≡ Some bytes → book_fault bytes ≡ None
+      → (name : Text) (limit : ℕ) → record_asked c ≡ Some (name, limit) → (text : Text) → file_named files name ≡ Some text
+      → fault text limit ≡ None → IsButForMemory statuses.Done result

@@ -1,0 +1,13 @@
+//! The status page: the lines of the active alerts by sections and the cancelled cautions, eighteen rows a page,
+//! filled in place.
+#![tactic(auto)]
+
+mod cancelled;
+mod count;
+mod fill;
+pub mod laws;
+mod place;
+mod sections;
+
+pub use count::status_rows;
+pub use fill::fill_status;

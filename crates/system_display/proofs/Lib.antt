@@ -1,0 +1,6 @@
+pub mod Selections
+pub mod Stretches
+pub mod Places
+pub mod RowTexts
+pub mod PageRows
+pub mod PanelOf

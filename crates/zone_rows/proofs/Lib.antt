@@ -1,0 +1,5 @@
+pub mod Same
+pub mod Places
+pub mod Mending
+pub mod Filling
+pub mod Zones

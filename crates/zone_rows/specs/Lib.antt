@@ -1,0 +1,3 @@
+pub mod Tracked
+pub mod Mended
+pub mod Zones
