@@ -38,15 +38,8 @@ pub mod TermReadings
 pub mod TermReading
 pub mod TermVerdict
 pub mod Nowhere
-pub mod TitleAlerts
-pub mod TitleKeys
-pub mod TitleRows
-pub mod TitleBooks
 pub mod ReplaySteps
 pub mod MomentSteps
 pub mod ValueAgree
-pub mod TitleReplay
-pub mod TitleTests
-pub mod ScopeLaws
 pub mod SignalSteps
 pub mod RecordEvents

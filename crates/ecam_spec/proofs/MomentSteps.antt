@@ -1,6 +1,6 @@
 -- One more event of an era: what it does to the moments by their numbers. What had come stays in each of them; only
 -- the moment that hasn't ended changes.
-use Rattle.std.proofs.Common.{◌≡◌, ℕ, suc, ◌<◌, ◌≤◌, inl, inr, true, false, ◌&&◌, List, [], ◌∷◌, ◌++◌, length, get_or, take, drop, refl, sym, ◌∙◌, ap, arith}
+use Rattle.std.proofs.Common.{◌≡◌, ℕ, suc, ◌<◌, ◌≤◌, inl, inr, true, false, ◌&&◌, List, [], ◌∷◌, ◌++◌, length, get_or, take, refl, sym, ◌∙◌, ap, arith}
 use Rattle.std.specs.Prelude.{All, fold}
 use Rattle.std.proofs.Math.Nat.{eq-or-lt_of_le}
 use Rattle.std.proofs.lemmas.List.{get_or_append_left, get_or_at, get_or_past, get_or_default, length_push}
@@ -10,7 +10,7 @@ use Rattle.ecam_spec.specs.declared.kinds.Event.{Event}
 use Rattle.ecam_spec.specs.declared.kinds.Event.TheVariants.{Word, Tick, Press, Release, Fail, Up, End}
 use Rattle.ecam_spec.specs.declared.kinds.Key.{Key}
 use Rattle.ecam_spec.specs.Past.{moment_after}
-use Rattle.ecam_spec.specs.History.{Flags, both_up, none_up, flags_with, flags_after, comes_up, changes_computers, begins_era, era_place, Moment, empty_moment, with_word, with_stroke, Era, empty_era, era_with, era}
+use Rattle.ecam_spec.specs.History.{Flags, both_up, none_up, flags_with, flags_after, comes_up, changes_computers, begins_era, era_place, Moment, empty_moment, with_word, with_stroke, Era, era_with}
 use Rattle.ecam_spec.specs.Replay.{is_tick, moment_of}
 use Rattle.ecam_spec.proofs.Nowhere.{last-nowhere}
 
@@ -147,7 +147,3 @@ one_era h kept =
     ap moment_after
     (last-nowhere (begins_era h) (length h)
     (λ i. and_right (comes_up (get_or h i Tick)) _ (some_up (take i h) (All-take (λ x. changes_computers x ≡ false) i h kept))))
-
-pub era_whole : (h : List Event) → All (λ x. changes_computers x ≡ false) h → era h ≡ fold era_with (empty_era both_up) h
-unfolding era flags_after
-era_whole h kept = ap (λ p. fold era_with (empty_era (flags_after (take p h))) (drop p h)) (one_era h kept)

@@ -38,10 +38,8 @@ pub mod Situation
 pub mod Screen
 pub mod Replay
 pub mod Computers
-pub mod Scope
 pub mod Command
 pub mod Complaint
-pub mod Titles
 pub mod Runs
 pub mod Opened
 pub mod BookText

@@ -8,7 +8,6 @@ pub mod limits;
 pub mod replay_laws;
 mod term_steps;
 mod terms;
-pub mod title_laws;
 
 pub use kinds::{
     BookFault, Choice, Colour, Event, FaultKind, Key, Kind, Level, Op, RecordFault, Section, Sound,

@@ -1,14 +1,11 @@
 //! What a replay writes, event by event, as theorems: each is the contract of a function that does nothing.
-ghost use Rattle.std.specs.Prelude.{◌≡◌, ◌++◌, ◌∷◌, [], ℕ, ◌-◌, true, false, List, All, length};
+ghost use Rattle.std.specs.Prelude.{◌≡◌, ◌++◌, ◌∷◌, [], false, List, All};
 ghost use Rattle.ecam_spec.specs.declared.kinds.Event.{Event};
 ghost use Rattle.ecam_spec.specs.declared.kinds.Event.TheVariants.{Tick};
 ghost use Rattle.ecam_spec.specs.Book.{Text, Book};
-ghost use Rattle.ecam_spec.specs.History.{both_up, changes_computers, flags_after, era, era_place};
+ghost use Rattle.ecam_spec.specs.History.{both_up, changes_computers, flags_after, era_place};
 ghost use Rattle.ecam_spec.specs.Output.{block};
-ghost use Rattle.ecam_spec.specs.Replay.{is_tick, tick_count, moment_of, picture_at, last_picture, history_blocks, reply};
-ghost use Rattle.ecam_spec.specs.Record.{fault};
-ghost use Rattle.ecam_spec.specs.Scope.{is_read, fault_read, reply_read};
-ghost use Rattle.ecam_spec.specs.Screen.{picture_in};
+ghost use Rattle.ecam_spec.specs.Replay.{is_tick, tick_count, picture_at, last_picture, history_blocks};
 
 /// What was written of a history stays, whatever comes after it.
 #[tactic(auto, using(crate::proofs::ReplaySteps::history_blocks_begun))]
@@ -35,11 +32,4 @@ pub fn a_tick_writes_what_changed()
 pub fn a_history_without_failures_is_one_era()
     ensures up { (h : List Event) → All (λ e. changes_computers e ≡ false) h → flags_after h ≡ both_up }
     ensures place { (h : List Event) → All (λ e. changes_computers e ≡ false) h → era_place h ≡ 0 }
-{}
-
-/// Where each line before a record's first fault is read, what is told and written of it is that of the whole record.
-#[tactic(auto, using(crate::proofs::ScopeLaws::fault_read_all, crate::proofs::ScopeLaws::reply_read_all))]
-pub fn a_record_that_is_read_has_its_whole_reply()
-    ensures fault { (text : Text) (limit : ℕ) → is_read text limit ≡ true → fault_read text limit ≡ fault text limit }
-    ensures reply { (b : Book) (text : Text) (limit : ℕ) → is_read text limit ≡ true → reply_read b text limit ≡ reply b text limit }
 {}
