@@ -1,45 +1,68 @@
 -- The words of a command line, and what they ask for. The forms are this project's own.
-use Rattle.std.specs.Prelude.{ℕ, ◌+◌, ◌-◌, ◌*◌, ◌&&◌, nat_le, List, [], ◌∷◌, length, fold, Option, Some, None, option_map, codes, if◌then◌else◌}
+use Rattle.std.specs.Prelude.{ℕ, ◌-◌, ◌^◌, ◌&&◌, nat_le, List, [], ◌∷◌, length, Option, Some, None, option_map, codes, if◌then◌else◌}
 use Rattle.std.specs.Char.{is_ascii_digit}
 use Rattle.std.specs.List.{list_all}
 use Rattle.ecam_spec.specs.Bytes.{same_text}
 use Rattle.ecam_spec.specs.Book.{Text}
+use Rattle.ecam_spec.specs.TermNumber.{digits_value}
 
--- check a book, or replay a record by a book, both by their names, under a limit on the record's bytes
+-- check a book; replay a record by a book, under a limit on the record's bytes; tell where each alert stands at a
+-- record's end; replay the record that is made of a seed and a number of moments. Files go by their names.
 pub data Command : Type 0 where
   check : Text → Command
   replay : Text → Text → ℕ → Command
+  why : Text → Text → Command
+  drill : Text → ℕ → ℕ → Command
 
 -- without a limit of its own a record has this one
 abbrev pub no_limit : ℕ
 no_limit = 4294967295
 
--- the number that decimal digits spell
-abbrev pub spelled : Text → ℕ
-spelled word = fold (λ n c. n * 10 + (c - 48)) 0 word
+-- the number that a word of decimal digits spells, where it has no more digits than so many and isn't larger than this
+unfoldable pub number_of : ℕ → ℕ → Text → Option ℕ
+number_of longest most word =
+    if nat_le 1 (length word) && nat_le (length word) longest && list_all is_ascii_digit word && nat_le (digits_value word) most
+    then Some (digits_value word) else None
 
--- a limit is 1 to 10 decimal digits, and at most the largest
-unfoldable pub limit_of : Text → Option ℕ
-limit_of word =
-    if nat_le 1 (length word) && nat_le (length word) 10 && list_all is_ascii_digit word && nat_le (spelled word) no_limit
-    then Some (spelled word) else None
+abbrev pub limit_of : Text → Option ℕ
+limit_of = number_of 10 no_limit
 
+abbrev pub seed_of : Text → Option ℕ
+seed_of = number_of 20 (2 ^ 64 - 1)
+
+abbrev pub moments_of : Text → Option ℕ
+moments_of = number_of 7 1000000
+
+-- the forms with two words, with three, with four and with five
 abbrev pub check_form : Text → Text → Option Command
 check_form form book = if same_text form (codes "check") then Some (check book) else None
 
-abbrev pub replay_form : Text → Text → Text → Option ℕ → Option Command
-replay_form form book record' limit = if same_text form (codes "replay") then option_map (replay book record') limit else None
+abbrev pub record_form : Text → Text → Text → Option Command
+record_form form book record' =
+    if same_text form (codes "replay") then Some (replay book record' no_limit)
+    else (if same_text form (codes "why") then Some (why book record') else None)
 
-abbrev pub limit_form : Text → Text → Option ℕ
-limit_form option limit = if same_text option (codes "--limit") then limit_of limit else None
+abbrev pub drill_of : Text → Option ℕ → Option ℕ → Option Command
+drill_of book (Some seed) (Some moments) = Some (drill book seed moments)
+drill_of book (Some seed) None = None
+drill_of book None moments = None
+
+abbrev pub drill_form : Text → Text → Text → Text → Option Command
+drill_form form book seed moments =
+    if same_text form (codes "drill") then drill_of book (seed_of seed) (moments_of moments) else None
+
+abbrev pub limit_form : Text → Text → Text → Text → Text → Option Command
+limit_form form book record' option limit =
+    if same_text form (codes "replay") && same_text option (codes "--limit") then option_map (replay book record') (limit_of limit) else None
 
 -- what words ask for, if they have one of the forms
 unfoldable pub command_of : List Text → Option Command
 command_of (form ∷ book ∷ []) = check_form form book
-command_of (form ∷ book ∷ record' ∷ []) = replay_form form book record' (Some no_limit)
-command_of (form ∷ book ∷ record' ∷ option ∷ limit ∷ []) = replay_form form book record' (limit_form option limit)
+command_of (form ∷ book ∷ record' ∷ []) = record_form form book record'
+command_of (form ∷ book ∷ seed ∷ moments ∷ []) = drill_form form book seed moments
+command_of (form ∷ book ∷ record' ∷ option ∷ limit ∷ []) = limit_form form book record' option limit
 command_of _ = None
 
--- the line that tells the forms of the whole program
+-- the line that tells the forms
 abbrev pub usage : Text
 usage = codes "usage: check BOOK | replay BOOK RECORD [--limit N] | why BOOK RECORD | drill BOOK SEED MOMENTS"

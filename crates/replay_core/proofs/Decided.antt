@@ -4,12 +4,11 @@ use Rattle.ecam_io.specs.Outside.{FileHas, LacksFile, file_named}
 use Rattle.ecam_spec.specs.declared.kinds.BookFault.{BookFault}
 use Rattle.ecam_spec.specs.declared.kinds.RecordFault.{RecordFault}
 use Rattle.ecam_spec.specs.Book.{Text, Book}
-use Rattle.ecam_spec.specs.Command.{no_limit}
+use Rattle.ecam_spec.specs.Command.{Command, command_of, check, replay, why, drill, no_limit}
 use Rattle.ecam_spec.specs.Record.{fault}
 use Rattle.ecam_spec.specs.Summary.{summary}
 use Rattle.book_spec.specs.BookBytes.{book_fault, book}
 use Rattle.replay_core.specs.Calls.{ShelfCall, HasFailed, SinkCall, HasFailedToWrite}
-use Rattle.replay_core.specs.Command.{Command, command_of, check, replay, why, drill}
 use Rattle.replay_core.specs.Drill.{drill_line}
 use Rattle.replay_core.specs.Loading.{BookHas, HasFault, IsUnopened, IsUnread}
 use Rattle.replay_core.specs.Answers.{Endings, ByBook, ByRecord, Ends, replaying, explaining}

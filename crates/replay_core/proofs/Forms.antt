@@ -1,7 +1,7 @@
 -- Words by how many they are.
 use Rattle.std.proofs.Common.{◌≡◌, ◌≢◌, List, [], ◌∷◌, map, length, get_or, None, refl, sym, ap, ◌∙◌, arith}
 use Rattle.ecam_spec.specs.Book.{Text}
-use Rattle.replay_core.specs.Command.{command_of, check_form, record_form, drill_form, limit_form}
+use Rattle.ecam_spec.specs.Command.{command_of, check_form, record_form, drill_form, limit_form}
 
 module _ {W : Type 0} (bytes : W → Text) where
   pub two_words : (ws : List W) (a b : W) → length ws ≡ 2 → a ≡ get_or ws 0 a → b ≡ get_or ws 1 b

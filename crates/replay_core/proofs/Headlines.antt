@@ -7,9 +7,9 @@ use Rattle.ecam_spec.specs.Book.{Text, Book}
 use Rattle.ecam_spec.specs.Output.{end_line}
 use Rattle.ecam_spec.specs.Record.{fault, events}
 use Rattle.ecam_spec.specs.Replay.{history_blocks, tick_count, reply}
+use Rattle.ecam_spec.specs.Command.{command_of}
 use Rattle.book_spec.specs.BookBytes.{book}
 use Rattle.replay_core.specs.Calls.{ShelfCall, SinkCall, Writes}
-use Rattle.replay_core.specs.Command.{command_of}
 use Rattle.replay_core.specs.Answers.{ByRecord, Ends, RepliesWhole, replaying}
 use Rattle.replay_core.specs.Headline.{Replays, all_changes}
 use Rattle.replay_core.specs.Outcomes.{status_of}

@@ -7,8 +7,8 @@ use Rattle.std.proofs.lemmas.List.{take_all}
 use Rattle.std.proofs.lemmas.Bool.{lt-leb, le-leb, eqb-true, eqb-false}
 use Rattle.std.proofs.lemmas.List.Folds.{list_all_at}
 use Rattle.ecam_spec.specs.Book.{Text}
-use Rattle.ecam_spec.specs.Command.{spelled}
-use Rattle.replay_core.specs.Command.{number_of}
+use Rattle.ecam_spec.specs.TermNumber.{digits_value}
+use Rattle.ecam_spec.specs.Command.{number_of}
 
 module _ (longest most : ℕ) where
   -- a word without a byte, with too many, or with one that is no digit
@@ -28,12 +28,12 @@ module _ (longest most : ℕ) where
 
   -- a word of digits, gone through to its end
   module _ (w d : Text) (e : d ≡ w) (i n : ℕ) (few : 1 ≤ length d) (many : length d ≤ longest) (end : length d ≤ i)
-      (digits : list_all is_ascii_digit (take i d) ≡ true) (value : n ≡ spelled (take i d)) where
+      (digits : list_all is_ascii_digit (take i d) ≡ true) (value : n ≡ digits_value (take i d)) where
     whole_digits : list_all is_ascii_digit d ≡ true
     whole_digits = ap (list_all is_ascii_digit) (sym (take_all i d end)) ∙ digits
 
-    whole_value : spelled d ≡ n
-    whole_value = sym (value ∙ ap spelled (take_all i d end))
+    whole_value : digits_value d ≡ n
+    whole_value = sym (value ∙ ap digits_value (take_all i d end))
 
     spells : number_of longest most d ≡ cond (nat_le n most) (Some n) None
     unfolding number_of

@@ -7,9 +7,8 @@ use Rattle.ecam_spec.specs.Book.{Text, Book}
 use Rattle.ecam_spec.specs.Record.{fault, events}
 use Rattle.ecam_spec.specs.Replay.{reply, standing_lines}
 use Rattle.ecam_spec.specs.Summary.{summary}
-use Rattle.ecam_spec.specs.Command.{no_limit}
+use Rattle.ecam_spec.specs.Command.{Command, check, replay, why, drill, no_limit}
 use Rattle.replay_core.specs.Calls.{ShelfCall, OpenedOne, OpenedBoth, HasFailed, SinkCall, Writes, WritesPart, WritesNothing, HasFailedToWrite}
-use Rattle.replay_core.specs.Command.{Command, check, replay, why, drill}
 use Rattle.replay_core.specs.Drill.{drill_line}
 use Rattle.replay_core.specs.Loading.{BookHas, BookTaken, HasFault, IsUnopened, IsUnread}
 use Rattle.replay_core.specs.Play.{RepliesInPart}

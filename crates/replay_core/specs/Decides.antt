@@ -4,10 +4,9 @@ use Rattle.ecam_io.specs.Outside.{file_named}
 use Rattle.ecam_spec.specs.declared.kinds.BookFault.{BookFault}
 use Rattle.ecam_spec.specs.declared.kinds.RecordFault.{RecordFault}
 use Rattle.ecam_spec.specs.Book.{Text}
-use Rattle.ecam_spec.specs.Command.{no_limit}
+use Rattle.ecam_spec.specs.Command.{Command, command_of, check, replay, why, drill, no_limit}
 use Rattle.ecam_spec.specs.Record.{fault}
 use Rattle.book_spec.specs.BookBytes.{book_fault}
-use Rattle.replay_core.specs.Command.{Command, command_of, check, replay, why, drill}
 use Rattle.replay_core.specs.declared.outcome.Status.{Status}
 use Rattle.replay_core.specs.declared.outcome.Status.TheVariants as statuses
 

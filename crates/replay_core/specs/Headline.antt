@@ -6,9 +6,9 @@ use Rattle.ecam_spec.specs.Book.{Text, Book}
 use Rattle.ecam_spec.specs.Output.{blocks, end_line}
 use Rattle.ecam_spec.specs.Record.{events}
 use Rattle.ecam_spec.specs.Replay.{picture, tick_count}
+use Rattle.ecam_spec.specs.Command.{command_of, replay}
 use Rattle.book_spec.specs.BookBytes.{book}
 use Rattle.replay_core.specs.Calls.{Files}
-use Rattle.replay_core.specs.Command.{command_of, replay}
 
 -- the words ask for the replay of this whole history by this accepted book: the shelf tells its files, the one that the
 -- words name first is the book, and the events of the other one are the history

@@ -4,7 +4,6 @@ pub mod Runs
 pub mod Unaffected
 pub mod Loading
 pub mod Play
-pub mod Command
 pub mod Words
 pub mod Outcomes
 pub mod Drill

@@ -1,6 +1,6 @@
 -- What a command of the program asks for, as the definitions speak of it.
 use Rattle.std.specs.Prelude.{◌≤◌}
-use Rattle.replay_core.specs.Command as spec
+use Rattle.ecam_spec.specs.Command as spec
 use Rattle.replay_core.specs.declared.words.Command.{Command}
 use Rattle.replay_core.specs.declared.words.Command.TheVariants.{Check, Replay, Why, Drill}
 

@@ -7,7 +7,7 @@ ghost use Rattle.ecam_spec.specs.Summary as spec;
 ghost use Rattle.book_model.specs.Sealed.{the_book};
 ghost use Rattle.replay_core.specs.Answers.{ByBook, ByRecord, Ends, replaying, explaining};
 ghost use Rattle.replay_core.specs.Calls.{shelf_call, sink_call, HasFailed, HasFailedToWrite, Writes};
-ghost use Rattle.replay_core.specs.Command.{command_of};
+ghost use Rattle.ecam_spec.specs.Command.{command_of};
 ghost use Rattle.replay_core.specs.Decides.{Decides, DecidesUsage};
 ghost use Rattle.replay_core.specs.Headline.{Replays, all_changes};
 ghost use Rattle.replay_core.specs.Outcomes.{status_of, refusal_of, Complains};

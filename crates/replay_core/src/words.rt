@@ -1,6 +1,6 @@
 // The words of the command line, read by hand.
 ghost use Rattle.std.specs.Prelude.{◌≡◌, ◌≤◌, map, string_bytes, option_map, IfSome};
-ghost use Rattle.replay_core.specs.Command.{command_of, check_form, record_form, drill_form, limit_form, number_of};
+ghost use Rattle.ecam_spec.specs.Command.{command_of, check_form, record_form, drill_form, limit_form, number_of};
 ghost use Rattle.replay_core.specs.Words.{asked, IsShort};
 
 // What the words ask for, with the names of files and the numbers.
