@@ -2,9 +2,9 @@
 -- their limits.
 use Rattle.std.specs.Prelude.{◌≡◌, ◌≢◌, ℕ, suc, pos, neg_ℤ, ◌<◌, ◌≤◌, nat_lt, ◌≤ℤ◌, Bool, true, false, List, length, map, count_by, Option, Some, None, All, IfSome}
 use Rattle.ecam_spec.specs.declared.kinds.Colour.TheVariants.{Blank}
-use Rattle.ecam_spec.specs.declared.limits.TheConstants.{SYSTEMS, PAGES, PARAMETERS, ALERTS, MEMOS, PAGE_ROWS, SOURCES, SECONDARIES, LINES, STATUS_LINES, NAME, TEXT, SYSTEM_TEXT, VALUE_ROW_TEXT, UNIT, TERM_DEPTH, TERM_NODES, NUMBER, WAIT, STALE, PHASE_SETS}
+use Rattle.ecam_spec.specs.declared.limits.TheConstants.{SYSTEMS, PAGES, PARAMETERS, ALERTS, MEMOS, PAGE_ROWS, SOURCES, SECONDARIES, LINES, STATUS_LINES, NAME, TEXT, SYSTEM_TEXT, VALUE_ROW_TEXT, UNIT, TERM_DEPTH, TERM_NODES, NUMBER, WAIT, STALE, PHASE_SETS, BUSES}
 use Rattle.ecam_spec.specs.Bytes.{same_text}
-use Rattle.ecam_spec.specs.Book.{Text, Tree, Trees, constant, discrete, valid, compared, in_phase, alert, press, computer, negation, all, any, at_least, confirmed, held, risen, latched, none, more, Source, Parameter, PhaseTerms, Line, StatusLine, Memo, PageRow, Page}
+use Rattle.ecam_spec.specs.Book.{Text, Tree, Trees, compared, in_phase, negation, all, any, at_least, confirmed, held, risen, latched, none, more, Source, Parameter, PhaseTerms, Line, StatusLine, Memo, PageRow, Page}
 use Rattle.ecam_spec.specs.BookText.{is_name, is_text}
 use Rattle.ecam_spec.specs.TermSize.{nodes, depth}
 use Rattle.ecam_spec.specs.TermNames.{IsWithin}
@@ -26,14 +26,8 @@ count_of (more c cs) = suc (count_of cs)
 unfoldable mutual
   -- each number in the condition is in its range
   pub IsInRange : Tree → Type 0
-  IsInRange (constant b) = Unit {0}
-  IsInRange (discrete p) = Unit {0}
-  IsInRange (valid p) = Unit {0}
   IsInRange (compared p op x) = (neg_ℤ (pos NUMBER) ≤ℤ x) × (x ≤ℤ pos NUMBER)
   IsInRange (in_phase set) = set < PHASE_SETS
-  IsInRange (alert a) = Unit {0}
-  IsInRange (press key) = Unit {0}
-  IsInRange (computer n) = Unit {0}
   IsInRange (negation c) = IsInRange c
   IsInRange (all cs) = AreInRange cs
   IsInRange (any cs) = AreInRange cs
@@ -42,6 +36,7 @@ unfoldable mutual
   IsInRange (held c n) = (n ≤ WAIT) × IsInRange c
   IsInRange (risen c) = IsInRange c
   IsInRange (latched s r) = IsInRange s × IsInRange r
+  IsInRange _ = Unit {0}
 
   pub AreInRange : Trees → Type 0
   AreInRange none = Unit {0}
@@ -96,7 +91,7 @@ pub record IsSoundAlert (params alerts systems pages : ℕ) (a : DraftAlert) : T
   pub status : All IsSoundStatus a.status
 
 pub record IsSoundSource (s : Source) : Type 0 where
-  pub bus : s.bus < 16
+  pub bus : s.bus < BUSES
   pub label : s.label < 256
   pub sdi : IfSome s.sdi (λ n. n < 4)
   pub bit_low : 11 ≤ s.bit

@@ -4,7 +4,7 @@ use Rattle.std.specs.Prelude.{ℕ, ◌+◌, Bool, true, false, nat_lt, List, [],
 use Rattle.ecam_spec.specs.declared.kinds.Colour.{Colour}
 use Rattle.ecam_spec.specs.declared.kinds.Colour.TheVariants.{Red, Amber, Green}
 use Rattle.ecam_spec.specs.declared.kinds.Level.{Level}
-use Rattle.ecam_spec.specs.declared.kinds.Level.TheVariants.{One, Two, Three}
+use Rattle.ecam_spec.specs.declared.kinds.Level.TheVariants.{Three}
 use Rattle.ecam_spec.specs.declared.limits.TheConstants.{ZONE_ROWS}
 use Rattle.ecam_spec.specs.Book.{Line, Alert}
 use Rattle.ecam_spec.specs.Crew.{is_alert}
@@ -21,8 +21,7 @@ plain r = record { row = r; title_of = None }
 -- a title is red for level 3, else amber
 abbrev pub title_colour : Level → Colour
 title_colour Three = Red
-title_colour Two = Amber
-title_colour One = Amber
+title_colour _ = Amber
 
 -- the title of alert number a, and the lines of its procedure that stand
 unfoldable pub alert_rows : (Line → Bool) → ℕ → Alert → List LeftRow

@@ -6,18 +6,15 @@ use Rattle.ecam_spec.specs.declared.kinds.Level.TheVariants.{One, Two, Three}
 
 abbrev pub is_three : Level → Bool
 is_three Three = true
-is_three Two = false
-is_three One = false
+is_three _ = false
 
 abbrev pub is_two : Level → Bool
-is_two Three = false
 is_two Two = true
-is_two One = false
+is_two _ = false
 
 abbrev pub is_one : Level → Bool
-is_one Three = false
-is_one Two = false
 is_one One = true
+is_one _ = false
 
 abbrev pub is_caution_level : Level → Bool
 is_caution_level l = not (is_three l)

@@ -8,7 +8,7 @@ use Rattle.ecam_spec.specs.declared.kinds.Choice.TheVariants.{Auto, Page as Page
 use Rattle.ecam_spec.specs.declared.kinds.Colour.{Colour}
 use Rattle.ecam_spec.specs.declared.kinds.Colour.TheVariants.{Amber, Green, White}
 use Rattle.ecam_spec.specs.declared.kinds.Kind.{Kind}
-use Rattle.ecam_spec.specs.declared.kinds.Kind.TheVariants.{Disc, Bnr, Bcd}
+use Rattle.ecam_spec.specs.declared.kinds.Kind.TheVariants.{Disc}
 use Rattle.ecam_spec.specs.declared.limits.TheConstants.{VALUE_ROW_TEXT, DISPLAY_ROWS}
 use Rattle.ecam_spec.specs.Book.{Text, PageRow, Page}
 use Rattle.ecam_spec.specs.Term.{in_set}
@@ -18,8 +18,7 @@ use Rattle.ecam_spec.specs.StatusPage.{status_page}
 -- a discrete is ON or OFF, and a number is in decimal
 abbrev pub value_text : Kind → ℤ → Text
 value_text Disc z = if int_eq z (pos 1) then codes "ON" else codes "OFF"
-value_text Bnr z = signed_decimal z
-value_text Bcd z = signed_decimal z
+value_text _ z = signed_decimal z
 
 -- a text filled with blanks behind, or in front, to n places
 abbrev pub filled : ℕ → Text → Text

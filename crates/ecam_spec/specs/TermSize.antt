@@ -2,7 +2,7 @@
 -- moment to moment: each `confirmed`, `held`, `risen` and `latched` has one. The slots of a condition lie in
 -- preorder: a node's own comes first, then its children's, in order.
 use Rattle.std.specs.Prelude.{ℕ, ◌+◌, ◌≤◌, max, List, [], ◌∷◌}
-use Rattle.ecam_spec.specs.Book.{Tree, Trees, constant, discrete, valid, compared, in_phase, alert, press, computer, negation, all, any, at_least, confirmed, held, risen, latched, none, more}
+use Rattle.ecam_spec.specs.Book.{Tree, Trees, negation, all, any, at_least, confirmed, held, risen, latched, none, more}
 
 -- some conditions, in order
 abbrev pub trees : List Tree → Trees
@@ -12,14 +12,6 @@ trees (c ∷ cs) = more c (trees cs)
 unfoldable mutual
   -- how many nodes it has
   pub nodes : Tree → ℕ
-  nodes (constant b) = 1
-  nodes (discrete p) = 1
-  nodes (valid p) = 1
-  nodes (compared p op x) = 1
-  nodes (in_phase set) = 1
-  nodes (alert a) = 1
-  nodes (press key) = 1
-  nodes (computer n) = 1
   nodes (negation c) = nodes c + 1
   nodes (all cs) = nodes_of cs + 1
   nodes (any cs) = nodes_of cs + 1
@@ -28,6 +20,7 @@ unfoldable mutual
   nodes (held c n) = nodes c + 1
   nodes (risen c) = nodes c + 1
   nodes (latched s r) = nodes s + nodes r + 1
+  nodes _ = 1
 
   pub nodes_of : Trees → ℕ
   nodes_of none = 0
@@ -36,14 +29,6 @@ unfoldable mutual
 unfoldable mutual
   -- how many nodes stand on its longest way down: an atom has 1
   pub depth : Tree → ℕ
-  depth (constant b) = 1
-  depth (discrete p) = 1
-  depth (valid p) = 1
-  depth (compared p op x) = 1
-  depth (in_phase set) = 1
-  depth (alert a) = 1
-  depth (press key) = 1
-  depth (computer n) = 1
   depth (negation c) = depth c + 1
   depth (all cs) = depth_of cs + 1
   depth (any cs) = depth_of cs + 1
@@ -52,6 +37,7 @@ unfoldable mutual
   depth (held c n) = depth c + 1
   depth (risen c) = depth c + 1
   depth (latched s r) = max (depth s) (depth r) + 1
+  depth _ = 1
 
   -- the greatest of their depths
   pub depth_of : Trees → ℕ
@@ -61,14 +47,6 @@ unfoldable mutual
 unfoldable mutual
   -- how many slots it has
   pub slots : Tree → ℕ
-  slots (constant b) = 0
-  slots (discrete p) = 0
-  slots (valid p) = 0
-  slots (compared p op x) = 0
-  slots (in_phase set) = 0
-  slots (alert a) = 0
-  slots (press key) = 0
-  slots (computer n) = 0
   slots (negation c) = slots c
   slots (all cs) = slots_of cs
   slots (any cs) = slots_of cs
@@ -77,6 +55,7 @@ unfoldable mutual
   slots (held c n) = slots c + 1
   slots (risen c) = slots c + 1
   slots (latched s r) = slots s + slots r + 1
+  slots _ = 0
 
   pub slots_of : Trees → ℕ
   slots_of none = 0
