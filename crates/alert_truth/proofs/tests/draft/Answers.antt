@@ -4,6 +4,7 @@ use Rattle.ecam_spec.specs.declared.kinds.Level.TheVariants.{One}
 use Rattle.ecam_spec.specs.declared.kinds.Sound.TheVariants.{Quiet}
 use Rattle.ecam_spec.specs.Book.{Text, constant}
 use Rattle.ecam_spec.specs.BookText.{is_name, is_text, reserved}
+use Rattle.ecam_spec.specs.Token.{reserved_words}
 use Rattle.ecam_spec.specs.TermSize.{nodes, depth}
 use Rattle.ecam_spec.specs.TermNames.{IsWithin}
 use Rattle.ecam_spec.specs.Draft as plain
@@ -91,7 +92,7 @@ abbrev Short : Text → Type 0
 Short n = length n ≤ 24
 
 sound_alerts : All (IsSoundAlert 0 4 1 0) four
-unfolding is_name reserved
+unfolding is_name reserved reserved_words
 sound_alerts =
     All-cons (IsSoundAlert 0 4 1 0) slow (inhibited ∷ third ∷ last ∷ []) (sound_alert (codes "slow") 3 0 (codes "last" ∷ []) refl (omega arith) (omega arith) (omega arith) (All-cons Short (codes "last") [] (omega arith) (All-nil Short)))
     (All-cons (IsSoundAlert 0 4 1 0) inhibited (third ∷ last ∷ []) (sound_alert (codes "inhibited") 0 28 (codes "third" ∷ codes "last" ∷ []) refl (omega arith) (omega arith) (omega arith)

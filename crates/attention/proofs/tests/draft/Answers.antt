@@ -6,6 +6,7 @@ use Rattle.ecam_spec.specs.declared.kinds.Sound.{Sound}
 use Rattle.ecam_spec.specs.declared.kinds.Sound.TheVariants.{Quiet, Chime, Repetitive, Cavalry}
 use Rattle.ecam_spec.specs.Book.{Text, constant}
 use Rattle.ecam_spec.specs.BookText.{is_name, is_text, reserved}
+use Rattle.ecam_spec.specs.Token.{reserved_words}
 use Rattle.ecam_spec.specs.TermSize.{nodes, depth}
 use Rattle.ecam_spec.specs.TermNames.{IsWithin}
 use Rattle.ecam_spec.specs.Draft as plain
@@ -82,7 +83,7 @@ sound_alert name level sound is-name = record {
 }
 
 sound_alerts : All (IsSoundAlert 0 5 1 0) five
-unfolding is_name reserved
+unfolding is_name reserved reserved_words
 sound_alerts =
     All-cons (IsSoundAlert 0 5 1 0) (own (codes "c") Two Chime) (own (codes "w") Three Repetitive ∷ own (codes "q") Two Quiet ∷ own (codes "v") Three Cavalry ∷ own (codes "a") One Quiet ∷ []) (sound_alert (codes "c") Two Chime refl)
     (All-cons (IsSoundAlert 0 5 1 0) (own (codes "w") Three Repetitive) (own (codes "q") Two Quiet ∷ own (codes "v") Three Cavalry ∷ own (codes "a") One Quiet ∷ []) (sound_alert (codes "w") Three Repetitive refl)

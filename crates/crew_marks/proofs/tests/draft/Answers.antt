@@ -6,6 +6,7 @@ use Rattle.ecam_spec.specs.declared.kinds.Sound.{Sound}
 use Rattle.ecam_spec.specs.declared.kinds.Sound.TheVariants.{Quiet, Cricket}
 use Rattle.ecam_spec.specs.Book.{Text, constant}
 use Rattle.ecam_spec.specs.BookText.{is_name, is_text, reserved}
+use Rattle.ecam_spec.specs.Token.{reserved_words}
 use Rattle.ecam_spec.specs.TermSize.{nodes, depth}
 use Rattle.ecam_spec.specs.TermNames.{IsWithin}
 use Rattle.ecam_spec.specs.Draft as plain
@@ -77,7 +78,7 @@ sound_alert name level sound is-name = record {
 }
 
 sound_alerts : All (IsSoundAlert 0 3 1 0) three
-unfolding is_name reserved
+unfolding is_name reserved reserved_words
 sound_alerts =
     All-cons (IsSoundAlert 0 3 1 0) (own (codes "x") One Quiet) (own (codes "y") Two Quiet ∷ own (codes "w") Three Cricket ∷ []) (sound_alert (codes "x") One Quiet refl)
     (All-cons (IsSoundAlert 0 3 1 0) (own (codes "y") Two Quiet) (own (codes "w") Three Cricket ∷ []) (sound_alert (codes "y") Two Quiet refl)

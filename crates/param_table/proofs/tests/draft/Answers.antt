@@ -3,6 +3,7 @@ use Rattle.std.proofs.lemmas.List.Elements.{All-nil, All-cons}
 use Rattle.ecam_spec.specs.declared.kinds.Kind.TheVariants.{Bcd, Disc}
 use Rattle.ecam_spec.specs.Book.{constant, Source, Parameter}
 use Rattle.ecam_spec.specs.BookText.{is_name, reserved}
+use Rattle.ecam_spec.specs.Token.{reserved_words}
 use Rattle.ecam_spec.specs.TermSize.{nodes, depth}
 use Rattle.ecam_spec.specs.TermNames.{IsWithin}
 use Rattle.ecam_spec.specs.Draft as plain
@@ -52,7 +53,7 @@ sound_source bus label bus_small label_small = record {
 }
 
 sound_parameters : All IsSoundParameter (number ∷ bit ∷ [])
-unfolding is_name reserved
+unfolding is_name reserved reserved_words
 sound_parameters =
     All-cons IsSoundParameter number (bit ∷ []) (record {
       name = refl;

@@ -10,6 +10,7 @@ use Rattle.ecam_spec.specs.declared.kinds.Colour.{Colour}
 use Rattle.ecam_spec.specs.declared.kinds.Colour.TheVariants.{White, Cyan, Blank}
 use Rattle.ecam_spec.specs.Book.{Text, constant, Source, Parameter, PageRow, Page}
 use Rattle.ecam_spec.specs.BookText.{is_name, is_text, reserved}
+use Rattle.ecam_spec.specs.Token.{reserved_words}
 use Rattle.ecam_spec.specs.TermSize.{nodes, depth}
 use Rattle.ecam_spec.specs.TermNames.{IsWithin}
 use Rattle.ecam_spec.specs.Draft as plain
@@ -91,7 +92,7 @@ sound_rows =
     (All-cons (IsSoundRow 2) (row (codes "RESERVE") None None Cyan) [] (record { text = refl; show = tt; unit = tt; colour = λ e. cc }) (All-nil (IsSoundRow 2)))))
 
 sound_pages : All (IsSoundPage 2) three
-unfolding is_name reserved is_text
+unfolding is_name reserved reserved_words is_text
 sound_pages =
     All-cons (IsSoundPage 2) (page (codes "hyd") (codes "HYD") four) (page (codes "p2") (codes "P2") [] ∷ page (codes "p3") (codes "P3") [] ∷ []) (record { name = refl; title = refl; phases = omega arith; row_count = omega arith; rows = sound_rows })
     (All-cons (IsSoundPage 2) (page (codes "p2") (codes "P2") []) (page (codes "p3") (codes "P3") [] ∷ []) (record { name = refl; title = refl; phases = omega arith; row_count = omega arith; rows = All-nil (IsSoundRow 2) })
@@ -152,7 +153,7 @@ abbrev names : List Text
 names = codes "caution" ∷ codes "warning" ∷ []
 
 sound : IsSound sample
-unfolding is_name reserved is_text
+unfolding is_name reserved reserved_words is_text
 sound = record {
   system_count = omega arith;
   systems = All-cons (λ s. is_text 16 s ≡ true) (codes "HYD") [] refl (All-nil (λ s. is_text 16 s ≡ true));
