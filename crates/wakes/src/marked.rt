@@ -1,0 +1,109 @@
+// A set of numbers that is gone through in their order.
+ghost use Rattle.std.specs.Prelude.{◌≡◌, ℕ, ◌*◌, ◌/◌, ◌<◌, ◌≤◌, ◌^◌, ◌==◌, ◌||◌, ◌&&◌, not, true, false, List, length, IfOk};
+ghost use Rattle.std.specs.Int.{bit_at};
+ghost use Rattle.wakes.specs.Marks.{is_marked, room, Finds};
+
+use std::alloc::{AllocError, Global};
+use std::marker::Model;
+
+/// A set of numbers below a size, of one bit each. It can't grow after it was made.
+#[derive(Drop)]
+pub struct Marked {
+    words: Vec<u64>,
+}
+
+// A number is in the set where its bit is set.
+impl Model for Marked {
+    ghost Value = { List ℕ };
+
+    ghost view = { λ s. s.words.items };
+
+    ghost invariant = { λ s. length s.words.items ≤ 2 ^ 32 };
+}
+
+impl Marked {
+    /// The empty set of numbers below `count`. An error is want of memory.
+    pub fn new(alloc: Global, count: usize) -> Result<Marked, AllocError>
+        requires { count < 2 ^ 32 }
+        ensures room { IfOk result (λ s. count ≤ room s) }
+        ensures none { IfOk result (λ s. (i : ℕ) → is_marked s i ≡ false) }
+    {
+        Ok(Marked {
+            words: vec![in alloc; 0u64; count / 64 + 1]?,
+        })
+    }
+
+    /// Takes all numbers out. Its cost is one write for each 64 numbers.
+    pub fn clear(&mut self)
+        ensures room { room self.new ≡ room self.old }
+        ensures none { (i : ℕ) → is_marked self.new i ≡ false }
+    {
+        self.words.fill(0);
+    }
+
+    /// Puts a number in. Its cost is one write.
+    pub fn mark(&mut self, i: usize)
+        requires { i < room self.old }
+        ensures room { room self.new ≡ room self.old }
+        ensures marks { (j : ℕ) → is_marked self.new j ≡ (j == i || is_marked self.old j) }
+    {
+        self.words[i / 64] |= 1 << (i % 64);
+    }
+
+    /// Takes a number out. Its cost is one write.
+    pub fn unmark(&mut self, i: usize)
+        requires { i < room self.old }
+        ensures room { room self.new ≡ room self.old }
+        ensures marks { (j : ℕ) → is_marked self.new j ≡ (not (j == i) && is_marked self.old j) }
+    {
+        self.words[i / 64] &= !(1 << (i % 64));
+    }
+
+    /// The first number of the set from `from` on. Its cost is one look for each 64 numbers that it goes over.
+    pub fn first_from(&self, from: usize) -> Option<usize>
+        ensures { Finds self.now from result }
+    {
+        let place = from / 64;
+        if place >= self.words.len() {
+            return None;
+        }
+        let rest = bits_from(self.words[place], from % 64);
+        if rest != 0 {
+            return Some(from + lowest(rest));
+        }
+        first_in(&self.words, place + 1)
+    }
+}
+
+// The first number with a bit, from a word on.
+fn first_in(words: &[u64], start: usize) -> Option<usize>
+    requires few { length words.now ≤ 2 ^ 32 }
+    ensures { Finds words.now (64 * start) result }
+{
+    for i in start..words.len() {
+        let word = words[i];
+        if word != 0 {
+            return Some(64 * i + lowest(word));
+        }
+    }
+    None
+}
+
+// The bits of a word from one on.
+fn bits_from(word: u64, bit: usize) -> u64
+    requires { bit < 64 }
+    ensures bits { result ≡ word / 2 ^ bit }
+    ensures fits { word < 2 ^ 64 }
+{
+    word >> bit
+}
+
+// The place of the lowest bit.
+fn lowest(word: u64) -> usize
+    requires { 0 < word }
+    ensures within { result < 64 }
+    ensures set { bit_at word result ≡ 1 }
+    ensures lowest { (i : ℕ) → i < result → bit_at word i ≡ 0 }
+{
+    word.trailing_zeros() as usize
+}

@@ -1,0 +1,37 @@
+// A few numbers that are marked, and a few that are due.
+use crate::{Marked, Wakes};
+use std::test::Fail;
+
+#[test]
+fn goes_through_in_order(rt: HostRuntime) -> Result<(), Fail> {
+    let mut marked = Marked::new(rt.alloc(), 200)?;
+    marked.mark(130);
+    marked.mark(3);
+    marked.mark(64);
+    assert_eq!(rt; marked.first_from(0), Some(3));
+    assert_eq!(rt; marked.first_from(4), Some(64));
+    marked.unmark(64);
+    assert_eq!(rt; marked.first_from(4), Some(130));
+    assert_eq!(rt; marked.first_from(131), None);
+    marked.clear();
+    assert_eq!(rt; marked.first_from(0), None);
+    Ok(())
+}
+
+#[test]
+fn finds_the_first_that_is_due(rt: HostRuntime) -> Result<(), Fail> {
+    let mut wakes = Wakes::new(rt.alloc(), 5)?;
+    wakes.set(4, 10);
+    wakes.set(2, 7);
+    assert_eq!(rt; wakes.first(6), None);
+    assert_eq!(rt; wakes.first(9), Some(2));
+    assert_eq!(rt; wakes.first(10), Some(2));
+    wakes.set(2, u64::MAX);
+    assert_eq!(rt; wakes.first(10), Some(4));
+    let mut others = Wakes::new(rt.alloc(), 5)?;
+    others.copy_from(&wakes);
+    assert_eq!(rt; others.first(10), Some(4));
+    wakes.clear();
+    assert_eq!(rt; wakes.first(10), None);
+    Ok(())
+}

@@ -1,0 +1,6 @@
+pub mod Adding
+pub mod Listing
+pub mod Naming
+pub mod Lines
+pub mod Flattening
+pub mod Watches

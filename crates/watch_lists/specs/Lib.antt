@@ -1,0 +1,4 @@
+pub mod Naming
+pub mod Listed
+pub mod Flat
+pub mod Watching

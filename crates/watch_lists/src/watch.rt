@@ -1,0 +1,54 @@
+// The lists of a book in one.
+ghost use Rattle.std.specs.Prelude.{◌≡◌, ℕ, ◌<◌, length, IfOk};
+ghost use Rattle.book_model.specs.Sealed.{the_book};
+ghost use Rattle.book_model.specs.Conditions.{places};
+ghost use Rattle.book_model.specs.declared.draft.Draft.{Draft};
+ghost use Rattle.watch_lists.specs.Naming.{sizes_of, operand_count, names_at};
+ghost use Rattle.watch_lists.specs.Listed.{has_term, items_of};
+ghost use Rattle.watch_lists.specs.Flat.{IsFlat};
+ghost use Rattle.watch_lists.specs.Watching.{IsWatch};
+
+use crate::book::lists_of;
+use book_model::Book;
+use std::alloc::{AllocError, Global};
+
+/// Per operand of a book the numbers of the conditions that name it, in one flat list. Nothing changes it.
+#[derive(Drop)]
+pub struct Watch {
+    starts: Vec<usize>,
+    terms: Vec<usize>,
+}
+
+impl Watch {
+    /// The watch of a book. Its cost is one visit of each node of the book's conditions. An error is want of memory.
+    pub fn new(alloc: Global, book: &Book) -> Result<Watch, AllocError>
+        ensures { IfOk result (IsWatch book.now) }
+    {
+        let lists = lists_of(alloc, book)?;
+        let (starts, terms) = flatten(alloc, &lists)?;
+        Ok(Watch { starts, terms })
+    }
+
+    /// The numbers of the conditions that name an operand, each once for each time that it does.
+    pub fn listed(&self, operand: usize) -> &[usize]
+        requires { (d : Draft) × IsWatch d self.now × (operand < operand_count (sizes_of d)) }
+        ensures { (d : Draft) → IsWatch d self.now → operand < operand_count (sizes_of d)
+            → (j : ℕ) → has_term result.now j ≡ names_at (sizes_of d) (places (the_book d)) j operand }
+    {
+        &self.terms[self.starts[operand]..self.starts[operand + 1]]
+    }
+}
+
+// The lists one behind another, and where each starts.
+fn flatten(alloc: Global, lists: &[Vec<usize>]) -> Result<(Vec<usize>, Vec<usize>), AllocError>
+    ensures { IfOk result (λ r. IsFlat (items_of lists.now) r.0.items r.1.items) }
+{
+    let mut starts = Vec::new(alloc);
+    let mut terms = Vec::new(alloc);
+    starts.push(0)?;
+    for list in lists {
+        terms.extend_from_slice(list)?;
+        starts.push(terms.len())?;
+    }
+    Ok((starts, terms))
+}
