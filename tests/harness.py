@@ -1,0 +1,140 @@
+"""What the scripts of this folder share: runs of the program, calls of it that fail, and the tally of what is wanted.
+
+Each script is started as `tests/NAME [PROGRAM]`, where PROGRAM is the built replay program.
+"""
+
+import os
+import shutil
+import subprocess
+import sys
+import tempfile
+from collections import namedtuple
+
+TOP = os.path.dirname(os.path.dirname(os.path.abspath(__file__)))
+NAME = os.path.basename(sys.argv[0])
+PROGRAM = os.path.abspath(sys.argv[1] if len(sys.argv) > 1 else f"{TOP}/crates/ecam_replay/out/ecam_replay")
+EXAMPLES = f"{TOP}/examples"
+UNREAD = (4, b"", b"read fault\n")
+
+# The book and the record of a failure with its procedure and its secondary, and what `replay` writes of them.
+BOOK = f"{EXAMPLES}/hydraulics/book.toml"
+RECORD = f"{EXAMPLES}/hydraulics/record"
+with open(f"{EXAMPLES}/hydraulics/expected", "rb") as it:
+    SHOWN = it.read()
+
+# The four commands on them, and what each writes.
+COMMANDS = {
+    "check": (("check", BOOK), b"OK alerts 2 params 3 memos 0 pages 1 slots 0\n"),
+    "replay": (("replay", BOOK, RECORD), SHOWN),
+    "why": (("why", BOOK, RECORD), b"g_rsvr titled 1\ng_press_lo starred g_rsvr\n"),
+    "drill": (("drill", BOOK, "7", "600"), b"moments 600 blocks 3 lines 8 bytes 162\n"),
+}
+
+if not os.access(PROGRAM, os.X_OK):
+    sys.exit(f"{NAME}: {PROGRAM} isn't there: build it by ./ecam_replay, or name a built program")
+
+_scratch = tempfile.TemporaryDirectory(prefix="ecam-tests-")
+SCRATCH = _scratch.name
+
+# How a run ended: its status, and what it wrote to standard output and standard error.
+Ran = namedtuple("Ran", "status out err")
+
+# What a run called: allocations, those before its last open, opens and reads, writes to standard output and to standard
+# error, closes; and the most memory that it had in use at once, in KiB.
+Calls = namedtuple("Calls", "alloc early files out err close most")
+
+
+def run(words, stdin=subprocess.DEVNULL, stdout=None, stderr=None, seconds=60, prepare=None, **settings):
+    """Runs the program on these words. `stdout` and `stderr` stand in the place of what is else caught. A run that takes
+    longer is ended, and has the status -9."""
+    with tempfile.TemporaryFile() as out, tempfile.TemporaryFile() as err:
+        given = {"stdin": stdin, "stdout": stdout or out, "stderr": stderr or err, "preexec_fn": prepare}
+        if isinstance(stdin, bytes):
+            given["stdin"] = subprocess.PIPE
+        environment = {**os.environ, **{name: str(value) for name, value in settings.items()}}
+        process = subprocess.Popen([PROGRAM, *words], env=environment, **given)
+        try:
+            process.communicate(stdin if isinstance(stdin, bytes) else None, timeout=seconds)
+        except subprocess.TimeoutExpired:
+            process.kill()
+            process.wait()
+        out.seek(0)
+        err.seek(0)
+        return Ran(process.returncode, out.read(), err.read())
+
+
+def scratch(name, content):
+    """A file of this content in the scratch folder."""
+    path = f"{SCRATCH}/{name}"
+    with open(path, "wb") as it:
+        it.write(content if isinstance(content, bytes) else content.encode())
+    return path
+
+
+def built_failing():
+    """The library that makes calls fail, or None where there is no C compiler."""
+    compiler = os.environ.get("CC") or shutil.which("cc") or shutil.which("clang") or shutil.which("gcc")
+    if not compiler:
+        print(f"{NAME}: there is no C compiler, so failing calls aren't tried")
+        return None
+    library = f"{SCRATCH}/failing.so"
+    source = f"{TOP}/tests/failing.c"
+    subprocess.run([compiler, "-O2", "-shared", "-fPIC", "-o", library, source, "-ldl"], check=True)
+    return library
+
+
+_failing = []
+
+
+def failing():
+    """The same, built once."""
+    if not _failing:
+        _failing.append(built_failing())
+    return _failing[0]
+
+
+def fails(words, kind=None, first=1, last=None, why=5, **more):
+    """Runs the program with the calls of that kind failing from the first to the last one."""
+    settings = {"LD_PRELOAD": failing(), **more}
+    if kind:
+        settings |= {"FAIL_KIND": kind, "FAIL_FIRST": first, "FAIL_ERRNO": why}
+        if last != "all":
+            settings["FAIL_LAST"] = last or first
+    return run(words, **settings)
+
+
+def calls(words, **more):
+    """How a run ends with nothing failing, and which calls it makes."""
+    told = f"{SCRATCH}/told"
+    ran = fails(words, TOLD=told, **more)
+    with open(told, encoding="ascii") as it:
+        return ran, Calls(*map(int, it.read().split()))
+
+
+_tally = {"tried": 0, "failed": 0}
+
+
+def short(got):
+    text = repr(got)
+    return text if len(text) < 300 else f"{text[:280]} .. ({len(text)} characters)"
+
+
+def want(what, got, wanted):
+    """Counts a case, and says where it isn't as wanted."""
+    _tally["tried"] += 1
+    if isinstance(got, tuple) and tuple(got) == wanted or got == wanted:
+        return
+    _tally["failed"] += 1
+    if _tally["failed"] <= 40:
+        print(f"{NAME}: {what}: not as expected, but {short(got)}; wanted {short(wanted)}")
+
+
+def note(text):
+    print(f"{NAME}: {text}", flush=True)
+
+
+def end():
+    """Says how many cases there were, and ends with 1 where one wasn't as wanted."""
+    tried, failed = _tally["tried"], _tally["failed"]
+    note(f"{tried} cases, {'all as expected' if not failed else f'{failed} not as expected'}")
+    sys.exit(1 if failed else 0)
