@@ -34,7 +34,7 @@ find-more q lists a n =
     ∙ ap (λ o. option_or (find q (filter lists_it (below n))) o) (find-one q (lists_it n) n)
 
 -- the first that passes is told by the tests of these alerts
-pub find-same : (q r : ℕ → Bool) (lists : List (List ℕ)) (a n : ℕ) → ((p : ℕ) → p < n → q p ≡ r p) → find q (listing lists a n) ≡ find r (listing lists a n)
+find-same : (q r : ℕ → Bool) (lists : List (List ℕ)) (a n : ℕ) → ((p : ℕ) → p < n → q p ≡ r p) → find q (listing lists a n) ≡ find r (listing lists a n)
 find-same q r lists a zero same = find-none q lists a ∙ sym (find-none r lists a)
 find-same q r lists a (suc n) same =
     let lists_it : Bool = list_any (λ s. eqb s a) (get_or lists n []) in
@@ -55,6 +55,9 @@ secondaries_of b = map (λ (p : Alert). p.secondary) b.alerts
 pub primaries-listing : (b : Book) (a : ℕ) → primaries b a ≡ listing (secondaries_of b) a (length b.alerts)
 unfolding primaries primaries_in listing
 primaries-listing b a = ap (λ n. listing (secondaries_of b) a n) (length-map b.alerts (λ (p : Alert). p.secondary))
+
+pub same-primary : (b : Book) (a : ℕ) (q r : ℕ → Bool) → ((p : ℕ) → p < length b.alerts → q p ≡ r p) → find q (primaries b a) ≡ find r (primaries b a)
+same-primary b a q r same = ap (find q) (primaries-listing b a) ∙ find-same q r (secondaries_of b) a (length b.alerts) same ∙ ap (find r) (sym (primaries-listing b a))
 
 -- an alert that passes adds itself where it lists a and none before it did
 pub found-step : (q : ℕ → Bool) (lists : List (List ℕ)) (a n : ℕ) (o more : Option ℕ) (own : List ℕ) → slice_get lists n ≡ Some own → q n ≡ true

@@ -1,18 +1,18 @@
 -- The stars of a book's alerts, one alert after another.
-use Rattle.std.proofs.Common.{◌≡◌, ℕ, suc, ◌<◌, ◌≤◌, Bool, true, false, not, ◌&&◌, ◌||◌, List, length, get_or, replicate, Option, Some, None, cond, inl, inr, refl, sym, ap, ◌∙◌, subst, arith}
-use Rattle.std.specs.Prelude.{find, is_some, ◌↔◌}
+use Rattle.std.proofs.Common.{◌≡◌, ℕ, zero, suc, ◌<◌, ◌≤◌, Bool, true, false, not, ◌&&◌, List, length, get_or, replicate, Option, Some, None, cond, inl, inr, refl, sym, ap, ◌∙◌, subst, arith}
+use Rattle.std.specs.Prelude.{find, is_some}
 use Rattle.std.specs.List.{list_any}
-use Rattle.std.proofs.lemmas.Bool.{cases_lt, or_parts, or_from}
+use Rattle.std.proofs.lemmas.Bool.{cases_lt}
 use Rattle.std.proofs.lemmas.List.{length-set, get_or-set_same, get_or-set_other, get_or_past, get_or-replicate}
 use Rattle.ecam_spec.specs.Past.{Signal, previous}
 use Rattle.ecam_spec.specs.Book.{Book}
 use Rattle.ecam_spec.specs.Alert as alert
 use Rattle.ecam_spec.specs.Situation.{primaries}
 use Rattle.alert_truth.specs.Runs.{previously}
-use Rattle.alert_truth.specs.Alerts.{Tells}
+use Rattle.alert_truth.specs.Alerts.{Tells, starred_by_where}
 use Rattle.alert_truth.specs.Stars.{StarsFit, StarsStand, HasPlace, Takes}
 use Rattle.alert_truth.specs.declared.stars.Stars.{Stars}
-use Rattle.alert_truth.proofs.Listings.{secondaries_of, find-same, find-is_some, primaries-listing}
+use Rattle.alert_truth.proofs.Listings.{find-is_some, same-primary}
 
 -- the alert's first primary, by the flags of the active alerts and by what was found
 abbrev pub primary_of : List Bool → List (Option ℕ) → ℕ → Option ℕ
@@ -26,17 +26,15 @@ pub record IsTaken (flags : List Bool) (first now : Stars) (a : ℕ) : Type 0 wh
   pub up : get_or now.up.items a false ≡ (get_or flags a false && not (is_some (primary_of flags first.found.items a)))
 
 -- the alerts below i have taken over what was found, and the others haven't
-pub record IsHalfTaken (flags : List Bool) (first now : Stars) (i : ℕ) (has_changed : Bool) : Type 0 where
+pub record IsHalfTaken (flags : List Bool) (first now : Stars) (i : ℕ) : Type 0 where
   pub found_places : length now.found.items ≡ length first.found.items
   pub primary_places : length now.primaries.items ≡ length first.primaries.items
   pub starred_places : length now.starred.items ≡ length first.starred.items
   pub up_places : length now.up.items ≡ length first.up.items
   pub taken : (a : ℕ) → a < i → IsTaken flags first now a
   pub found : (a : ℕ) → i ≤ a → get_or now.found.items a None ≡ get_or first.found.items a None
-  pub primaries : (a : ℕ) → i ≤ a → get_or now.primaries.items a None ≡ get_or first.primaries.items a None
-  pub changed : (has_changed ≡ false) ↔ ((a : ℕ) → a < i → get_or now.primaries.items a None ≡ get_or first.primaries.items a None)
 
-pub nothing-taken : (flags : List Bool) (first : Stars) → IsHalfTaken flags first first 0 false
+pub nothing-taken : (flags : List Bool) (first : Stars) → IsHalfTaken flags first first 0
 nothing-taken flags first = record {
   found_places = refl;
   primary_places = refl;
@@ -44,15 +42,12 @@ nothing-taken flags first = record {
   up_places = refl;
   taken = λ a below. absurd (omega arith);
   found = λ a from. refl;
-  primaries = λ a from. refl;
-  changed = (λ e a below. absurd (omega arith), λ h. refl);
 }
 
 -- one more
-pub one-taken : (flags : List Bool) (first now next : Stars) (i : ℕ) (changed here : Bool) → HasPlace i now → Takes i (get_or flags i false) now next
-    → ((here ≡ false) ↔ (get_or next.primaries.items i None ≡ get_or now.primaries.items i None))
-    → IsHalfTaken flags first now i changed → IsHalfTaken flags first next (suc i) (changed || here)
-one-taken flags first now next i changed here has takes told half =
+pub one-taken : (flags : List Bool) (first now next : Stars) (i : ℕ) → HasPlace i now → Takes i (get_or flags i false) now next
+    → IsHalfTaken flags first now i → IsHalfTaken flags first next (suc i)
+one-taken flags first now next i has takes half =
     let other_found : (a : ℕ) → (a ≡ i → ⊥) → get_or next.found.items a None ≡ get_or now.found.items a None
     = λ a apart. ap (λ xs. get_or xs a None) takes.found ∙ get_or-set_other now.found.items i a None None apart in
     let other_primaries : (a : ℕ) → (a ≡ i → ⊥) → get_or next.primaries.items a None ≡ get_or now.primaries.items a None
@@ -87,18 +82,6 @@ one-taken flags first now next i changed here has takes told half =
         | inr reached ↦ let same : i ≡ a = omega arith in subst (IsTaken flags first next) same own
       ];
       found = λ a from. other_found a (λ e. omega arith) ∙ half.found a (omega arith);
-      primaries = λ a from. other_primaries a (λ e. omega arith) ∙ half.primaries a (omega arith);
-      changed = (
-        λ e a below. elim (cases_lt a i) [
-          | inl earlier ↦ other_primaries a (λ w. omega arith) ∙ half.changed.0 (or_parts changed here e).0 a earlier
-          | inr reached ↦
-              let same : a ≡ i = omega arith in
-              rw same (told.0 (or_parts changed here e).1 ∙ half.primaries i (omega arith))
-        ],
-        λ h. or_from changed here
-            (half.changed.1 (λ a below. sym (other_primaries a (λ w. omega arith)) ∙ h a (omega arith)))
-            (told.1 (h i (omega arith) ∙ sym (half.primaries i (omega arith)))),
-      );
     }
 
 first-of : (x : Bool) (q : ℕ → Bool) (ps : List ℕ) → cond x (find q ps) None ≡ cond (x && list_any q ps) (find q ps) None
@@ -117,10 +100,10 @@ some-of true q ps = find-is_some q ps
 
 -- all of them
 module _ (b : Book) (flags : List Bool) (first now : Stars) (count : length flags ≡ length b.alerts) where
-  pub taken-fits : (changed : Bool) → IsHalfTaken flags first now (length flags) changed
+  pub taken-fits : IsHalfTaken flags first now (length flags)
       → length first.found.items ≡ length b.alerts → length first.primaries.items ≡ length b.alerts
       → length first.starred.items ≡ length b.alerts → length first.up.items ≡ length b.alerts → StarsFit b now
-  taken-fits changed half found primary starred up = record {
+  taken-fits half found primary starred up = record {
     found = half.found_places ∙ found;
     primaries = half.primary_places ∙ primary;
     starred = half.starred_places ∙ starred;
@@ -132,18 +115,16 @@ module _ (b : Book) (flags : List Bool) (first now : Stars) (count : length flag
   }
 
   -- the stars stand for one moment more
-  pub taken-stands : (changed : Bool) → IsHalfTaken flags first now (length flags) changed
+  pub taken-stands : IsHalfTaken flags first now (length flags)
       → ((a : ℕ) → get_or first.found.items a None ≡ find (λ p. get_or flags p false) (primaries b a))
       → (active : ℕ → Signal) (k : ℕ) → Tells (length b.alerts) flags active (suc k) → StarsStand b active (suc k) now
   unfolding previous previously alert.starred alert.starred_by alert.up
-  taken-stands changed half found active k tells =
+  taken-stands half found active k tells =
       let first_one : (a : ℕ) → a < length b.alerts → primary_of flags first.found.items a ≡ cond (active a k) (find (λ p. active p k) (primaries b a)) None
       = λ a within.
       ap (λ x. cond x (get_or first.found.items a None) None) (tells a within)
       ∙ ap (λ o. cond (active a k) o None) (found a)
-      ∙ ap (λ ps. cond (active a k) (find (λ p. get_or flags p false) ps) None) (primaries-listing b a)
-      ∙ ap (λ o. cond (active a k) o None) (find-same (λ p. get_or flags p false) (λ p. active p k) (secondaries_of b) a (length b.alerts) tells)
-      ∙ ap (λ ps. cond (active a k) (find (λ p. active p k) ps) None) (sym (primaries-listing b a)) in
+      ∙ ap (λ o. cond (active a k) o None) (same-primary b a (λ p. get_or flags p false) (λ p. active p k) tells) in
       let is_starred : (a : ℕ) → a < length b.alerts → is_some (primary_of flags first.found.items a) ≡ (active a k && list_any (λ p. active p k) (primaries b a))
       = λ a within. ap is_some (first_one a within) ∙ some-of (active a k) (λ p. active p k) (primaries b a) in
       record {
@@ -154,6 +135,22 @@ module _ (b : Book) (flags : List Bool) (first now : Stars) (count : length flag
             ∙ ap (λ x. x && not (is_some (primary_of flags first.found.items a))) (tells a within)
             ∙ ap (λ x. active a k && not x) (is_starred a within);
       }
+
+-- where each alert is as active as before, each is starred by whom it was before
+module _ (b : Book) (active : ℕ → Signal) where
+  by-first : (a k : ℕ) → cond (active a k) (find (λ p. active p k) (primaries b a)) None ≡ starred_by_where b active a k
+  unfolding alert.starred alert.starred_by
+  by-first a k = first-of (active a k) (λ p. active p k) (primaries b a)
+
+  pub still-by : (k : ℕ) → ((a : ℕ) → a < length b.alerts → active a k ≡ previous (active a) k) → (a : ℕ) → a < length b.alerts
+      → starred_by_where b active a k ≡ previously (starred_by_where b active a) k
+  unfolding previous previously
+  still-by zero still a within = sym (by-first a 0) ∙ ap (λ x. cond x (find (λ p. active p 0) (primaries b a)) None) (still a within)
+  still-by (suc k) still a within =
+      sym (by-first a (suc k))
+      ∙ ap (λ x. cond x (find (λ p. active p (suc k)) (primaries b a)) None) (still a within)
+      ∙ ap (λ o. cond (active a k) o None) (same-primary b a (λ p. active p (suc k)) (λ p. active p k) still)
+      ∙ by-first a k
 
 -- no alert is starred or up before the first moment
 pub blank-stands : (b : Book) (active : ℕ → Signal) (s : Stars) (n : ℕ) → n ≡ length b.alerts

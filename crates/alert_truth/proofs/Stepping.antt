@@ -2,7 +2,7 @@
 use Rattle.std.proofs.Common.{◌≡◌, ℕ, zero, suc, ◌<◌, Bool, true, false, not, ◌&&◌, ◌||◌, List, length, get_or, replicate, Option, None, cond, inl, inr, refl, sym, ap, ◌∙◌, subst, arith}
 use Rattle.std.specs.Prelude.{is_some, find, ◌↔◌}
 use Rattle.std.specs.List.{list_any}
-use Rattle.std.proofs.lemmas.Bool.{cases_lt, or_parts, or_from}
+use Rattle.std.proofs.lemmas.Bool.{cases_lt}
 use Rattle.std.proofs.lemmas.List.{length-set, get_or-set_same, get_or-set_other, get_or-replicate}
 use Rattle.ecam_spec.specs.Past.{Signal, previous}
 use Rattle.ecam_spec.specs.Book.{Book}
@@ -13,13 +13,10 @@ use Rattle.alert_truth.specs.Alerts.{Tells, present, active, waiting, starred, s
 use Rattle.alert_truth.specs.Stars.{StarsFit, StarsStand}
 use Rattle.alert_truth.specs.TruthsState.{TruthsFit, TruthsStand, HalfStand, IsStepped, IsStill, Unchanged}
 use Rattle.alert_truth.specs.Noting.{Notes}
+use Rattle.alert_truth.specs.declared.stars.Stars.{Stars}
 use Rattle.alert_truth.specs.declared.truths.Truths.{Truths}
 use Rattle.alert_truth.proofs.Listings.{find-is_some}
-
--- after a moment it is what was said of it
-after : (f : ℕ → Option ℕ) (k : ℕ) → previously f (suc k) ≡ f k
-unfolding previously
-after f k = refl
+use Rattle.alert_truth.proofs.Starring.{still-by}
 
 -- the places stay
 pub notes-fits : (b : Book) (i : ℕ) (start : Option ℕ) (is_present is_active : Bool) (old new : Truths) → Notes i start is_present is_active old new → TruthsFit b old → TruthsFit b new
@@ -120,11 +117,12 @@ module _ (b : Book) (conditions : ℕ → Signal) (phases : ℕ → ℕ) where
   up-before a zero = refl
   up-before a (suc k) = refl
 
-  -- all the rest follows from which alerts are present and active, and by whom they are starred
-  unchanged : (k : ℕ) → ((a : ℕ) → a < length b.alerts → IsStill b conditions phases k a)
-      → ((a : ℕ) → a < length b.alerts → starred_by b conditions phases a k ≡ previously (starred_by b conditions phases a) k) → Unchanged b conditions phases k
+  -- all the rest follows from which alerts are present and active
+  unchanged : (k : ℕ) → ((a : ℕ) → a < length b.alerts → IsStill b conditions phases k a) → Unchanged b conditions phases k
   unfolding alert.waiting alert.up
-  unchanged k still same =
+  unchanged k still =
+      let same : (a : ℕ) → a < length b.alerts → starred_by b conditions phases a k ≡ previously (starred_by b conditions phases a) k
+      = still-by b (active b conditions phases) k (λ a within. (still a within).active) in
       let stars : (a : ℕ) → a < length b.alerts → starred b conditions phases a k ≡ previous (starred b conditions phases a) k
       = λ a within. sym (starred-some a k) ∙ ap is_some (same a within) ∙ starred-before a k in
       record {
@@ -140,14 +138,24 @@ module _ (b : Book) (conditions : ℕ → Signal) (phases : ℕ → ℕ) where
             ∙ ap (λ x. previous (active b conditions phases a) k && not x) (stars a within) ∙ up-before a k;
       }
 
+  -- so the stars that stand for the moments before stand for this one too
+  pub still-stars : (k : ℕ) (s : Stars) → ((a : ℕ) → a < length b.alerts → IsStill b conditions phases k a)
+      → StarsStand b (active b conditions phases) k s → StarsStand b (active b conditions phases) (suc k) s
+  unfolding previous previously
+  still-stars k s still stands =
+      let same = unchanged k still in
+      record {
+        primaries = λ a within. stands.primaries a within ∙ sym (same.starred_by a within);
+        starred = λ a within. stands.starred a within ∙ sym (same.starred a within);
+        up = λ a within. stands.up a within ∙ sym (same.up a within);
+      }
+
   -- the moment ends
-  pub moment-ends : (k : ℕ) (old new : Truths) (stars_changed : Bool) → HalfStand b conditions phases k (length b.alerts) old → TruthsFit b new
+  pub moment-ends : (k : ℕ) (old new : Truths) → HalfStand b conditions phases k (length b.alerts) old → TruthsFit b new
       → new.moments ≡ suc old.moments → new.since ≡ old.since → new.present ≡ old.present → new.active ≡ old.active → new.waiting ≡ old.waiting
-      → new.changing ≡ false → new.changed ≡ (old.changing || stars_changed)
-      → ((stars_changed ≡ false) ↔ ((a : ℕ) → a < length b.alerts → get_or new.stars.primaries.items a None ≡ get_or old.stars.primaries.items a None))
-      → StarsStand b (active b conditions phases) (suc k) new.stars
+      → new.changing ≡ false → new.changed ≡ old.changing → StarsStand b (active b conditions phases) (suc k) new.stars
       → TruthsStand b conditions phases (suc k) new
-  moment-ends k old new stars_changed half fits moments since now here waits quiet told stars_told stars =
+  moment-ends k old new half fits moments since now here waits quiet told stars =
       let each : (a : ℕ) → a < length b.alerts → IsStepped b conditions phases (suc k) a new = λ a within.
       let was = half.stepped a within in
       record {
@@ -156,16 +164,9 @@ module _ (b : Book) (conditions : ℕ → Signal) (phases : ℕ → ℕ) where
         active = ap (λ v. get_or v.items a false) here ∙ was.active;
         waiting = ap (λ v. get_or v.items a false) waits ∙ was.waiting;
       } in
-      let now_by : (a : ℕ) → a < length b.alerts → get_or new.stars.primaries.items a None ≡ starred_by b conditions phases a k
-      = λ a within. stars.primaries a within ∙ after (starred_by b conditions phases a) k in
       let says : (new.changed ≡ false) ↔ Unchanged b conditions phases k = (
-        λ e.
-            let parts = or_parts old.changing stars_changed (sym told ∙ e) in
-            unchanged k (half.changing.0 parts.0) (λ a within. sym (now_by a within) ∙ stars_told.0 parts.1 a within ∙ half.stars.primaries a within),
-        λ same.
-            told ∙ or_from old.changing stars_changed
-            (half.changing.1 (λ a within. record { present = same.present a within; active = same.active a within }))
-            (stars_told.1 (λ a within. now_by a within ∙ same.starred_by a within ∙ sym (half.stars.primaries a within))),
+        λ e. unchanged k (half.changing.0 (sym told ∙ e)),
+        λ same. told ∙ half.changing.1 (λ a within. record { present = same.present a within; active = same.active a within }),
       ) in
       record {
         fits = fits;

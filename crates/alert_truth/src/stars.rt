@@ -61,42 +61,33 @@ impl Stars {
         self.up.copy_from_slice(&other.up);
     }
 
-    /// Settles which of the active alerts are starred and which are up, and answers whether the first active
-    /// primary of some starred alert changed. Its cost is two looks at each alert, and one at each secondary of
-    /// the active ones.
-    pub fn settle(&mut self, active: &[bool], book: &Book) -> bool
+    /// Settles which of the active alerts are starred and which are up. Its cost is two looks at each alert, and one
+    /// at each secondary of the active ones.
+    pub fn settle(&mut self, active: &[bool], book: &Book)
         requires fits { StarsFit (the_book book.now) self.old }
         requires active { length active.now ≡ length book.now.alerts.items }
         ensures fits { StarsFit (the_book book.now) self.new }
         ensures stands { (active' : ℕ → Signal) (k : ℕ)
             → Tells (length book.now.alerts.items) active.now active' (suc k)
             → StarsStand (the_book book.now) active' (suc k) self.new }
-        ensures changed { (result ≡ false) ↔ ((a : ℕ) → a < length book.now.alerts.items
-            → get_or self.new.primaries.items a None ≡ get_or self.old.primaries.items a None) }
     {
         find_primaries(&mut self.found, active, book);
-        let mut changed = false;
         for alert in 0..active.len() {
-            changed |= self.star(alert, active[alert]);
+            self.star(alert, active[alert]);
         }
-        changed
     }
 
-    // Takes over what was found for one alert, and answers whether its primary changed.
-    fn star(&mut self, alert: usize, active: bool) -> bool
+    // Takes over what was found for one alert.
+    fn star(&mut self, alert: usize, active: bool)
         requires { HasPlace alert self.old }
-        ensures takes { Takes alert active self.old self.new }
-        ensures changed { (result ≡ false) ↔ (get_or self.new.primaries.items alert None
-            ≡ get_or self.old.primaries.items alert None) }
+        ensures { Takes alert active self.old self.new }
     {
         let primary = only_if(active, self.found[alert]);
-        let changed = primary != self.primaries[alert];
         let starred = primary.is_some();
         self.found[alert] = None;
         self.primaries[alert] = primary;
         self.starred[alert] = starred;
         self.up[alert] = active && !starred;
-        changed
     }
 }
 

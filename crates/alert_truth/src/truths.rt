@@ -136,7 +136,8 @@ impl Truths {
     }
 
     /// Ends the moment, in which each alert was stepped: settles which alerts are starred and which are up. Its cost
-    /// is two looks at each alert, and one at each secondary of the active ones.
+    /// doesn't grow with the book where each alert is as present and as active as before, since the stars are then as
+    /// before too. Else it is two looks at each alert, and one at each secondary of the active ones.
     pub fn settle(&mut self, book: &Book)
         requires fits { TruthsFit (the_book book.now) self.old }
         requires goes_on { CanGoOn self.old }
@@ -146,8 +147,10 @@ impl Truths {
             → TruthsStand (the_book book.now) conditions phases (suc k) self.new }
         ensures moments { self.new.moments ≡ self.old.moments + 1 }
     {
-        let stars_changed = self.stars.settle(&self.active, book);
-        self.changed = self.changing | stars_changed;
+        if self.changing {
+            self.stars.settle(&self.active, book);
+        }
+        self.changed = self.changing;
         self.changing = false;
         self.moments += 1;
     }
