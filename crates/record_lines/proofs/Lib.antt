@@ -15,3 +15,4 @@ pub mod Calls
 pub mod FirstByte
 pub mod Needs
 pub mod Asking
+pub mod CommonLines

@@ -1,6 +1,7 @@
 -- The numbers of a line, against the lists of numbers that its form allows.
 use Rattle.std.proofs.Common.{◌≡◌, ℕ, zero, suc, ◌+◌, ◌<◌, Bool, true, false, ◌&&◌, List, [], ◌∷◌, ◌++◌, length, get_or, take, drop, Option, Some, None, cond, eqb, refl, sym, ◌∙◌, ap, arith, inl, inr}
 use Rattle.std.proofs.lemmas.Bool.{eqb-true, and_parts, cases_eq, ne_eqb, false≢true, false_from_ne_true}
+use Rattle.std.proofs.lemmas.Option.{same_Some}
 use Rattle.std.proofs.lemmas.Slice.Eq.{bytes_eq-Decides}
 use Rattle.std.proofs.lemmas.List.Folds.{find-append}
 use Rattle.std.proofs.lemmas.List.{take-append-drop, get_or-drop}
@@ -12,8 +13,8 @@ use Rattle.std.proofs.Math.Bool.{and-false}
 use Rattle.ecam_spec.specs.declared.kinds.Key.{Key}
 use Rattle.ecam_spec.specs.declared.kinds.Key.TheVariants.{Clr, Rcl, Sts, All, Emer, ToCfg, Mw, Mc, Page}
 use Rattle.ecam_spec.specs.Places.{below}
-use Rattle.ecam_spec.specs.RecordLine.{bus_of, computer_of, key_of, key_words}
-use Rattle.record_lines.specs.Line.{number_within, named_key_of}
+use Rattle.ecam_spec.specs.RecordLine.{bus_of, computer_of, digit_of, key_of, key_words}
+use Rattle.record_lines.specs.Line.{number_within, named_key_of, worth}
 
 -- ---- two functions that agree at each number below a bound, by computing
 
@@ -189,3 +190,12 @@ key_of-prefix word number begins is bytes =
     let known : get_or word (2 + k) 0 < 256 = bytes (2 + k) (omega arith) in
     let read : get_or word (2 + k) 0 ≡ get_or number k 0 = sym (get_or-drop 2 word k 0) ∙ ap (λ l. get_or l k 0) (sym is) in
     omega arith)
+
+-- ---- what each byte is worth as a hexadecimal digit
+
+worth-all : options_agree (λ c. Some (get_or (map worth (below 256)) c 0)) (λ c. Some (worth c)) 256 ≡ true
+unfolding options_agree same_option below worth digit_of
+worth-all = refl
+
+pub worth_at : (c : ℕ) → c < 256 → get_or (map worth (below 256)) c 0 ≡ worth c
+worth_at c small = same_Some (get_or (map worth (below 256)) c 0) (worth c) (options_agree-at (λ c. Some (get_or (map worth (below 256)) c 0)) (λ c. Some (worth c)) 256 c worth-all small)

@@ -1,8 +1,9 @@
 -- The parts of a line's words.
-use Rattle.std.specs.Prelude.{ℕ, ◌+◌, ◌-◌, ◌==◌, ◌&&◌, nat_le, List, [], ◌∷◌, take, find, Option, None, Some, option_map, if◌then◌else◌}
+use Rattle.std.specs.Prelude.{◌≡◌, ℕ, ◌+◌, ◌-◌, ◌^◌, ◌≤◌, ◌==◌, ◌&&◌, nat_le, false, List, [], ◌∷◌, take, find, position, Option, None, Some, option_map, if◌then◌else◌}
+use Rattle.ecam_spec.specs.declared.kinds.Event.{Event}
 use Rattle.ecam_spec.specs.declared.kinds.Key.{Key}
 use Rattle.ecam_spec.specs.Bytes.{same_text}
-use Rattle.ecam_spec.specs.RecordLine.{key_words}
+use Rattle.ecam_spec.specs.RecordLine.{key_words, digit_of, event_of, is_end_event}
 
 -- what a decimal digit is worth
 abbrev pub digit_value : ℕ → Option ℕ
@@ -25,3 +26,16 @@ number_within low high word = kept_within low high (number_of word)
 -- a key that isn't a page's: one of the first eight
 unfoldable pub named_key_of : List ℕ → Option Key
 named_key_of word = option_map (λ k. k.1) (find (λ k. same_text word k.0) (take 8 key_words))
+
+-- ---- the lines of which a record has most
+
+-- what a hexadecimal digit is worth, and 2^32 for any other byte
+unfoldable pub worth : ℕ → ℕ
+worth c = if nat_le (digit_of c) 15 then digit_of c else 2 ^ 32
+
+-- the line up to the first line feed, which stands at this place, says this event, and doesn't end the record
+pub record IsCommon (bytes : List ℕ) (found : Event × ℕ) : Type 0 where
+  pub feed : position (λ b. b == 10) bytes ≡ Some found.1
+  pub event : event_of (take found.1 bytes) ≡ Some found.0
+  pub other : is_end_event found.0 ≡ false
+  pub few : found.1 ≤ 32

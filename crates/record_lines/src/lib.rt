@@ -5,6 +5,7 @@
 //! them. Its loop ends by `room`.
 #![tactic(auto)]
 
+mod common;
 mod line;
 mod outcome;
 mod piece;

@@ -125,7 +125,7 @@ fn number_of(word: &[u8]) -> Option<u8>
 }
 
 // What a decimal digit is worth.
-fn digit_value(digit: u8) -> Option<u8>
+pub(crate) fn digit_value(digit: u8) -> Option<u8>
     ensures { result ≡ digit_value digit }
 {
     match digit {

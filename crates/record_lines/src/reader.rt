@@ -8,6 +8,7 @@ ghost use Rattle.record_lines.specs.Reader.{room, settled, kept_answer, cost, fa
 ghost use Rattle.record_lines.specs.Reads.{Reads, Tells, Takes, MeetsEnd, Makes, Asks, last_call, piece_call, Gives, IsFromBytes, Advances, IsSpent};
 ghost use Rattle.std.specs.Io.KnownBytes.{Consumes};
 
+use crate::common::common_line;
 use crate::line::{event_of, place_of};
 use crate::outcome::{LineError, Stage};
 use crate::piece::Piece;
@@ -21,8 +22,9 @@ use std::marker::Model;
 const LONGEST: usize = limits::RECORD_LINE;
 
 /// Reads the lines of a record from a source, under a limit on the number of bytes. It holds a piece of 4096 bytes
-/// and a line of 32, reads only where nothing of the piece is left, and takes no memory. Each byte is gone through
-/// once for the line feed and once for its line's form; of a line that lies across pieces each byte is copied once.
+/// and a line of 32, reads only where nothing of the piece is left, and takes no memory. A Tick and a word on a bus of
+/// one digit cost one look at each byte. Of any other line each byte is gone through once for the line feed and once
+/// for its form, and where it lies across pieces it is copied once.
 #[derive(Drop)]
 pub struct LineReader {
     piece: Piece,
@@ -181,9 +183,31 @@ impl LineReader {
         ensures gone { IfNone result (self.new.stage ≡ Stage.Lines → self.new.pending ≡ []) }
     {
         match self.stage {
-            Stage::Lines => self.read_line(),
+            Stage::Lines => match self.common() {
+                Some(event) => Some(Ok(event)),
+                None => self.read_line(),
+            },
             _ => None,
         }
+    }
+
+    // The event of a line of the common forms that lies whole in the piece, and goes past it; else nothing is changed.
+    fn common(&mut self) -> Option<Event>
+        requires { self.old.stage ≡ Stage.Lines }
+        ensures given { IfSome result (λ e. Gives self.old self.new (Ok e)) }
+        ensures other { IfSome result (λ e. is_end_event e ≡ false) }
+        ensures whole { IfSome result (λ _. reads_next self.old ≡ false) }
+        ensures same { IfNone result (self.new ≡ self.old) }
+    {
+        if !self.line.is_empty() {
+            return None;
+        }
+        let Some((event, at)) = common_line(self.piece.bytes()) else {
+            return None;
+        };
+        self.piece.skip(at + 1);
+        self.number += 1;
+        Some(event)
     }
 
     // The answer to bytes after the record's end, or beyond the limit.
