@@ -3,6 +3,7 @@ ghost use Rattle.std.specs.Prelude.{◌<◌};
 
 mod books;
 mod checks;
+mod each_failure;
 mod failures;
 mod faults;
 mod limits;
