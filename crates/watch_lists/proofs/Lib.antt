@@ -4,3 +4,5 @@ pub mod Naming
 pub mod Lines
 pub mod Flattening
 pub mod Watches
+pub mod Numbers
+pub mod Scope

@@ -1,8 +1,8 @@
 -- The operands of a book by number, and which condition names which.
-use Rattle.std.specs.Prelude.{ℕ, ◌+◌, ◌*◌, ◌==◌, Bool, false, List, length, take, slice_get}
+use Rattle.std.specs.Prelude.{ℕ, ◌<◌, ◌≤◌, ◌+◌, ◌*◌, ◌==◌, Bool, false, List, length, take, slice_get}
 use Rattle.std.specs.List.{list_any}
 use Rattle.std.specs.Option.{option_map_or}
-use Rattle.ecam_spec.specs.Keys.{key_number}
+use Rattle.ecam_spec.specs.Keys.{IsKey, key_number}
 use Rattle.ecam_spec.specs.Book.{Tree, Trees}
 use Rattle.ecam_spec.specs.TermSize.{Placed}
 use Rattle.ecam_spec.specs.BookTerms.{lines_of}
@@ -27,6 +27,14 @@ operand_number n (activity a) = n.params + a
 operand_number n phase = n.params + n.alerts
 operand_number n (key x) = n.params + n.alerts + 1 + key_number x
 operand_number n (health c) = n.params + n.alerts + 25 + c
+
+-- it is a parameter or an alert of the book, a key, or one of the two computers
+abbrev pub IsOperand : Sizes → Operand → Type 0
+IsOperand n (value p) = p < n.params
+IsOperand n (activity a) = a < n.alerts
+IsOperand n phase = Unit {0}
+IsOperand n (key x) = IsKey x
+IsOperand n (health c) = (1 ≤ c) × (c ≤ 2)
 
 -- how many numbers there are
 abbrev pub operand_count : Sizes → ℕ

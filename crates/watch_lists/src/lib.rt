@@ -3,9 +3,11 @@
 #![tactic(auto)]
 
 mod book;
+mod laws;
 mod lists;
 mod number;
 mod watch;
 
+pub use laws::{a_condition_names_operands_of_its_book, operands_have_numbers_of_their_own};
 pub use number::{Sizes, key_place};
 pub use watch::Watch;
