@@ -8,6 +8,7 @@ pub mod Command
 pub mod Words
 pub mod Outcomes
 pub mod Drill
+pub mod ReadEndings
 pub mod Answers
 pub mod Decides
 pub mod Headline
