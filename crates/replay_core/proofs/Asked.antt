@@ -1,12 +1,14 @@
 -- Which calls of `read` a replay has made.
-use Rattle.std.proofs.Common.{◌≡◌, ℕ, List, [], ◌∷◌, ◌++◌, Result, Ok, Err, Some, sym, ap, ◌∙◌, subst, inr, append-nil, append_assoc}
+use Rattle.std.proofs.Common.{◌≡◌, ◌⊎◌, ℕ, true, false, List, [], ◌∷◌, ◌++◌, Result, Ok, Err, Some, refl, sym, ap, ◌∙◌, subst, cond, inl, inr, append-nil, append_assoc}
 use Rattle.std.specs.Prelude.{All, Bool, IfErr}
 use Rattle.std.proofs.lemmas.List.Elements.{All-nil, All-append}
-use Rattle.ecam_io.specs.Outside.{ReadCall}
+use Rattle.ecam_io.specs.Outside.{ReadCall, Appended}
 use Rattle.ecam_io.proofs.Calls.{Appended-none, Appended-append}
 use Rattle.ecam_spec.specs.declared.kinds.Event.{Event}
 use Rattle.record_lines.specs.declared.outcome.LineError.{LineError}
-use Rattle.record_lines.specs.Reads.{piece_call, GivesBytes, last_call, Makes, Asks}
+use Rattle.ecam_spec.specs.declared.kinds.RecordFault.{RecordFault}
+use Rattle.record_lines.specs.declared.outcome.LineError.TheVariants as line_errors
+use Rattle.record_lines.specs.Reads.{is_shown_at_end, piece_call, GivesBytes, last_call, Makes, Asks}
 use Rattle.replay_core.specs.declared.replay.RunError.{RunError}
 use Rattle.replay_core.specs.declared.replay.RunError.TheVariants.{Write}
 use Rattle.replay_core.specs.Runs.{IsLast, HasAsked}
@@ -41,7 +43,28 @@ module _ {S : Type 0} (reads : S → List ReadCall → Type 0) where
       so = record { pieces = pieces; last = last_call a; full = all; calls_are = calls; last_is = is };
     }
 
+  -- writing failed, and nothing was read since
+  pub asked-spared : (before between after : S) → Makes reads before between (All GivesBytes) → after ≡ between → Makes reads before after (HasAsked (Err Write))
+  asked-spared before between after asked same = record {
+    calls = asked.calls;
+    made = subst (λ s. Appended reads before s asked.calls) (sym same) asked.made;
+    so = record { pieces = asked.calls; last = []; full = asked.so; calls_are = sym (append-nil asked.calls); last_is = inl refl };
+  }
+
+-- what is so where nothing was needed, in a case in which nothing can have been
+pub unneeded : {X : Type 0} → (needs : Bool) → (needs ≡ true → ⊥) → (needs ≡ false → X) → X
+unneeded true never so = absurd (never refl)
+unneeded false never so = so refl
+
 -- ---- what an ending tells of the last call
+
+-- a fault of the record
+pub fault-last : (f : RecordFault) → IsLast (Err Write) (last_call (Err (line_errors.Record f)))
+fault-last f =
+    elim (is_shown_at_end f.kind) as (λ b. (cond b (piece_call (Some 0) ∷ []) [] ≡ []) ⊎ (cond b (piece_call (Some 0) ∷ []) [] ≡ piece_call (Some 0) ∷ [])) [
+      | true ↦ inr refl
+      | false ↦ inl refl
+    ]
 
 pub finished-last : (result : Result ℕ RunError) (last : List ReadCall) → IfErr result (λ e. e ≡ Write) → last ≡ piece_call (Some 0) ∷ [] → IsLast result last
 finished-last (Ok n) last cause is = is

@@ -12,7 +12,8 @@ use Rattle.replay_core.specs.Calls.{Files, ShelfCall, OpenedOne, OpenedBoth, Sin
 use Rattle.replay_core.specs.Runs.{HasStopped}
 use Rattle.replay_core.specs.Loading.{BookHas, IsUnopened, HasLoaded, Loads, Readies}
 use Rattle.replay_core.specs.Play.{RepliesInPart, Plays, Tells}
-use Rattle.replay_core.specs.Answers.{Endings, ByBook, ByRecord, BookTold, BookUntold, RepliesWhole, RepliesTo, replaying, Explains, ExplainsInPart, ExplainsNothing, BreaksOff, explaining}
+use Rattle.replay_core.specs.Answers.{ByBook, ByRecord, BookTold, BookUntold}
+use Rattle.replay_core.specs.ReadEndings.{Endings, RepliesWhole, RepliesTo, replaying, Explains, ExplainsInPart, ExplainsNothing, BreaksOff, explaining}
 use Rattle.replay_core.specs.Outcomes.{outcome_of, refusal_of}
 use Rattle.replay_core.specs.declared.load.Loaded.{Loaded}
 use Rattle.replay_core.specs.declared.load.Unready.{Unready}

@@ -11,7 +11,8 @@ use Rattle.book_spec.specs.BookBytes.{book_fault, book}
 use Rattle.replay_core.specs.Calls.{ShelfCall, HasFailed, SinkCall, HasFailedToWrite}
 use Rattle.replay_core.specs.Drill.{drill_line}
 use Rattle.replay_core.specs.Loading.{BookHas, HasFault, IsUnopened, IsUnread}
-use Rattle.replay_core.specs.Answers.{Endings, ByBook, ByRecord, Ends, replaying, explaining}
+use Rattle.replay_core.specs.Answers.{ByBook, ByRecord, Ends}
+use Rattle.replay_core.specs.ReadEndings.{Endings, replaying, explaining}
 use Rattle.replay_core.specs.Decides.{book_asked, record_asked, IsButForMemory, Decides, DecidesUsage}
 use Rattle.replay_core.specs.Outcomes.{status_of}
 use Rattle.replay_core.specs.declared.outcome.Status.TheVariants as statuses

@@ -1,11 +1,11 @@
 -- How a replay goes on from line to line, and how it ends.
-use Rattle.std.proofs.Common.{◌≡◌, ℕ, ◌+◌, ◌^◌, ◌<◌, ◌≤◌, Result, Ok, Err, true, false, List, [], ◌∷◌, ◌++◌, Option, Some, None, refl, sym, ap, ◌∙◌, subst, inl, inr, arith, length, length-append, append_assoc, append-nil, cond}
+use Rattle.std.proofs.Common.{◌≡◌, ℕ, ◌+◌, ◌^◌, ◌<◌, ◌≤◌, Result, Ok, Err, true, false, List, [], ◌∷◌, ◌++◌, Option, Some, None, refl, sym, ap, ◌∙◌, subst, inl, inr, arith, length, drop, length-append, append_assoc, append-nil, cond}
 use Rattle.std.specs.Prelude.{◌&&◌, is_none, OnOk, OnErr, IfOk, IfErr}
 use Rattle.std.proofs.lemmas.List.Sums.{count_by-le-length}
 use Rattle.std.specs.Io.KnownBytes.{Consumes, IsAtEnd}
 use Rattle.std.proofs.KnownBytes.{Consumes-nil, Consumes-trans}
 use Rattle.ecam_io.specs.Outside.{Appended, AppendedPrefix}
-use Rattle.ecam_io.proofs.Calls.{Appended-none, Appended-append, AppendedPrefix-after, AppendedPrefix-longer}
+use Rattle.ecam_io.proofs.Calls.{AppendedPrefix-longer}
 use Rattle.ecam_spec.specs.declared.kinds.Event.{Event}
 use Rattle.ecam_spec.specs.declared.kinds.Event.TheVariants.{Word, Tick, Press, Release, Fail, Up, End}
 use Rattle.ecam_spec.specs.declared.kinds.RecordFault.{RecordFault}
@@ -20,9 +20,10 @@ use Rattle.ecam_spec.proofs.ReplaySteps.{history_blocks_begun}
 use Rattle.fwc_pair.specs.PairState.{PairStands, moments_of}
 use Rattle.fwc_pair.specs.declared.pair.Pair.{Pair}
 use Rattle.record_lines.specs.Reader.{ReaderState, room, settled}
-use Rattle.record_lines.specs.Reads.{Reads, TellsEvent, TellsEnd, TellsFault, TellsFailure, IsSpent, is_shown_at_end}
-use Rattle.record_lines.proofs.Went.{went}
-use Rattle.replay_core.specs.Runs.{HasRun, HasMetFault, HasStopped, StopsIn, HasBroken, HasFed, HasBegun, Runs, IsAt}
+use Rattle.record_lines.specs.Reads.{Reads, TellsEvent, TellsEnd, TellsFault, TellsFailure, IsFaulty, IsSpent, is_shown_at_end}
+use Rattle.record_lines.proofs.Went.{went, taken_is, BeginEvents-here}
+use Rattle.replay_core.specs.Runs.{HasRun, HasMetFault, HasStopped, HasBroken, IsHanded, HasFed, Runs, IsAt}
+use Rattle.replay_core.proofs.Handing.{handed-none, handed-then, handed-on, handed-written, handed-part, written-on, part-on}
 use Rattle.replay_core.proofs.PairMoments.{moments-counted}
 use Rattle.replay_core.specs.declared.replay.RunError.{RunError}
 use Rattle.replay_core.specs.declared.replay.RunError.TheVariants.{Write}
@@ -75,7 +76,7 @@ more-moments h x few =
 module _ (b : Book) {S : Type 0} (agrees : S → List ℕ → Type 0) (old : S) (limit : ℕ) (left : Option (List ℕ)) where
   -- before the first line
   pub at-start : (reader : ReaderState) (pair : Pair) → Reads limit [] [] reader → room reader ≡ limit → settled reader ≡ None → PairStands b [] pair
-      → IsAt b agrees old old limit left left reader pair 0
+      → IsAt b agrees old old [] limit left left reader pair 0
   unfolding history_blocks tick_count blocks
   at-start reader pair reads whole unsettled stands = record {
     taken = [];
@@ -85,17 +86,60 @@ module _ (b : Book) {S : Type 0} (agrees : S → List ℕ → Type 0) (old : S) 
     unsettled = unsettled;
     stands = stands;
     ticks_are = refl;
-    written = Appended-none agrees old;
+    handed = handed-none agrees old [];
     moments = omega (arith, ap (λ (e : Era). length e.moments) era_nil);
     few = omega arith;
   }
 
-  module _ (mid : S) (rest : Option (List ℕ)) (reader : ReaderState) (pair : Pair) (ticks : ℕ) (at : IsAt b agrees old mid limit left rest reader pair ticks) where
+  -- a prefix of the blocks of the events that were answered is written
+  stopped : (new : S) (taken : List ℕ) (answered : List Event) (rest : Option (List ℕ)) (reader : ReaderState) → AppendedPrefix agrees old new (history_blocks b answered)
+      → Consumes left rest taken → Reads limit taken answered reader → settled reader ≡ None → (text : Text) → left ≡ Some text → HasStopped b agrees old new limit text rest
+  unfolding reply
+  stopped new taken answered rest reader part moved reads unsettled text is =
+      let where_it_is = told text left rest taken is moved in
+      let through = went reader.stage limit taken answered reader unsettled reads in
+      let beyond = reader.pending ++ drop limit taken in
+      let split : taken ≡ through.0 ++ beyond = taken_is limit through.0 taken answered _ reader through.1 in
+      let on = BeginEvents-here limit through.0 beyond taken through.1.sound split where_it_is.0 in
+      let read : events text limit ≡ answered ++ on.0 = ap (λ t. events t limit) where_it_is.2 ∙ on.1 ∙ ap (λ es. es ++ on.0) through.1.answered_is in
+      let begun = history_blocks_begun b answered on.0 in
+      let ends : Text = cond (is_none (fault text limit)) (end_line (tick_count (events text limit))) [] in
+      let whole : history_blocks b (events text limit) ++ ends ≡ history_blocks b answered ++ (begun.0 ++ ends) =
+      ap (λ es. history_blocks b es ++ ends) read ∙ ap (λ w. w ++ ends) begun.1 ∙ append_assoc (history_blocks b answered) begun.0 ends in
+      record {
+        written = subst (AppendedPrefix agrees old new) (sym whole) (AppendedPrefix-longer agrees old new (history_blocks b answered) (begun.0 ++ ends) part);
+        stops = inl (record {
+          front = through.0;
+          later = beyond;
+          behind = where_it_is.0;
+          parts = where_it_is.2 ∙ ap (λ t. t ++ where_it_is.0) split;
+          rest_is = where_it_is.1;
+          near = omega (arith, through.1.near, ap length split, length-append through.0 beyond);
+          written = subst (λ es. AppendedPrefix agrees old new (history_blocks b es)) (sym through.1.answered_is) part;
+        });
+      }
+
+  module _ (mid : S) (gathered : Text) (rest : Option (List ℕ)) (reader : ReaderState) (pair : Pair) (ticks : ℕ) (at : IsAt b agrees old mid gathered limit left rest reader pair ticks) where
+    -- what was gathered was handed over
+    pub at-handed : (new : S) (after : Text) → IsHanded agrees mid new gathered after → IsAt b agrees old new after limit left rest reader pair ticks
+    at-handed new after handed = record {
+      taken = at.taken;
+      answered = at.answered;
+      moved = at.moved;
+      reads = at.reads;
+      unsettled = at.unsettled;
+      stands = at.stands;
+      ticks_are = at.ticks_are;
+      handed = handed-on agrees old mid new (history_blocks b at.answered) gathered at.handed after handed;
+      moments = at.moments;
+      few = at.few;
+    }
+
     -- after one more line
-    pub at-next : (new : S) (later : Option (List ℕ)) (next : ReaderState) (fed : Pair) (now : ℕ) (e : Event) (more : List ℕ)
+    pub at-next : (new : S) (after : Text) (later : Option (List ℕ)) (next : ReaderState) (fed : Pair) (now : ℕ) (e : Event) (more : List ℕ)
         → Consumes rest later more → TellsEvent limit (at.taken ++ more) (at.answered ++ e ∷ []) next → settled next ≡ None → room next + 2 ≤ room reader
-        → HasFed b agrees mid new at.answered e fed now → IsAt b agrees old new limit left later next fed now
-    at-next new later next fed now e more moved tells unsettled cost has = record {
+        → HasFed b agrees mid new gathered after at.answered e fed now → IsAt b agrees old new after limit left later next fed now
+    at-next new after later next fed now e more moved tells unsettled cost has = record {
       taken = at.taken ++ more;
       answered = at.answered ++ e ∷ [];
       moved = Consumes-trans left rest later at.taken more at.moved moved;
@@ -103,17 +147,10 @@ module _ (b : Book) {S : Type 0} (agrees : S → List ℕ → Type 0) (old : S) 
       unsettled = unsettled;
       stands = has.stands;
       ticks_are = has.ticks_are;
-      written = subst (Appended agrees old new) (sym has.blocks) (Appended-append agrees old mid new (history_blocks b at.answered) has.more at.written has.written);
+      handed = subst (λ all. IsHanded agrees old new all after) (sym has.blocks)
+          (handed-then agrees old mid new (history_blocks b at.answered) gathered at.handed has.more after has.handed);
       moments = more-moments at.answered e at.moments;
       few = omega (arith, at.few, length-append at.answered (e ∷ []));
-    }
-
-    -- what follows what is written isn't written whole
-    stopped : (new : S) (follows : Text) → AppendedPrefix agrees mid new follows → StopsIn b agrees old new (history_blocks b at.answered) follows
-    stopped new follows part = record {
-      part = part.part;
-      prefix = part.prefix;
-      written = Appended-append agrees old mid new (history_blocks b at.answered) part.part at.written part.appended;
     }
 
     -- the text is the bytes that came, and more
@@ -121,10 +158,21 @@ module _ (b : Book) {S : Type 0} (agrees : S → List ℕ → Type 0) (old : S) 
         → (behind : List ℕ) × (later ≡ Some behind) × (text ≡ (at.taken ++ more) ++ behind)
     here text is later more moved = told text left later (at.taken ++ more) is (Consumes-trans left rest later at.taken more at.moved moved)
 
+    -- the text has a fault
+    met : (text : Text) → left ≡ Some text → (later : Option (List ℕ)) (next : ReaderState) (more : List ℕ) (f : RecordFault)
+        → Consumes rest later more → TellsFault limit (at.taken ++ more) at.answered f next → (is_shown_at_end f.kind ≡ true → IsSpent rest later)
+        → IsFaulty limit text at.answered f
+    met text is later next more f moved tells spent =
+        let where_it_is = here text is later more moved in
+        let rest_is = told text left rest at.taken is at.moved in
+        subst (λ t. IsFaulty limit t at.answered f) (sym where_it_is.2)
+        (tells.faulty where_it_is.0
+        (λ shown. some_is where_it_is.0 [] (sym where_it_is.1 ∙ ended rest later rest_is.0 rest_is.1 where_it_is.0 where_it_is.1 (spent shown))))
+
     -- the record's end was met, and the last line is written
     pub at-end : (new : S) (later : Option (List ℕ)) (next : ReaderState) (more : List ℕ) (n : ℕ)
         → Consumes rest later more → TellsEnd limit (at.taken ++ more) at.answered next → IsSpent rest later
-        → n ≡ tick_count at.answered → Appended agrees mid new (end_line (tick_count at.answered))
+        → n ≡ tick_count at.answered → Appended agrees mid new (gathered ++ end_line (tick_count at.answered))
         → (text : Text) → left ≡ Some text → HasRun b agrees old new pair limit text later n
     unfolding reply
     at-end new later next more n moved tells spent count written text is =
@@ -140,7 +188,7 @@ module _ (b : Book) {S : Type 0} (agrees : S → List ℕ → Type 0) (old : S) 
           written = subst (Appended agrees old new)
               (sym (ap (λ f. history_blocks b (events text limit) ++ cond (is_none f) (end_line (tick_count (events text limit))) []) fault_is
               ∙ ap (λ es. history_blocks b es ++ end_line (tick_count es)) events_are))
-              (Appended-append agrees old mid new (history_blocks b at.answered) (end_line (tick_count at.answered)) at.written written);
+              (handed-written agrees old mid new (history_blocks b at.answered) gathered at.handed (end_line (tick_count at.answered)) written);
           spent = nothing;
           stands = subst (λ es. PairStands b es pair) (sym events_are) at.stands;
         }
@@ -148,7 +196,7 @@ module _ (b : Book) {S : Type 0} (agrees : S → List ℕ → Type 0) (old : S) 
     -- writing the last line failed
     pub at-end-unwritten : (new : S) (later : Option (List ℕ)) (next : ReaderState) (more : List ℕ)
         → Consumes rest later more → TellsEnd limit (at.taken ++ more) at.answered next → IsSpent rest later
-        → AppendedPrefix agrees mid new (end_line (tick_count at.answered))
+        → AppendedPrefix agrees mid new (gathered ++ end_line (tick_count at.answered))
         → (text : Text) → left ≡ Some text → HasStopped b agrees old new limit text later
     unfolding reply
     at-end-unwritten new later next more moved tells spent part text is =
@@ -162,83 +210,79 @@ module _ (b : Book) {S : Type 0} (agrees : S → List ℕ → Type 0) (old : S) 
           written = subst (AppendedPrefix agrees old new)
               (sym (ap (λ f. history_blocks b (events text limit) ++ cond (is_none f) (end_line (tick_count (events text limit))) []) fault_is
               ∙ ap (λ es. history_blocks b es ++ end_line (tick_count es)) events_are))
-              (AppendedPrefix-after agrees old mid new (history_blocks b at.answered) (end_line (tick_count at.answered)) at.written part);
-          stops = inr (record {
-            spent = nothing;
-            stops = subst (λ es. StopsIn b agrees old new (history_blocks b es) (end_line (tick_count es))) (sym events_are) (stopped new (end_line (tick_count at.answered)) part);
-          });
+              (handed-part agrees old mid new (history_blocks b at.answered) gathered at.handed (end_line (tick_count at.answered)) part);
+          stops = inr (inr nothing);
         }
 
     -- the record has a fault
-    pub at-fault : (later : Option (List ℕ)) (next : ReaderState) (more : List ℕ) (f : RecordFault)
+    pub at-fault : (new : S) (later : Option (List ℕ)) (next : ReaderState) (more : List ℕ) (f : RecordFault) → Appended agrees mid new gathered
         → Consumes rest later more → TellsFault limit (at.taken ++ more) at.answered f next → (is_shown_at_end f.kind ≡ true → IsSpent rest later)
-        → (text : Text) → left ≡ Some text → HasMetFault b agrees old mid limit text later f
-    at-fault later next more f moved tells spent text is =
+        → (text : Text) → left ≡ Some text → HasMetFault b agrees old new limit text later f
+    at-fault new later next more f written moved tells spent text is =
+        let faulty = met text is later next more f moved tells spent in
         let where_it_is = here text is later more moved in
-        let rest_is = told text left rest at.taken is at.moved in
-        let faulty = tells.faulty where_it_is.0
-        (λ shown. some_is where_it_is.0 [] (sym where_it_is.1 ∙ ended rest later rest_is.0 rest_is.1 where_it_is.0 where_it_is.1 (spent shown))) in
-        let events_are : events text limit ≡ at.answered = ap (λ t. events t limit) where_it_is.2 ∙ faulty.events in
-        let fault_is : fault text limit ≡ Some f = ap (λ t. fault t limit) where_it_is.2 ∙ faulty.fault in
         record {
-          fault_is = fault_is;
-          written = subst (Appended agrees old mid)
-              (sym (reply-faulty b text limit f fault_is ∙ ap (history_blocks b) events_are)) at.written;
+          fault_is = faulty.fault;
+          written = subst (Appended agrees old new)
+              (sym (reply-faulty b text limit f faulty.fault ∙ ap (history_blocks b) faulty.events))
+              (written-on agrees old mid new (history_blocks b at.answered) gathered at.handed written);
           took = record { taken = at.taken ++ more; behind = where_it_is.0; parts = where_it_is.2; rest_is = where_it_is.1; near = tells.near };
         }
 
+    -- writing what was gathered before it failed
+    pub at-fault-unwritten : (new : S) (later : Option (List ℕ)) (next : ReaderState) (more : List ℕ) (f : RecordFault) → AppendedPrefix agrees mid new gathered
+        → Consumes rest later more → TellsFault limit (at.taken ++ more) at.answered f next → (is_shown_at_end f.kind ≡ true → IsSpent rest later)
+        → (text : Text) → left ≡ Some text → HasStopped b agrees old new limit text later
+    at-fault-unwritten new later next more f part moved tells spent text is =
+        let faulty = met text is later next more f moved tells spent in
+        let where_it_is = here text is later more moved in
+        record {
+          written = subst (AppendedPrefix agrees old new)
+              (append-nil (history_blocks b at.answered) ∙ sym (reply-faulty b text limit f faulty.fault ∙ ap (history_blocks b) faulty.events))
+              (part-on agrees old mid new (history_blocks b at.answered) gathered at.handed [] part);
+          stops = inr (inl (record {
+            met = f;
+            fault_is = faulty.fault;
+            took = record { taken = at.taken ++ more; behind = where_it_is.0; parts = where_it_is.2; rest_is = where_it_is.1; near = tells.near };
+          }));
+        }
+
     -- the source failed
-    pub at-broken : (later : Option (List ℕ)) (next : ReaderState) (more : List ℕ)
-        → Consumes rest later more → TellsFailure limit (at.taken ++ more) at.answered next → HasBroken b agrees old mid limit left later
-    at-broken later next more moved tells = record {
+    pub at-broken : (new : S) (later : Option (List ℕ)) (next : ReaderState) (more : List ℕ) → Appended agrees mid new gathered
+        → Consumes rest later more → TellsFailure limit (at.taken ++ more) at.answered next → HasBroken b agrees old new limit left later
+    at-broken new later next more written moved tells = record {
       taken = at.taken ++ more;
       moved = Consumes-trans left rest later at.taken more at.moved moved;
-      written = subst (λ es. Appended agrees old mid (history_blocks b es)) (sym tells.all) at.written;
+      written = subst (λ es. Appended agrees old new (history_blocks b es)) (sym tells.all)
+          (written-on agrees old mid new (history_blocks b at.answered) gathered at.handed written);
     }
 
-    -- the events of the text go on behind an event
-    onward : (text : Text) → left ≡ Some text → (later : Option (List ℕ)) (next : ReaderState) (e : Event) (more : List ℕ)
-        → Consumes rest later more → TellsEvent limit (at.taken ++ more) (at.answered ++ e ∷ []) next
-        → (es : List Event) × (events text limit ≡ at.answered ++ e ∷ es)
-    onward text is later next e more moved tells =
-        let where_it_is = here text is later more moved in
-        let begun = tells.begin where_it_is.0 in
-        (begun.0, ap (λ t. events t limit) where_it_is.2 ∙ begun.1 ∙ append_assoc at.answered (e ∷ []) begun.0)
+    -- a prefix of what was gathered is written: so one of all blocks
+    part-here : (new : S) → AppendedPrefix agrees mid new gathered → (more : Text) → AppendedPrefix agrees old new (history_blocks b at.answered ++ more)
+    part-here new part more = part-on agrees old mid new (history_blocks b at.answered) gathered at.handed more part
 
-    -- writing a block failed
-    pub at-unwritten : (new : S) (later : Option (List ℕ)) (next : ReaderState) (e : Event) (more : List ℕ)
-        → Consumes rest later more → TellsEvent limit (at.taken ++ more) (at.answered ++ e ∷ []) next → settled next ≡ None → HasBegun b agrees mid new at.answered e
+    -- writing failed before a read
+    pub at-unhanded : (new : S) → AppendedPrefix agrees mid new gathered → (text : Text) → left ≡ Some text → HasStopped b agrees old new limit text rest
+    at-unhanded new part =
+        stopped new at.taken at.answered rest reader (subst (AppendedPrefix agrees old new) (append-nil (history_blocks b at.answered)) (part-here new part []))
+        at.moved at.reads at.unsettled
+
+    -- writing failed after a read did
+    pub at-broken-unwritten : (new : S) → AppendedPrefix agrees mid new gathered → (later : Option (List ℕ)) (next : ReaderState) (more : List ℕ)
+        → Consumes rest later more → TellsFailure limit (at.taken ++ more) at.answered next → settled next ≡ None
         → (text : Text) → left ≡ Some text → HasStopped b agrees old new limit text later
-    unfolding reply
-    at-unwritten new later next e more moved tells unsettled has text is =
-        let where_it_is = here text is later more moved in
-        let through = went next.stage limit (at.taken ++ more) (at.answered ++ e ∷ []) next unsettled tells.reads in
-        let on = onward text is later next e more moved tells in
-        let read : events text limit ≡ (at.answered ++ e ∷ []) ++ on.0 = on.1 ∙ sym (append_assoc at.answered (e ∷ []) on.0) in
-        let begun = history_blocks_begun b (at.answered ++ e ∷ []) on.0 in
-        let ends : Text = cond (is_none (fault text limit)) (end_line (tick_count (events text limit))) [] in
-        let whole : history_blocks b (events text limit) ++ ends ≡ (history_blocks b at.answered ++ has.more) ++ (begun.0 ++ ends) =
-        ap (λ es. history_blocks b es ++ ends) read ∙ ap (λ w. w ++ ends) (begun.1 ∙ ap (λ w. w ++ begun.0) has.blocks)
-        ∙ append_assoc (history_blocks b at.answered ++ has.more) begun.0 ends in
-        record {
-          written = subst (AppendedPrefix agrees old new) (sym whole)
-              (AppendedPrefix-longer agrees old new (history_blocks b at.answered ++ has.more) (begun.0 ++ ends)
-              (AppendedPrefix-after agrees old mid new (history_blocks b at.answered) has.more at.written has.written));
-          stops = inl (record {
-            taken = at.taken ++ more;
-            behind = where_it_is.0;
-            parts = where_it_is.2;
-            rest_is = where_it_is.1;
-            front = through.0;
-            near = through.1.near;
-            before = at.answered;
-            event = e;
-            events_are = through.1.answered_is;
-            block = has.more;
-            blocks = has.blocks;
-            stops = stopped new has.more has.written;
-          });
-        }
+    at-broken-unwritten new part later next more moved tells unsettled =
+        stopped new (at.taken ++ more) at.answered later next (subst (AppendedPrefix agrees old new) (append-nil (history_blocks b at.answered)) (part-here new part []))
+        (Consumes-trans left rest later at.taken more at.moved moved) tells.reads unsettled
+
+    -- writing failed before the block of an event was gathered
+    pub at-unwritten : (new : S) → AppendedPrefix agrees mid new gathered → (later : Option (List ℕ)) (next : ReaderState) (e : Event) (more : List ℕ)
+        → Consumes rest later more → TellsEvent limit (at.taken ++ more) (at.answered ++ e ∷ []) next → settled next ≡ None
+        → (text : Text) → left ≡ Some text → HasStopped b agrees old new limit text later
+    at-unwritten new part later next e more moved tells unsettled =
+        let begun = history_blocks_begun b at.answered (e ∷ []) in
+        stopped new (at.taken ++ more) (at.answered ++ e ∷ []) later next (subst (AppendedPrefix agrees old new) (sym begun.1) (part-here new part begun.0))
+        (Consumes-trans left rest later at.taken more at.moved moved) tells.reads unsettled
 
     -- few Ticks were met, and few moments, since each is a line
     pub at-few : limit < 2 ^ 32 → ticks < 2 ^ 63
@@ -251,11 +295,11 @@ module _ (b : Book) {S : Type 0} (agrees : S → List ℕ → Type 0) (old : S) 
     -- the line that ends the output is written, or a prefix of it
     pub at-finished : (new : S) (later : Option (List ℕ)) (next : ReaderState) (more : List ℕ) (result : Result ℕ RunError)
         → Consumes rest later more → TellsEnd limit (at.taken ++ more) at.answered next → IsSpent rest later
-        → IfOk result (λ n. n ≡ ticks) → OnOk result (Appended agrees mid new (end_line ticks))
-        → OnErr result (AppendedPrefix agrees mid new (end_line ticks)) → IfErr result (λ e. e ≡ Write)
+        → IfOk result (λ n. n ≡ ticks) → OnOk result (Appended agrees mid new (gathered ++ end_line ticks))
+        → OnErr result (AppendedPrefix agrees mid new (gathered ++ end_line ticks)) → IfErr result (λ e. e ≡ Write)
         → Runs b agrees old new pair limit left later result
     at-finished new later next more (Ok n) moved tells spent count written part cause =
-        at-end new later next more n moved tells spent (count ∙ at.ticks_are) (subst (λ t. Appended agrees mid new (end_line t)) at.ticks_are written)
+        at-end new later next more n moved tells spent (count ∙ at.ticks_are) (subst (λ t. Appended agrees mid new (gathered ++ end_line t)) at.ticks_are written)
     at-finished new later next more (Err e) moved tells spent count written part cause =
         subst (λ x. Runs b agrees old new pair limit left later (Err x)) (sym cause)
-        (at-end-unwritten new later next more moved tells spent (subst (λ t. AppendedPrefix agrees mid new (end_line t)) at.ticks_are part))
+        (at-end-unwritten new later next more moved tells spent (subst (λ t. AppendedPrefix agrees mid new (gathered ++ end_line t)) at.ticks_are part))

@@ -1,8 +1,6 @@
 -- What a step of a replay has done: each event by what it writes.
-use Rattle.std.proofs.Common.{◌≡◌, Result, Ok, Err, ℕ, suc, Bool, true, false, List, [], ◌∷◌, ◌++◌, length, refl, sym, ap, ◌∙◌, append-nil}
-use Rattle.std.specs.Prelude.{decimal, OnOk, OnErr}
-use Rattle.ecam_io.specs.Outside.{Appended, AppendedPrefix}
-use Rattle.ecam_io.proofs.Calls.{Appended-none}
+use Rattle.std.proofs.Common.{◌≡◌, ℕ, suc, Bool, true, false, List, [], ◌∷◌, ◌++◌, length, refl, sym, ap, ◌∙◌, subst, append-nil, append_assoc}
+use Rattle.std.specs.Prelude.{decimal}
 use Rattle.ecam_spec.specs.declared.kinds.Event.{Event}
 use Rattle.ecam_spec.specs.declared.kinds.Event.TheVariants.{Word, Tick, Press, Release, Fail, Up, End}
 use Rattle.ecam_spec.specs.Book.{Text, Book}
@@ -16,12 +14,13 @@ use Rattle.fwc_pair.specs.PairState.{PairStands}
 use Rattle.fwc_pair.specs.declared.pair.Pair.{Pair}
 use Rattle.replay_core.proofs.PictureRows.{last-long}
 use Rattle.replay_core.specs.Flagged.{NamesRows}
-use Rattle.replay_core.specs.Runs.{HasFed, HasBegun, Feeds}
+use Rattle.replay_core.specs.Runs.{IsHanded, HasFed}
+use Rattle.replay_core.proofs.Handing.{handed-none, handed-then}
 
 -- the line that ends an output, piece by piece
-pub end_text : (ticks : ℕ) (first : Text) → first ≡ [] → ((first ++ (69 ∷ 78 ∷ 68 ∷ 32 ∷ [])) ++ decimal ticks) ++ 10 ∷ [] ≡ end_line ticks
+pub end_text : (ticks : ℕ) (before : Text) → ((before ++ (69 ∷ 78 ∷ 68 ∷ 32 ∷ [])) ++ decimal ticks) ++ 10 ∷ [] ≡ before ++ end_line ticks
 unfolding end_line
-end_text ticks first none = ap (λ f. ((f ++ (69 ∷ 78 ∷ 68 ∷ 32 ∷ [])) ++ decimal ticks) ++ 10 ∷ []) none
+end_text ticks before = simp append_assoc
 
 -- an event that is a Tick
 pub the-tick : (e : Event) → is_tick e ≡ true → e ≡ Tick
@@ -45,37 +44,28 @@ module _ (b : Book) (h : List Event) where
 
   module _ {S : Type 0} (agrees : S → List ℕ → Type 0) where
     -- an event that ends no moment
-    pub fed-quiet : (s : S) (e : Event) (pair : Pair) (ticks : ℕ) → is_tick e ≡ false → ticks ≡ tick_count h → PairStands b (h ++ e ∷ []) pair → HasFed b agrees s s h e pair ticks
-    fed-quiet s e pair ticks quiet count stands = record {
+    pub fed-quiet : (s : S) (gathered : Text) (e : Event) (pair : Pair) (ticks : ℕ) → is_tick e ≡ false → ticks ≡ tick_count h → PairStands b (h ++ e ∷ []) pair
+        → HasFed b agrees s s gathered gathered h e pair ticks
+    fed-quiet s gathered e pair ticks quiet count stands = record {
       stands = stands;
       ticks_are = count ∙ sym (tick_count_kept h e quiet);
       more = [];
       blocks = history_blocks_kept b h e quiet ∙ sym (append-nil (history_blocks b h));
-      written = Appended-none agrees s;
+      handed = subst (λ all. IsHanded agrees s s all gathered) (sym (append-nil gathered)) (handed-none agrees s gathered);
     }
 
-    -- the block of a Tick is written, or a prefix of it
-    pub fed-tick : (old new : S) (text : Text) (pair : Pair) (ticks : ℕ) → text ≡ block (tick_count h) (last_picture b h) (picture_at b (h ++ Tick ∷ []))
-        → Appended agrees old new text → ticks ≡ suc (tick_count h) → PairStands b (h ++ Tick ∷ []) pair → HasFed b agrees old new h Tick pair ticks
-    fed-tick old new text pair ticks is written count stands = record {
-      stands = stands;
-      ticks_are = count ∙ sym (tick_count_tick h);
-      more = text;
-      blocks = history_blocks_tick b h ∙ ap (λ t. history_blocks b h ++ t) (sym is);
-      written = written;
-    }
-
-    pub begun-tick : (old new : S) (text : Text) → text ≡ block (tick_count h) (last_picture b h) (picture_at b (h ++ Tick ∷ []))
-        → AppendedPrefix agrees old new text → HasBegun b agrees old new h Tick
-    begun-tick old new text is written = record {
-      more = text;
-      blocks = history_blocks_tick b h ∙ ap (λ t. history_blocks b h ++ t) (sym is);
-      written = written;
-    }
-
-    -- so a Tick is taken, whether its block was written or not
-    pub fed : {E : Type 0} → (old new : S) (text : Text) (pair : Pair) (ticks : ℕ) (result : Result (Unit {0}) E) → text ≡ block (tick_count h) (last_picture b h) (picture_at b (h ++ Tick ∷ []))
-        → OnOk result (Appended agrees old new text) → OnErr result (AppendedPrefix agrees old new text) → ticks ≡ suc (tick_count h) → PairStands b (h ++ Tick ∷ []) pair
-        → Feeds b agrees old new h Tick pair ticks result
-    fed old new text pair ticks (Ok x) is all part count stands = fed-tick old new text pair ticks is all count stands
-    fed old new text pair ticks (Err e) is all part count stands = begun-tick old new text is part
+    -- a Tick, whose block was gathered behind what room was made of
+    pub fed-tick : (old new : S) (before between : Text) (pair : Pair) (ticks : ℕ) → IsHanded agrees old new before between
+        → ticks ≡ suc (tick_count h) → PairStands b (h ++ Tick ∷ []) pair
+        → (after : Text) → after ≡ between ++ block (tick_count h) (last_picture b h) (picture_at b (h ++ Tick ∷ []))
+        → HasFed b agrees old new before after h Tick pair ticks
+    fed-tick old new before between pair ticks handed count stands after is =
+        let more = block (tick_count h) (last_picture b h) (picture_at b (h ++ Tick ∷ [])) in
+        record {
+          stands = stands;
+          ticks_are = count ∙ sym (tick_count_tick h);
+          more = more;
+          blocks = history_blocks_tick b h;
+          handed = handed-then agrees old new new before between handed more after
+              (subst (λ all. IsHanded agrees new new (between ++ more) all) (sym is) (handed-none agrees new (between ++ more)));
+        }

@@ -10,7 +10,8 @@ use Rattle.ecam_spec.specs.Replay.{history_blocks, tick_count, reply}
 use Rattle.ecam_spec.specs.Command.{command_of}
 use Rattle.book_spec.specs.BookBytes.{book}
 use Rattle.replay_core.specs.Calls.{ShelfCall, SinkCall, Writes}
-use Rattle.replay_core.specs.Answers.{ByRecord, Ends, RepliesWhole, replaying}
+use Rattle.replay_core.specs.Answers.{ByRecord, Ends}
+use Rattle.replay_core.specs.ReadEndings.{RepliesWhole, replaying}
 use Rattle.replay_core.specs.Headline.{Replays, all_changes}
 use Rattle.replay_core.specs.Outcomes.{status_of}
 use Rattle.replay_core.specs.declared.outcome.Status.TheVariants as statuses

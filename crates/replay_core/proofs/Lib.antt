@@ -4,6 +4,7 @@ mod Numbers
 mod Files
 mod Counts
 mod Asked
+mod Handing
 mod PictureRows
 mod PairMoments
 mod Endings

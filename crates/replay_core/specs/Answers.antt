@@ -1,18 +1,15 @@
 -- How the commands end: each ending with its cause, and what is written.
-use Rattle.std.specs.Prelude.{◌≡◌, ◌⊎◌, ℕ, true, [], ◌++◌, Option, Some, None}
+use Rattle.std.specs.Prelude.{◌≡◌, ◌⊎◌, true, [], Option, Some, None}
 use Rattle.ecam_io.specs.Outside.{FileHas}
 use Rattle.ecam_spec.specs.declared.kinds.BookFault.{BookFault}
 use Rattle.ecam_spec.specs.declared.kinds.RecordFault.{RecordFault}
 use Rattle.ecam_spec.specs.Book.{Text, Book}
-use Rattle.ecam_spec.specs.Record.{fault, events}
-use Rattle.ecam_spec.specs.Replay.{reply, standing_lines}
 use Rattle.ecam_spec.specs.Summary.{summary}
-use Rattle.ecam_spec.specs.Command.{Command, check, replay, why, drill, no_limit}
+use Rattle.ecam_spec.specs.Command.{Command, check, replay, why, drill}
 use Rattle.replay_core.specs.Calls.{ShelfCall, OpenedOne, OpenedBoth, HasFailed, SinkCall, Writes, WritesPart, WritesNothing, HasFailedToWrite}
 use Rattle.replay_core.specs.Drill.{drill_line}
 use Rattle.replay_core.specs.Loading.{BookHas, BookTaken, HasFault, IsUnopened, IsUnread}
-use Rattle.replay_core.specs.Play.{RepliesInPart}
-use Rattle.replay_core.specs.Runs.{TookNear, HasStopped}
+use Rattle.replay_core.specs.ReadEndings.{Endings, replaying, explaining}
 use Rattle.replay_core.specs.declared.outcome.Outcome.{Outcome}
 use Rattle.replay_core.specs.declared.outcome.Outcome.TheVariants as outcomes
 
@@ -60,14 +57,6 @@ module _ {S : Type 0} (f : ShelfCall) (out : SinkCall S) (book : Text) where
 
 -- ---- a command that reads a record by a book
 
--- what holds of the book, of the record's bytes and of what is left of them: where the record was read to its end, where
--- it has this fault, where reading it failed, and where writing failed
-pub record Endings : Type 1 where
-  pub whole : Book → Text → Option Text → Type 0
-  pub refused : RecordFault → Book → Text → Option Text → Type 0
-  pub broken : Book → Text → Option Text → Type 0
-  pub stopped : Book → Text → Option Text → Type 0
-
 module _ {S : Type 0} (f : ShelfCall) (out : SinkCall S) (book record' : Text) where
   -- the book has no fault, the record's file is there, and this holds of both
   abbrev pub Both : (Book → Text → Option Text → Type 0) → Type 0
@@ -107,61 +96,6 @@ module _ {S : Type 0} (f : ShelfCall) (out : SinkCall S) (book record' : Text) w
   ByRecord e outcomes.ReadFault = BookUnread f out book ⊎ (RecordUnopened ⊎ RecordUnread e.broken)
   ByRecord e outcomes.WriteFault = NotWritten e.stopped
   ByRecord e outcomes.NoMemory = TooLittle f out book
-
--- ---- the endings of `replay`
-
-module _ {S : Type 0} (out : SinkCall S) (limit : ℕ) where
-  -- the record has no fault, its whole reply is written, and it was read to its end
-  pub record RepliesWhole (b : Book) (text : Text) (left : Option Text) : Type 0 where
-    pub faultless : fault text limit ≡ None
-    pub written : Writes out (reply b text limit)
-    pub spent : left ≡ Some []
-
-  -- the record has this fault, its reply is written, and no more than a piece was taken from the first wrong byte on
-  pub record RepliesTo (g : RecordFault) (b : Book) (text : Text) (left : Option Text) : Type 0 where
-    pub fault_is : fault text limit ≡ Some g
-    pub written : Writes out (reply b text limit)
-    pub took : TookNear limit text left
-
-  abbrev pub replaying : Endings
-  replaying = record {
-    whole = RepliesWhole;
-    refused = RepliesTo;
-    broken = RepliesInPart out limit;
-    stopped = λ b text left. HasStopped b out.agrees out.old out.new limit text left;
-  }
-
--- ---- the endings of `why`
-
-module _ {S : Type 0} (out : SinkCall S) where
-  -- the record has no fault, where each alert stands after it is written, and it was read to its end
-  pub record Explains (b : Book) (text : Text) (left : Option Text) : Type 0 where
-    pub faultless : fault text no_limit ≡ None
-    pub written : Writes out (standing_lines b (events text no_limit))
-    pub spent : left ≡ Some []
-
-  -- or a prefix of it is written
-  pub record ExplainsInPart (b : Book) (text : Text) (left : Option Text) : Type 0 where
-    pub faultless : fault text no_limit ≡ None
-    pub written : WritesPart out (standing_lines b (events text no_limit))
-    pub spent : left ≡ Some []
-
-  -- the record has this fault, nothing is written, and no more than a piece was taken from the first wrong byte on
-  pub record ExplainsNothing (g : RecordFault) (b : Book) (text : Text) (left : Option Text) : Type 0 where
-    pub fault_is : fault text no_limit ≡ Some g
-    pub kept : WritesNothing out
-    pub took : TookNear no_limit text left
-
-  -- a part of the record came, that before what is left, and nothing is written
-  pub record BreaksOff (b : Book) (text : Text) (left : Option Text) : Type 0 where
-    pub taken : Text
-    pub behind : Text
-    pub part : text ≡ taken ++ behind
-    pub rest : left ≡ Some behind
-    pub kept : WritesNothing out
-
-  abbrev pub explaining : Endings
-  explaining = record { whole = Explains; refused = ExplainsNothing; broken = BreaksOff; stopped = ExplainsInPart }
 
 -- ---- the program
 

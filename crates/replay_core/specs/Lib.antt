@@ -7,6 +7,7 @@ pub mod Play
 pub mod Words
 pub mod Outcomes
 pub mod Drill
+pub mod ReadEndings
 pub mod Answers
 pub mod Decides
 pub mod Headline

@@ -1,13 +1,11 @@
 -- What a replay, and a step of it, has written when it ends so.
 use Rattle.std.specs.Prelude.{◌≡◌, ◌⊎◌, ℕ, ◌+◌, ◌*◌, ◌≤◌, List, [], ◌∷◌, ◌++◌, length, All, Option, Some, None, Result, Ok, Err}
 use Rattle.std.specs.Io.KnownBytes.{Consumes}
-use Rattle.std.specs.Io.{StartsWith}
 use Rattle.ecam_io.specs.Outside.{ReadCall, Appended, AppendedPrefix}
 use Rattle.ecam_spec.specs.declared.kinds.Event.{Event}
 use Rattle.ecam_spec.specs.declared.kinds.RecordFault.{RecordFault}
 use Rattle.ecam_spec.specs.Book.{Text, Book}
 use Rattle.ecam_spec.specs.History.{era}
-use Rattle.ecam_spec.specs.Output.{end_line}
 use Rattle.ecam_spec.specs.Record.{fault, events}
 use Rattle.ecam_spec.specs.Replay.{history_blocks, tick_count, reply}
 use Rattle.fwc_pair.specs.PairState.{PairStands}
@@ -41,6 +39,12 @@ pub record HasAsked (result : Result ℕ RunError) (calls : List ReadCall) : Typ
   pub calls_are : calls ≡ pieces ++ last
   pub last_is : IsLast result last
 
+-- of these bytes the first are written, and the others are gathered
+pub record IsHanded {S : Type 0} (agrees : S → List ℕ → Type 0) (old new : S) (bytes gathered : Text) : Type 0 where
+  pub sent : Text
+  pub parts : bytes ≡ sent ++ gathered
+  pub written : Appended agrees old new sent
+
 module _ (b : Book) {S : Type 0} (agrees : S → List ℕ → Type 0) (old new : S) where
   -- the record was read to its end, its whole output is written, and the pair stands where it ends
   pub record HasRun (pair : Pair) (limit : ℕ) (text : Text) (rest : Option (List ℕ)) (ticks : ℕ) : Type 0 where
@@ -56,37 +60,31 @@ module _ (b : Book) {S : Type 0} (agrees : S → List ℕ → Type 0) (old new :
     pub written : Appended agrees old new (reply b text limit)
     pub took : TookNear limit text rest
 
-  -- all that stands before is written, and a prefix of what follows
-  pub record StopsIn (before follows : Text) : Type 0 where
-    pub part : Text
-    pub prefix : StartsWith follows part
-    pub written : Appended agrees old new (before ++ part)
-
-  -- The block of an event wasn't written whole, and all before it is. The bytes taken are those before what is left, and
-  -- no more than a piece was taken behind the line of that event.
-  pub record StopsAtEvent (limit : ℕ) (text : Text) (rest : Option (List ℕ)) : Type 0 where
-    pub taken : Text
-    pub behind : Text
-    pub parts : text ≡ taken ++ behind
-    pub rest_is : rest ≡ Some behind
+  -- A prefix of the blocks up to some line is written. The bytes taken are those before what is left, and no more than a
+  -- piece was taken behind that line.
+  pub record StopsAtLine (limit : ℕ) (text : Text) (rest : Option (List ℕ)) : Type 0 where
     pub front : Text
-    pub near : length taken ≤ length front + 4096
-    pub before : List Event
-    pub event : Event
-    pub events_are : events front limit ≡ before ++ event ∷ []
-    pub block : Text
-    pub blocks : history_blocks b (before ++ event ∷ []) ≡ history_blocks b before ++ block
-    pub stops : StopsIn (history_blocks b before) block
+    pub later : Text
+    pub behind : Text
+    pub parts : text ≡ (front ++ later) ++ behind
+    pub rest_is : rest ≡ Some behind
+    pub near : length later ≤ 4096
+    pub written : AppendedPrefix agrees old new (history_blocks b (events front limit))
 
-  -- the record was read to its end, and the line that ends the output wasn't written whole
-  pub record StopsAtEnd (limit : ℕ) (text : Text) (rest : Option (List ℕ)) : Type 0 where
-    pub spent : rest ≡ Some []
-    pub stops : StopsIn (history_blocks b (events text limit)) (end_line (tick_count (events text limit)))
+  -- the record has a fault, and no more than a piece was taken from the first wrong byte on
+  pub record StopsAtFault (limit : ℕ) (text : Text) (rest : Option (List ℕ)) : Type 0 where
+    pub met : RecordFault
+    pub fault_is : fault text limit ≡ Some met
+    pub took : TookNear limit text rest
+
+  -- the record was read to its end
+  abbrev pub StopsAtEnd : Option (List ℕ) → Type 0
+  StopsAtEnd rest = rest ≡ Some []
 
   -- writing failed: a prefix of the reply is written, and nothing was read after it
   pub record HasStopped (limit : ℕ) (text : Text) (rest : Option (List ℕ)) : Type 0 where
     pub written : AppendedPrefix agrees old new (reply b text limit)
-    pub stops : StopsAtEvent limit text rest ⊎ StopsAtEnd limit text rest
+    pub stops : StopsAtLine limit text rest ⊎ (StopsAtFault limit text rest ⊎ StopsAtEnd rest)
 
   -- the blocks of the bytes that came are written
   pub record HasBroken (limit : ℕ) (left rest : Option (List ℕ)) : Type 0 where
@@ -101,26 +99,16 @@ module _ (b : Book) {S : Type 0} (agrees : S → List ℕ → Type 0) (old new :
   Runs pair limit left rest (Err Write) = (text : Text) → left ≡ Some text → HasStopped limit text rest
   Runs pair limit left rest (Err (Record f)) = (text : Text) → left ≡ Some text → HasMetFault limit text rest f
 
-  -- an event was taken, and what it writes is written
-  pub record HasFed (h : List Event) (e : Event) (pair : Pair) (ticks : ℕ) : Type 0 where
+  -- an event was taken, and what it shows was gathered behind what was before
+  pub record HasFed (before after : Text) (h : List Event) (e : Event) (pair : Pair) (ticks : ℕ) : Type 0 where
     pub stands : PairStands b (h ++ e ∷ []) pair
     pub ticks_are : ticks ≡ tick_count (h ++ e ∷ [])
     pub more : Text
     pub blocks : history_blocks b (h ++ e ∷ []) ≡ history_blocks b h ++ more
-    pub written : Appended agrees old new more
+    pub handed : IsHanded agrees old new (before ++ more) after
 
-  -- a prefix of what it writes is written
-  pub record HasBegun (h : List Event) (e : Event) : Type 0 where
-    pub more : Text
-    pub blocks : history_blocks b (h ++ e ∷ []) ≡ history_blocks b h ++ more
-    pub written : AppendedPrefix agrees old new more
-
-  abbrev pub Feeds : {E : Type 0} → List Event → Event → Pair → ℕ → Result (Unit {0}) E → Type 0
-  Feeds h e pair ticks (Ok _) = HasFed h e pair ticks
-  Feeds h e pair ticks (Err _) = HasBegun h e
-
-  -- where a replay is between two lines: these bytes came, and these events were taken
-  pub record IsAt (limit : ℕ) (left rest : Option (List ℕ)) (reader : ReaderState) (pair : Pair) (ticks : ℕ) : Type 0 where
+  -- where a replay is between two lines: these bytes came, these events were taken, and their blocks are written or gathered
+  pub record IsAt (gathered : Text) (limit : ℕ) (left rest : Option (List ℕ)) (reader : ReaderState) (pair : Pair) (ticks : ℕ) : Type 0 where
     pub taken : List ℕ
     pub answered : List Event
     pub moved : Consumes left rest taken
@@ -128,6 +116,6 @@ module _ (b : Book) {S : Type 0} (agrees : S → List ℕ → Type 0) (old new :
     pub unsettled : settled reader ≡ None
     pub stands : PairStands b answered pair
     pub ticks_are : ticks ≡ tick_count answered
-    pub written : Appended agrees old new (history_blocks b answered)
+    pub handed : IsHanded agrees old new (history_blocks b answered) gathered
     pub moments : length (era answered).moments ≤ length answered
     pub few : 2 * length answered + room reader ≤ limit

@@ -6,6 +6,7 @@ mod block;
 mod commands;
 mod drill;
 mod file;
+mod gather;
 mod load;
 mod outcome;
 mod play;

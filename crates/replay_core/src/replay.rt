@@ -10,13 +10,13 @@ ghost use Rattle.ecam_spec.specs.Output as output;
 ghost use Rattle.book_model.specs.Sealed.{the_book};
 ghost use Rattle.fwc_pair.specs.PairState.{moments_of, PairFits, PairStands};
 ghost use Rattle.record_lines.specs.Reads.{Makes};
-ghost use Rattle.replay_core.specs.Runs.{Feeds, Runs, HasAsked};
+ghost use Rattle.replay_core.specs.Runs.{HasFed, Runs, HasAsked};
 ghost use Rattle.replay_core.specs.Unaffected.{IsUnaffected, written_without};
 
-use crate::block::{Block, put, put_block};
-use arrayvec::ArrayVec;
+use crate::block::{BLOCK, GATHERED, Gathered, put, put_block};
+use crate::gather::{hand_over, hand_over_before_read, make_room};
 use book_model::Book;
-use ecam_io::{Failed, Sink, Source, put_all};
+use ecam_io::{Failed, Sink, Source};
 use ecam_spec::{Event, RecordFault};
 use fwc_pair::Pair;
 use itoa::Buffer;
@@ -36,9 +36,10 @@ pub enum RunError {
 /// Replays a record under a limit on its bytes from the pair's start, and answers the number of its Ticks. The pair
 /// was made for this book. `Ok` has written the whole reply, and the pair then stands where the record ends. After
 /// `Read` the blocks of all Ticks that came are written, after `Write` a prefix of the reply, and after `Record` the
-/// blocks before the record's fault. It takes no memory, reads pieces of 4096 bytes, none behind the one in which it
-/// meets a fault or a write fails, and writes each block in one call where the sink takes it whole. A Tick costs what
-/// it costs the pair, and a copy of each row that changed.
+/// blocks before the record's fault. It takes no memory, and reads pieces of 4096 bytes, none behind the one in which it
+/// meets a fault or a write fails. Blocks are gathered in 65536 bytes, which the sink is handed where the next block
+/// might not fit, before each read, and at the end. A Tick costs what it costs the pair, and a copy of each row that
+/// changed.
 pub fn run<S: Source, O: Sink>(
     book: &Book,
     pair: &mut Pair,
@@ -69,18 +70,28 @@ pub fn run<S: Source, O: Sink>(
 {
     pair.restart(book);
     let mut reader = LineReader::new(limit);
-    let mut block = Block::new();
+    let mut gathered = Gathered::new();
     let mut ticks: u64 = 0;
     'lines: loop {
+        match hand_over_before_read(&reader, &mut gathered, out) {
+            Ok(()) => {}
+            Err(Failed) => return Err(RunError::Write),
+        }
         let event = match reader.next(source) {
             Ok(event) => event,
-            Err(LineError::Failed) => return Err(RunError::Read),
-            Err(LineError::Record(fault)) => return Err(RunError::Record(fault)),
+            Err(LineError::Failed) => match hand_over(&mut gathered, out) {
+                Ok(()) => return Err(RunError::Read),
+                Err(Failed) => return Err(RunError::Write),
+            },
+            Err(LineError::Record(fault)) => match hand_over(&mut gathered, out) {
+                Ok(()) => return Err(RunError::Record(fault)),
+                Err(Failed) => return Err(RunError::Write),
+            },
         };
         if is_end(&event) {
-            return finish(ticks, out);
+            return finish(ticks, &mut gathered, out);
         }
-        match feed(book, pair, &mut ticks, &mut block, &event, out) {
+        match feed(book, pair, &mut ticks, &mut gathered, &event, out) {
             Ok(()) => {}
             Err(Failed) => return Err(RunError::Write),
         }
@@ -101,12 +112,12 @@ fn is_tick(event: &Event) -> bool
     matches!(event, Event::Tick)
 }
 
-// Takes one event, and writes what it shows, by way of `block`. `ticks` is how many Ticks there were.
+// Takes one event, and gathers what it shows. `ticks` is how many Ticks there were.
 fn feed<O: Sink>(
     book: &Book,
     pair: &mut Pair,
     ticks: &mut u64,
-    block: &mut Block,
+    gathered: &mut Gathered,
     event: &Event,
     out: &mut O,
 ) -> Result<(), Failed>
@@ -115,9 +126,11 @@ fn feed<O: Sink>(
     requires moments { moments_of pair.old < 2 ^ 63 }
     requires ticks { ticks.old < 2 ^ 63 }
     ensures fits { PairFits (the_book book.now) pair.new }
-    ensures feeds { (h : List Event) → PairStands (the_book book.now) h pair.old
+    ensures fed { (h : List Event) → PairStands (the_book book.now) h pair.old
         → ticks.old ≡ tick_count h
-        → Feeds (the_book book.now) O.agrees out.old out.new h event.now pair.new ticks.new result }
+        → OnOk result (HasFed (the_book book.now) O.agrees out.old out.new
+        gathered.old.items gathered.new.items h event.now pair.new ticks.new) }
+    ensures prefix { OnErr result (AppendedPrefix O.agrees out.old out.new gathered.old.items) }
     ensures cause { OnErr result (Rose (O.faults out.old) (O.faults out.new)) }
     ensures out_faults { O.faults out.old ≤ O.faults out.new }
     ensures out_quiet { OnOk result (O.faults out.new ≡ O.faults out.old) }
@@ -126,29 +139,51 @@ fn feed<O: Sink>(
     if !is_tick(event) {
         return Ok(());
     }
-    block.clear();
-    put_block(block, *ticks, pair.picture(), pair.changed());
+    make_room(gathered, out)?;
+    put_block(gathered, *ticks, pair.picture(), pair.changed());
     *ticks += 1;
-    put_all(out, block.as_slice())
+    Ok(())
 }
 
-// Writes the line that ends the output, and answers the number of Ticks.
-fn finish<O: Sink>(ticks: u64, out: &mut O) -> Result<u64, RunError>
+// Writes what was gathered and the line that ends the output, and answers the number of Ticks.
+fn finish<O: Sink>(ticks: u64, gathered: &mut Gathered, out: &mut O) -> Result<u64, RunError>
     ensures ticks { IfOk result (λ n. n ≡ ticks) }
-    ensures ok { OnOk result (Appended O.agrees out.old out.new (output.end_line ticks)) }
-    ensures err { OnErr result (AppendedPrefix O.agrees out.old out.new (output.end_line ticks)) }
+    ensures ok { OnOk result (Appended O.agrees out.old out.new
+        (gathered.old.items ++ output.end_line ticks)) }
+    ensures err { OnErr result (AppendedPrefix O.agrees out.old out.new
+        (gathered.old.items ++ output.end_line ticks)) }
     ensures cause { IfErr result (λ e. e ≡ RunError.Write) }
     ensures write { OnErr result (Rose (O.faults out.old) (O.faults out.new)) }
     ensures out_faults { O.faults out.old ≤ O.faults out.new }
     ensures out_quiet { OnOk result (O.faults out.new ≡ O.faults out.old) }
 {
-    let mut text: ArrayVec<u8, 64> = ArrayVec::new();
-    let mut buffer = Buffer::new();
-    put(&mut text, b"END ");
-    put(&mut text, buffer.format(ticks).as_bytes());
-    put(&mut text, b"\n");
-    match put_all(out, text.as_slice()) {
+    match write_end(ticks, gathered, out) {
         Ok(()) => Ok(ticks),
         Err(Failed) => Err(RunError::Write),
     }
+}
+
+fn write_end<O: Sink>(ticks: u64, gathered: &mut Gathered, out: &mut O) -> Result<(), Failed>
+    ensures all { OnOk result (Appended O.agrees out.old out.new
+        (gathered.old.items ++ output.end_line ticks)) }
+    ensures prefix { OnErr result (AppendedPrefix O.agrees out.old out.new
+        (gathered.old.items ++ output.end_line ticks)) }
+    ensures cause { OnErr result (Rose (O.faults out.old) (O.faults out.new)) }
+    ensures faults { O.faults out.old ≤ O.faults out.new }
+    ensures quiet { OnOk result (O.faults out.new ≡ O.faults out.old) }
+{
+    make_room(gathered, out)?;
+    put_end(gathered, ticks);
+    hand_over(gathered, out)
+}
+
+// Appends the line that ends the output.
+fn put_end(gathered: &mut Gathered, ticks: u64)
+    requires { length gathered.old.items + BLOCK ≤ GATHERED }
+    ensures { gathered.new.items ≡ gathered.old.items ++ output.end_line ticks }
+{
+    let mut buffer = Buffer::new();
+    put(gathered, b"END ");
+    put(gathered, buffer.format(ticks).as_bytes());
+    put(gathered, b"\n");
 }

@@ -1,7 +1,8 @@
 use Rattle.std.proofs.Common.{refl, sym, ◌∙◌, subst}
 use Rattle.std.specs.Prelude.{⊤}
 use Rattle.ecam_io.specs.declared.discard.Discard.{Discard}
-use Rattle.replay_core.specs.Answers.{ByRecord, explaining}
+use Rattle.replay_core.specs.Answers.{ByRecord}
+use Rattle.replay_core.specs.ReadEndings.{explaining}
 use Rattle.replay_core.specs.Calls.{shelf_call, sink_call}
 use Rattle.replay_core.specs.declared.load.Unready.TheVariants as unready
 use Rattle.replay_core.specs.declared.outcome.Outcome.TheVariants as outcomes

@@ -1,5 +1,6 @@
 use Rattle.std.proofs.Common.{refl, sym, ◌∙◌, subst}
-use Rattle.replay_core.specs.Answers.{ByRecord, replaying}
+use Rattle.replay_core.specs.Answers.{ByRecord}
+use Rattle.replay_core.specs.ReadEndings.{replaying}
 use Rattle.replay_core.specs.Calls.{shelf_call, sink_call}
 use Rattle.replay_core.specs.declared.load.Unready.TheVariants as unready
 use Rattle.replay_core.specs.declared.outcome.Outcome.TheVariants as outcomes

@@ -9,7 +9,7 @@ use Rattle.replay_core.proofs.replay.run.Given as goal
 
 abbrev pub invariant-lines : goal.invariant-lines
 invariant-lines g l = record {
-  at : IsAt (the_book l.book) g.O.Sink.agrees l.initial.out l.out l.limit (g.S.Source.left l.initial.source) (g.S.Source.left l.source) l.reader l.pair l.ticks;
+  at : IsAt (the_book l.book) g.O.Sink.agrees l.initial.out l.out l.gathered.items l.limit (g.S.Source.left l.initial.source) (g.S.Source.left l.source) l.reader l.pair l.ticks;
   fits : PairFits (the_book l.book) l.pair;
   asked : Makes g.S.Source.reads l.initial.source l.source (All GivesBytes);
   quiet : g.S.Source.faults l.source ≡ g.S.Source.faults l.initial.source;
