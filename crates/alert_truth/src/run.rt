@@ -15,7 +15,8 @@ pub fn since_when(before: Option<u64>, cond: bool, now: u64) -> Option<u64>
 
 /// An alert is present where its condition has held now and in each of `confirm` moments before.
 pub fn is_present(since: Option<u64>, confirm: u32, now: u64) -> bool
-    ensures { (p : Signal) → since ≡ running_since p (suc now) → result ≡ alert.present confirm p now }
+    ensures { (p : Signal) → since ≡ running_since p (suc now)
+        → result ≡ alert.present confirm p now }
 {
     match since {
         Some(start) => now.saturating_sub(start) >= u64::from(confirm),

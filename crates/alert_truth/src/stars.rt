@@ -26,8 +26,10 @@ pub struct Stars {
 impl Stars {
     /// For so many alerts, none of them starred or up. An error is want of memory.
     pub fn new(alloc: Global, alerts: usize) -> Result<Stars, AllocError>
-        ensures fits { IfOk result (λ s. (b : plain.Book) → length b.alerts ≡ alerts → StarsFit b s) }
-        ensures stands { IfOk result (λ s. (b : plain.Book) (active : ℕ → Signal) → length b.alerts ≡ alerts
+        ensures fits { IfOk result (λ s. (b : plain.Book) → length b.alerts ≡ alerts
+            → StarsFit b s) }
+        ensures stands { IfOk result (λ s. (b : plain.Book) (active : ℕ → Signal)
+            → length b.alerts ≡ alerts
             → StarsStand b active 0 s) }
     {
         Ok(Stars {
@@ -52,9 +54,11 @@ impl Stars {
     /// Takes over the stars of another. Its cost is one write an alert.
     pub fn copy_from(&mut self, other: &Stars)
         requires { (b : plain.Book) × StarsFit b self.old × StarsFit b other.now }
-        ensures fits { (b : plain.Book) → StarsFit b self.old → StarsFit b other.now → StarsFit b self.new }
+        ensures fits { (b : plain.Book) → StarsFit b self.old → StarsFit b other.now
+            → StarsFit b self.new }
         ensures stands { (b : plain.Book) (active : ℕ → Signal) (k : ℕ) → StarsFit b self.old
-            → StarsFit b other.now → StarsStand b active k other.now → StarsStand b active k self.new }
+            → StarsFit b other.now → StarsStand b active k other.now
+            → StarsStand b active k self.new }
     {
         self.primaries.copy_from_slice(&other.primaries);
         self.starred.copy_from_slice(&other.starred);
@@ -117,7 +121,8 @@ fn find_primaries(found: &mut Vec<Option<u32>>, active: &[bool], book: &Book)
 fn note(found: &mut Vec<Option<u32>>, secondaries: &[u32], alert: u32)
     requires { All (λ s. s < length found.old.items) secondaries.now }
     ensures places { length found.new.items ≡ length found.old.items }
-    ensures noted { (a : ℕ) → get_or found.new.items a None ≡ option_or (get_or found.old.items a None)
+    ensures noted { (a : ℕ) → get_or found.new.items a None
+        ≡ option_or (get_or found.old.items a None)
         (if list_any (λ s. s == a) secondaries.now then Some alert else None) }
 {
     for secondary in secondaries {

@@ -81,7 +81,8 @@ fn alert(alloc: Global, own: &str, confirm: u32, inhibit: u16, secondary: Vec<Na
 // first explains the last, and the second explains the last two.
 fn alerts(alloc: Global) -> Result<Vec<Alert>, AllocError>
     ensures { IfOk result (λ v. map alert_of v.items ≡
-        (let plain : List ℕ → ℕ → ℕ → List (List ℕ) → DraftAlert = λ name confirm inhibit secondary. record {
+        (let plain : List ℕ → ℕ → ℕ → List (List ℕ)
+        → DraftAlert = λ name confirm inhibit secondary. record {
           name = name;
           title = codes "T";
           system = 0;

@@ -58,7 +58,8 @@ impl Truths {
     /// Forgets all moments. Its cost is a few writes an alert.
     pub fn clear(&mut self)
         ensures fits { (b : plain.Book) → TruthsFit b self.old → TruthsFit b self.new }
-        ensures stands { (b : plain.Book) (conditions : ℕ → Signal) (phases : ℕ → ℕ) → TruthsFit b self.old
+        ensures stands { (b : plain.Book) (conditions : ℕ → Signal) (phases : ℕ → ℕ)
+            → TruthsFit b self.old
             → TruthsStand b conditions phases 0 self.new }
         ensures moments { self.new.moments ≡ 0 }
         ensures changed { self.new.changed ≡ false }
@@ -76,7 +77,8 @@ impl Truths {
     /// Takes over the truths of the same book's alerts from another computer. Its cost is a few writes an alert.
     pub fn copy_from(&mut self, other: &Truths)
         requires { (b : plain.Book) × TruthsFit b self.old × TruthsFit b other.now }
-        ensures fits { (b : plain.Book) → TruthsFit b self.old → TruthsFit b other.now → TruthsFit b self.new }
+        ensures fits { (b : plain.Book) → TruthsFit b self.old → TruthsFit b other.now
+            → TruthsFit b self.new }
         ensures stands { (b : plain.Book) (conditions : ℕ → Signal) (phases : ℕ → ℕ) (k : ℕ)
             → TruthsFit b self.old → TruthsStand b conditions phases k other.now
             → TruthsStand b conditions phases k self.new }
@@ -143,7 +145,8 @@ impl Truths {
         requires goes_on { CanGoOn self.old }
         ensures fits { TruthsFit (the_book book.now) self.new }
         ensures stands { (conditions : ℕ → Signal) (phases : ℕ → ℕ) (k : ℕ)
-            → HalfStand (the_book book.now) conditions phases k (length book.now.alerts.items) self.old
+            → HalfStand (the_book book.now) conditions phases k (length book.now.alerts.items)
+            self.old
             → TruthsStand (the_book book.now) conditions phases (suc k) self.new }
         ensures moments { self.new.moments ≡ self.old.moments + 1 }
     {

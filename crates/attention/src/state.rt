@@ -40,7 +40,8 @@ impl Attention {
     pub fn new(alloc: Global, book: &Book) -> Result<Attention, AllocError>
         ensures fits { IfOk result (AttentionFits (the_book book.now)) }
         ensures moments { IfOk result (λ t. t.moments ≡ 0) }
-        ensures stands { IfOk result (λ t. (a : lamps.Attention) → AttentionStands (the_book book.now) a 0 t) }
+        ensures stands { IfOk result (λ t. (a : lamps.Attention)
+            → AttentionStands (the_book book.now) a 0 t) }
         ensures changed { IfOk result (λ t. t.changed ≡ false) }
     {
         let mut watches = Vec::new(alloc);
@@ -72,7 +73,8 @@ impl Attention {
         requires { (b : plain.Book) × AttentionFits b self.old × AttentionFits b other.now }
         ensures fits { (b : plain.Book) → AttentionFits b other.now → AttentionFits b self.new }
         ensures moments { self.new.moments ≡ other.now.moments }
-        ensures stands { (b : plain.Book) (a : lamps.Attention) (k : ℕ) → AttentionStands b a k other.now
+        ensures stands { (b : plain.Book) (a : lamps.Attention) (k : ℕ)
+            → AttentionStands b a k other.now
             → AttentionStands b a k self.new }
         ensures changed { self.new.changed ≡ other.now.changed }
     {
@@ -148,7 +150,8 @@ impl Attention {
     /// MASTER WARN is lit in the last moment. Before the first it isn't.
     pub fn warn(&self) -> bool
         ensures value { result ≡ (lights_of self.now).warn }
-        ensures answer { (b : plain.Book) (a : lamps.Attention) (k : ℕ) → AttentionStands b a k self.now
+        ensures answer { (b : plain.Book) (a : lamps.Attention) (k : ℕ)
+            → AttentionStands b a k self.now
             → result ≡ (lights_after a k).warn }
     {
         self.calls.warning.is_some()
@@ -157,7 +160,8 @@ impl Attention {
     /// MASTER CAUT is lit in the last moment. Before the first it isn't.
     pub fn caut(&self) -> bool
         ensures value { result ≡ (lights_of self.now).caut }
-        ensures answer { (b : plain.Book) (a : lamps.Attention) (k : ℕ) → AttentionStands b a k self.now
+        ensures answer { (b : plain.Book) (a : lamps.Attention) (k : ℕ)
+            → AttentionStands b a k self.now
             → result ≡ (lights_after a k).caut }
     {
         self.calls.caution
@@ -166,7 +170,8 @@ impl Attention {
     /// The aural warning in the last moment. Before the first there is none.
     pub fn sound(&self) -> Sound
         ensures value { result ≡ (lights_of self.now).sound }
-        ensures answer { (b : plain.Book) (a : lamps.Attention) (k : ℕ) → AttentionStands b a k self.now
+        ensures answer { (b : plain.Book) (a : lamps.Attention) (k : ℕ)
+            → AttentionStands b a k self.now
             → result ≡ (lights_after a k).sound }
     {
         self.calls.sound(self.moments)
@@ -175,7 +180,8 @@ impl Attention {
     /// In the last moment a light or the sound is other than in the one before. Before the first it is `false`.
     pub fn changed(&self) -> bool
         ensures value { result ≡ self.now.changed }
-        ensures answer { (b : plain.Book) (a : lamps.Attention) (k : ℕ) → AttentionStands b a (suc k) self.now
+        ensures answer { (b : plain.Book) (a : lamps.Attention) (k : ℕ)
+            → AttentionStands b a (suc k) self.now
             → (result ≡ false) ↔ (lights_after a (suc k) ≡ lights_after a k) }
     {
         self.changed

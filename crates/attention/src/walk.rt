@@ -22,7 +22,8 @@ pub fn walk(watches: &mut [Watch], alerts: &[Alert], moment: &Moment) -> Calls
         → AreWatched a (suc k) (length alerts.now) watches.new }
     ensures calls { (a : lamps.Attention) (k : ℕ) → IsMoment a k alerts.now moment.now
         → AreWatched a k (length alerts.now) watches.old
-        → AreCalls a k (filter (λ i. get_or moment.now.shown.now i false) (below (length alerts.now)))
+        → AreCalls a k (filter (λ i. get_or moment.now.shown.now i false)
+        (below (length alerts.now)))
         result }
 {
     let mut calls = Calls::none();

@@ -37,7 +37,8 @@ pub(crate) enum AlertFlaw<'a, 'n> {
 impl AlertFlaw<'_, '_> {
     /// Whether the alert, at this place of the book from 0, has the flaw.
     pub(crate) fn is_in(&self, place: usize, alert: &Alert) -> bool
-        ensures { (names : List Text) → Knows names self.now → result ≡ has_flaw names self.now place (alert_of alert.now) }
+        ensures { (names : List Text) → Knows names self.now
+            → result ≡ has_flaw names self.now place (alert_of alert.now) }
     {
         match self {
             AlertFlaw::AsksLaterAlert => has_atom(&alert.when.cond, &AtomFlaw::AlertFrom(place)),
@@ -55,14 +56,16 @@ impl AlertFlaw<'_, '_> {
 }
 
 fn misreads_parameter(alert: &Alert, params: &[Param]) -> bool
-    ensures { result ≡ one_misreads (kinds_in params.now) ((alert_of alert.now).when ∷ line_terms (alert_of alert.now).lines) }
+    ensures { result ≡ one_misreads (kinds_in params.now)
+        ((alert_of alert.now).when ∷ line_terms (alert_of alert.now).lines) }
 {
     let flaw = AtomFlaw::Misread(params);
     has_atom(&alert.when.cond, &flaw) || lines_have_atom(alert.lines.as_slice(), &flaw)
 }
 
 fn lines_have_atom(lines: &[Line], flaw: &AtomFlaw<'_>) -> bool
-    ensures { result ≡ list_any (has_atom (is_flawed flaw.now)) (line_terms (map line_of lines.now)) }
+    ensures { result ≡ list_any (has_atom (is_flawed flaw.now))
+        (line_terms (map line_of lines.now)) }
 {
     for line in lines {
         if has_atom(&line.when.cond, flaw) || has_atom(&line.done.cond, flaw) {
@@ -83,7 +86,8 @@ fn may_sound(level: Level, sound: Sound) -> bool
 }
 
 fn has_unknown(secondaries: &[Name], places: &NamePlaces<'_>) -> bool
-    ensures { (names : List Text) → FindsPlaces names places.now → result ≡ list_any (is_unknown names) (map bytes_of secondaries.now) }
+    ensures { (names : List Text) → FindsPlaces names places.now
+        → result ≡ list_any (is_unknown names) (map bytes_of secondaries.now) }
 {
     secondaries
         .iter()
@@ -91,7 +95,8 @@ fn has_unknown(secondaries: &[Name], places: &NamePlaces<'_>) -> bool
 }
 
 fn has_early(secondaries: &[Name], primary: usize, places: &NamePlaces<'_>) -> bool
-    ensures { (names : List Text) → FindsPlaces names places.now → result ≡ list_any (stands_early names primary) (map bytes_of secondaries.now) }
+    ensures { (names : List Text) → FindsPlaces names places.now
+        → result ≡ list_any (stands_early names primary) (map bytes_of secondaries.now) }
 {
     secondaries.iter().any(|name| stands_early(primary, place_of(places, name.as_str())))
 }

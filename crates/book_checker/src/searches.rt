@@ -14,7 +14,8 @@ use book_model::{Alert, BookFault, Memo, PhaseTerms, Section};
 
 /// The fault of this code in the phase table, where one of its conditions has the flaw.
 pub(crate) fn phase_fault(code: u8, phase: &PhaseTerms, flaw: &AtomFlaw<'_>) -> Option<BookFault>
-    ensures { result ≡ fault_at code section.Phase (whole (list_any (has_atom (is_flawed flaw.now)) (phase_terms (phase_of phase.now)))) }
+    ensures { result ≡ fault_at code section.Phase
+        (whole (list_any (has_atom (is_flawed flaw.now)) (phase_terms (phase_of phase.now)))) }
 {
     if phase_has_atom(phase, flaw) {
         Some(BookFault {
@@ -43,7 +44,8 @@ fn at_item(code: u8, section: Section, place: usize) -> BookFault
 pub(crate) fn alert_fault(code: u8, alerts: &[Alert], flaw: &AlertFlaw<'_, '_>) -> Option<BookFault>
     requires count { length alerts.now < 2 ^ 32 }
     requires names { Knows (map name_of alerts.now) flaw.now }
-    ensures { result ≡ fault_at code section.Alert (first_item (has_flaw (map name_of alerts.now) flaw.now) (map alert_of alerts.now)) }
+    ensures { result ≡ fault_at code section.Alert
+        (first_item (has_flaw (map name_of alerts.now) flaw.now) (map alert_of alerts.now)) }
 {
     for (place, alert) in alerts.iter().enumerate() {
         if flaw.is_in(place, alert) {
@@ -56,7 +58,8 @@ pub(crate) fn alert_fault(code: u8, alerts: &[Alert], flaw: &AlertFlaw<'_, '_>) 
 /// The fault of this code at the first memo whose condition has the flaw.
 pub(crate) fn memo_fault(code: u8, memos: &[Memo], flaw: &AtomFlaw<'_>) -> Option<BookFault>
     requires count { length memos.now < 2 ^ 32 }
-    ensures { result ≡ fault_at code section.Memo (first_item (λ i m. has_atom (is_flawed flaw.now) m.when) (map memo_of memos.now)) }
+    ensures { result ≡ fault_at code section.Memo
+        (first_item (λ i m. has_atom (is_flawed flaw.now) m.when) (map memo_of memos.now)) }
 {
     for (place, memo) in memos.iter().enumerate() {
         if has_atom(&memo.when.cond, flaw) {

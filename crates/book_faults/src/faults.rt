@@ -172,7 +172,8 @@ fn first_rule_fault(
 #[tactic(auto, using(book_tables::proofs::FewItems::system_count))]
 fn repeated_systems(alloc: Global, names: &Catalogue<'_>) -> Result<Option<BookFault>, AllocError>
     requires { length (list_in (codes "systems") (table_in names.now)) < 2 ^ 32 }
-    ensures { IfOk result (λ r. r ≡ spec.repeated_in (table_in names.now) Section.System (spec.system_texts (table_in names.now))) }
+    ensures { IfOk result (λ r. r ≡ spec.repeated_in (table_in names.now) Section.System
+        (spec.system_texts (table_in names.now))) }
 {
     let texts = texts_in(alloc, list_in(names.top, "systems"))?;
     let item = first_repeated(alloc, texts.as_slice())?;
@@ -187,7 +188,8 @@ fn repeated_names(
     key: &str,
 ) -> Result<Option<BookFault>, AllocError>
     requires { length (list_in key.now (table_in names.now)) < 2 ^ 32 }
-    ensures { IfOk result (λ r. r ≡ spec.repeated_in (table_in names.now) section (spec.names_in key.now (table_in names.now))) }
+    ensures { IfOk result (λ r. r ≡ spec.repeated_in (table_in names.now) section
+        (spec.names_in key.now (table_in names.now))) }
 {
     let texts = names_in(alloc, list_in(names.top, key))?;
     let item = first_repeated(alloc, texts.as_slice())?;

@@ -220,7 +220,8 @@ fn is_refused(
     text: &str,
 ) -> Result<bool, AllocError>
     requires { length text.now ≤ TERM_TEXT }
-    ensures { IfOk result (λ b. b ≡ refused_by rule (verdict (names_in names.now).of_terms text.now)) }
+    ensures { IfOk result (λ b. b ≡ refused_by rule
+        (verdict (names_in names.now).of_terms text.now)) }
 {
     match read_condition(alloc, text, names) {
         Ok(_) => Ok(false),
@@ -242,7 +243,8 @@ fn term_fails(
     leaf: Leaf,
     value: &Value,
 ) -> Result<bool, AllocError>
-    ensures { IfOk result (λ b. b ≡ spec.term_fails (names_in names.now) (refused_by rule) leaf (view value.now)) }
+    ensures { IfOk result (λ b. b ≡ spec.term_fails (names_in names.now) (refused_by rule) leaf
+        (view value.now)) }
 {
     match (leaf, term_text_in(value)) {
         (Leaf::Term, Some(text)) => is_refused(alloc, rule, names, text),
@@ -259,7 +261,8 @@ fn one_rule_breaks(
     leaf: Leaf,
     value: &Value,
 ) -> Result<bool, AllocError>
-    ensures { IfOk result (λ b. b ≡ spec.leaf_breaks (names_in names.now) rule leaf (view value.now)) }
+    ensures { IfOk result (λ b. b ≡ spec.leaf_breaks (names_in names.now) rule leaf
+        (view value.now)) }
 {
     match rule {
         Rule::Known => Ok(false),
@@ -298,7 +301,8 @@ fn is_unreadable(alloc: Global, names: &Catalogue<'_>, text: &str) -> Result<boo
 /// Whether a value breaks one of the rules for which no condition is read.
 #[tactic(auto, unfolding(book_spec::specs::Rules::leaf_breaks))]
 fn unread_breaks(names: &Catalogue<'_>, leaf: Leaf, value: &Value) -> bool
-    ensures { result ≡ list_any (λ rule. spec.leaf_breaks (names_in names.now) rule leaf (view value.now)) unread_rules }
+    ensures { result ≡ list_any (λ rule. spec.leaf_breaks (names_in names.now) rule leaf
+        (view value.now)) unread_rules }
 {
     has_wrong_type(leaf, value)
         || name_fails(leaf, value)
@@ -319,7 +323,8 @@ fn read_breaks(
     leaf: Leaf,
     value: &Value,
 ) -> Result<bool, AllocError>
-    ensures { IfOk result (λ b. b ≡ list_any (λ rule. spec.leaf_breaks (names_in names.now) rule leaf (view value.now)) read_rules) }
+    ensures { IfOk result (λ b. b ≡ list_any (λ rule. spec.leaf_breaks (names_in names.now) rule
+        leaf (view value.now)) read_rules) }
 {
     match (leaf, term_text_in(value)) {
         (Leaf::Term, Some(text)) => is_unreadable(alloc, names, text),

@@ -27,7 +27,8 @@ fn first_leaf(
     values: &[Value],
 ) -> Result<Option<u32>, AllocError>
     requires { length values.now < 2 ^ 32 }
-    ensures { IfOk result (λ r. r ≡ first_item (λ i d. leaf_fails (names_in names.now) asked leaf d) (views values.now)) }
+    ensures { IfOk result (λ r. r ≡ first_item (λ i d. leaf_fails (names_in names.now) asked leaf d)
+        (views values.now)) }
 {
     for (i, value) in values.iter().enumerate() {
         if leaf_breaks(alloc, asked, names, leaf, value)? {
@@ -45,7 +46,8 @@ fn first_table(
     values: &[Value],
 ) -> Result<Option<u32>, AllocError>
     requires { length values.now < 2 ^ 32 }
-    ensures { IfOk result (λ r. r ≡ first_item (λ i d. item_fails (names_in names.now) asked item d) (views values.now)) }
+    ensures { IfOk result (λ r. r ≡ first_item (λ i d. item_fails (names_in names.now) asked item d)
+        (views values.now)) }
 {
     for (i, value) in values.iter().enumerate() {
         if item_breaks(alloc, asked, names, item, value)? {
@@ -66,7 +68,8 @@ pub(crate) fn place_among_leaves(
     value: &Value,
 ) -> Result<Option<u32>, AllocError>
     requires { length (members_of (view value.now)) < 2 ^ 32 }
-    ensures { IfOk result (λ r. r ≡ place_in_list asked most (λ rule. leaf_breaks (names_in names.now) rule leaf) (view value.now)) }
+    ensures { IfOk result (λ r. r ≡ place_in_list asked most
+        (λ rule. leaf_breaks (names_in names.now) rule leaf) (view value.now)) }
 {
     if list_breaks(asked, 0, most, value) {
         return Ok(Some(0));
@@ -85,7 +88,8 @@ pub(crate) fn place_among_items(
     value: &Value,
 ) -> Result<Option<u32>, AllocError>
     requires { length (members_of (view value.now)) < 2 ^ 32 }
-    ensures { IfOk result (λ r. r ≡ place_in_list asked most (λ rule. item_breaks (names_in names.now) rule item) (view value.now)) }
+    ensures { IfOk result (λ r. r ≡ place_in_list asked most
+        (λ rule. item_breaks (names_in names.now) rule item) (view value.now)) }
 {
     if list_breaks(asked, 0, most, value) {
         return Ok(Some(0));
@@ -109,7 +113,8 @@ fn first_counted_twice(counts: &Counts<'_>, names: &[&str]) -> Option<u32>
 /// The number, counted from 1, of the first name that stands at another place too. It costs n log n for n names.
 pub(crate) fn first_repeated(alloc: Global, names: &[&str]) -> Result<Option<u32>, AllocError>
     requires { length names.now < 2 ^ 32 }
-    ensures { IfOk result (λ r. r ≡ first_item (λ i n. is_repeated (texts_of names.now) n) (texts_of names.now)) }
+    ensures { IfOk result (λ r. r ≡ first_item (λ i n. is_repeated (texts_of names.now) n)
+        (texts_of names.now)) }
 {
     let counts = counts_of(alloc, names)?;
     Ok(first_counted_twice(&counts, names))

@@ -44,13 +44,15 @@ fn has_only<S>(keys: &[Key<S>], table: &Table) -> bool
 }
 
 fn is_missing<S>(key: &Key<S>, table: &Table) -> bool
-    ensures { result ≡ (key.now.needed && is_none (get_member key.now.name.now (table_view table.now))) }
+    ensures { result ≡ (key.now.needed && is_none
+        (get_member key.now.name.now (table_view table.now))) }
 {
     key.needed && find(table, key.name).is_none()
 }
 
 fn lacks_key<S>(keys: &[Key<S>], table: &Table) -> bool
-    ensures { result ≡ list_any (λ k. k.needed && is_none (get_member k.name (table_view table.now))) (keys_of keys.now) }
+    ensures { result ≡ list_any (λ k. k.needed
+        && is_none (get_member k.name (table_view table.now))) (keys_of keys.now) }
 {
     for key in keys {
         if is_missing(key, table) {
@@ -79,7 +81,9 @@ fn leaf_at_breaks(
     key: &Key<Leaf>,
     table: &Table,
 ) -> Result<bool, AllocError>
-    ensures { IfOk result (λ b. b ≡ any_asked asked (λ rule. if_there (leaf_breaks (names_in names.now) rule key.now.holds) (get_member key.now.name.now (table_view table.now)))) }
+    ensures { IfOk result (λ b. b ≡ any_asked asked
+        (λ rule. if_there (leaf_breaks (names_in names.now) rule key.now.holds)
+        (get_member key.now.name.now (table_view table.now)))) }
 {
     match find(table, key.name) {
         Some(value) => leaf_breaks(alloc, asked, names, key.holds, value),
@@ -94,7 +98,9 @@ fn leaves_break(
     keys: &[Key<Leaf>],
     table: &Table,
 ) -> Result<bool, AllocError>
-    ensures { IfOk result (λ b. b ≡ list_any (λ k. any_asked asked (λ rule. if_there (leaf_breaks (names_in names.now) rule k.holds) (get_member k.name (table_view table.now)))) (keys_of keys.now)) }
+    ensures { IfOk result (λ b. b ≡ list_any (λ k. any_asked asked
+        (λ rule. if_there (leaf_breaks (names_in names.now) rule k.holds)
+        (get_member k.name (table_view table.now)))) (keys_of keys.now)) }
 {
     for key in keys {
         if leaf_at_breaks(alloc, asked, names, key, table)? {
@@ -111,7 +117,8 @@ fn inner_table_breaks(
     keys: &[Key<Leaf>],
     table: &Table,
 ) -> Result<bool, AllocError>
-    ensures { IfOk result (λ b. b ≡ leaf_table_fails (names_in names.now) asked (keys_of keys.now) (table_view table.now)) }
+    ensures { IfOk result (λ b. b ≡ leaf_table_fails (names_in names.now) asked (keys_of keys.now)
+        (table_view table.now)) }
 {
     if keys_break(asked, keys, table) {
         return Ok(true);
@@ -126,7 +133,8 @@ fn row_breaks(
     names: &Catalogue<'_>,
     table: &Table,
 ) -> Result<bool, AllocError>
-    ensures { IfOk result (λ b. b ≡ leaf_table_fails (names_in names.now) asked (schema.inner_keys Inner.Row (table_view table.now)) (table_view table.now)) }
+    ensures { IfOk result (λ b. b ≡ leaf_table_fails (names_in names.now) asked
+        (schema.inner_keys Inner.Row (table_view table.now)) (table_view table.now)) }
 {
     if find(table, "show").is_some() {
         inner_table_breaks(alloc, asked, names, &value_row_keys(), table)
@@ -142,7 +150,8 @@ fn source_breaks(
     kind: Option<Kind>,
     table: &Table,
 ) -> Result<bool, AllocError>
-    ensures { IfOk result (λ b. b ≡ leaf_table_fails (names_in names.now) asked (schema.source_keys kind) (table_view table.now)) }
+    ensures { IfOk result (λ b. b ≡ leaf_table_fails (names_in names.now) asked
+        (schema.source_keys kind) (table_view table.now)) }
 {
     match kind {
         Some(Kind::Disc) => inner_table_breaks(alloc, asked, names, &disc_keys(), table),
@@ -160,7 +169,8 @@ fn keyed_inner_breaks(
     inner: Inner,
     table: &Table,
 ) -> Result<bool, AllocError>
-    ensures { IfOk result (λ b. b ≡ leaf_table_fails (names_in names.now) asked (schema.inner_keys inner (table_view table.now)) (table_view table.now)) }
+    ensures { IfOk result (λ b. b ≡ leaf_table_fails (names_in names.now) asked
+        (schema.inner_keys inner (table_view table.now)) (table_view table.now)) }
 {
     match inner {
         Inner::Row => row_breaks(alloc, asked, names, table),
@@ -205,7 +215,8 @@ fn any_inner_breaks(
     inner: Inner,
     values: &[Value],
 ) -> Result<bool, AllocError>
-    ensures { IfOk result (λ b. b ≡ list_any (inner_fails (names_in names.now) asked inner) (views values.now)) }
+    ensures { IfOk result (λ b. b ≡ list_any (inner_fails (names_in names.now) asked inner)
+        (views values.now)) }
 {
     for value in values {
         if inner_breaks(alloc, asked, names, inner, value)? {
@@ -256,7 +267,9 @@ fn shape_at_breaks(
     key: &Key<Shape>,
     table: &Table,
 ) -> Result<bool, AllocError>
-    ensures { IfOk result (λ b. b ≡ any_asked asked (λ rule. if_there (shape_breaks (names_in names.now) rule key.now.holds) (get_member key.now.name.now (table_view table.now)))) }
+    ensures { IfOk result (λ b. b ≡ any_asked asked
+        (λ rule. if_there (shape_breaks (names_in names.now) rule key.now.holds)
+        (get_member key.now.name.now (table_view table.now)))) }
 {
     match find(table, key.name) {
         Some(value) => shape_breaks(alloc, asked, names, key.holds, value),
@@ -271,7 +284,9 @@ fn shapes_break(
     keys: &[Key<Shape>],
     table: &Table,
 ) -> Result<bool, AllocError>
-    ensures { IfOk result (λ b. b ≡ list_any (λ k. any_asked asked (λ rule. if_there (shape_breaks (names_in names.now) rule k.holds) (get_member k.name (table_view table.now)))) (keys_of keys.now)) }
+    ensures { IfOk result (λ b. b ≡ list_any (λ k. any_asked asked
+        (λ rule. if_there (shape_breaks (names_in names.now) rule k.holds)
+        (get_member k.name (table_view table.now)))) (keys_of keys.now)) }
 {
     for key in keys {
         if shape_at_breaks(alloc, asked, names, key, table)? {
@@ -288,7 +303,8 @@ fn item_table_breaks(
     keys: &[Key<Shape>],
     table: &Table,
 ) -> Result<bool, AllocError>
-    ensures { IfOk result (λ b. b ≡ shape_table_fails (names_in names.now) asked (keys_of keys.now) (table_view table.now)) }
+    ensures { IfOk result (λ b. b ≡ shape_table_fails (names_in names.now) asked (keys_of keys.now)
+        (table_view table.now)) }
 {
     if keys_break(asked, keys, table) {
         return Ok(true);
@@ -304,7 +320,8 @@ fn keyed_item_breaks(
     item: Item,
     table: &Table,
 ) -> Result<bool, AllocError>
-    ensures { IfOk result (λ b. b ≡ shape_table_fails (names_in names.now) asked (schema.item_keys item (table_view table.now)) (table_view table.now)) }
+    ensures { IfOk result (λ b. b ≡ shape_table_fails (names_in names.now) asked
+        (schema.item_keys item (table_view table.now)) (table_view table.now)) }
 {
     match item {
         Item::Page => item_table_breaks(alloc, asked, names, &page_keys(), table),

@@ -136,7 +136,8 @@ impl Book {
     /// The places of the alerts that an alert explains.
     pub fn secondaries(&self, alert: usize) -> &[u32]
         requires { alert < length self.now.alerts.items }
-        ensures value { slice_get (map (λ a. a.secondary) (the_book self.now).alerts) alert ≡ Some result.now }
+        ensures value { slice_get (map (λ a. a.secondary) (the_book self.now).alerts) alert
+            ≡ Some result.now }
         ensures within { All (λ a. a < length self.now.alerts.items) result.now }
         ensures sealed { IsSealed self.now }
     {

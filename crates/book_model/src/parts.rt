@@ -50,7 +50,8 @@ fn is_level(level: Level, wanted: Level) -> bool
 /// The secondaries of each alert by place, in the order in which the alert lists them.
 pub fn secondaries_of(alloc: Global, alerts: &[Alert]) -> Result<Vec<Vec<u32>>, AllocError>
     requires { length alerts.now < 2 ^ 32 }
-    ensures { IfOk result (λ v. map (λ s. s.items) v.items ≡ map (secondaries_by (map name_of alerts.now)) alerts.now) }
+    ensures { IfOk result (λ v. map (λ s. s.items) v.items
+        ≡ map (secondaries_by (map name_of alerts.now)) alerts.now) }
 {
     let places = alert_places(alloc, alerts)?;
     let mut secondaries = Vec::new(alloc);
@@ -62,7 +63,8 @@ pub fn secondaries_of(alloc: Global, alerts: &[Alert]) -> Result<Vec<Vec<u32>>, 
 
 // The places of those of these names that alerts have.
 fn places_of(alloc: Global, places: &NamePlaces<'_>, names: &[Name]) -> Result<Vec<u32>, AllocError>
-    ensures { IfOk result (λ v. v.items ≡ filter_map (number_by places.now) (map bytes_of names.now)) }
+    ensures { IfOk result (λ v. v.items ≡ filter_map (number_by places.now)
+        (map bytes_of names.now)) }
 {
     let mut found = Vec::new(alloc);
     for name in names {

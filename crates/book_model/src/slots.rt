@@ -52,7 +52,8 @@ fn place_alerts(alerts: &mut Vec<Alert>, at: usize) -> usize
     requires { at + slots_in (map when_tree alerts.old.items) < 2 ^ 64 }
     ensures same { map alert_of alerts.new.items ≡ map alert_of alerts.old.items }
     ensures lines { map (λ a. a.lines) alerts.new.items ≡ map (λ a. a.lines) alerts.old.items }
-    ensures placed { map when_place alerts.new.items ≡ placed at (trees (map when_tree alerts.old.items)) }
+    ensures placed { map when_place alerts.new.items
+        ≡ placed at (trees (map when_tree alerts.old.items)) }
     ensures next { result ≡ at + slots_in (map when_tree alerts.old.items) }
 {
     let mut next = at;
@@ -66,7 +67,8 @@ fn place_procedures(alerts: &mut Vec<Alert>, at: usize) -> usize
     requires { at + slots_in (flat_map lines_trees alerts.old.items) < 2 ^ 64 }
     ensures same { map alert_of alerts.new.items ≡ map alert_of alerts.old.items }
     ensures whens { map when_place alerts.new.items ≡ map when_place alerts.old.items }
-    ensures placed { flat_map lines_places alerts.new.items ≡ placed at (trees (flat_map lines_trees alerts.old.items)) }
+    ensures placed { flat_map lines_places alerts.new.items
+        ≡ placed at (trees (flat_map lines_trees alerts.old.items)) }
     ensures next { result ≡ at + slots_in (flat_map lines_trees alerts.old.items) }
 {
     let mut next = at;
@@ -79,7 +81,8 @@ fn place_procedures(alerts: &mut Vec<Alert>, at: usize) -> usize
 fn place_lines(lines: &mut Vec<Line>, at: usize) -> usize
     requires { at + slots_in (flat_map line_trees lines.old.items) < 2 ^ 64 }
     ensures same { map line_of lines.new.items ≡ map line_of lines.old.items }
-    ensures placed { flat_map line_places lines.new.items ≡ placed at (trees (flat_map line_trees lines.old.items)) }
+    ensures placed { flat_map line_places lines.new.items
+        ≡ placed at (trees (flat_map line_trees lines.old.items)) }
     ensures next { result ≡ at + slots_in (flat_map line_trees lines.old.items) }
 {
     let mut next = at;
@@ -103,7 +106,8 @@ fn place_line(line: &mut Line, at: usize) -> usize
 fn place_memos(memos: &mut Vec<Memo>, at: usize) -> usize
     requires { at + slots_in (map memo_tree memos.old.items) < 2 ^ 64 }
     ensures same { map memo_of memos.new.items ≡ map memo_of memos.old.items }
-    ensures placed { map memo_place memos.new.items ≡ placed at (trees (map memo_tree memos.old.items)) }
+    ensures placed { map memo_place memos.new.items
+        ≡ placed at (trees (map memo_tree memos.old.items)) }
     ensures next { result ≡ at + slots_in (map memo_tree memos.old.items) }
 {
     let mut next = at;

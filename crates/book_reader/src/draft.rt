@@ -60,7 +60,8 @@ fn phase_table_or<'a>(top: &'a Table, empty: &'a Table) -> &'a Table
 
 #[tactic(auto, unfolding(book_spec::specs::DraftOf::phase_in))]
 fn phase_in(alloc: Global, names: &Catalogue<'_>, table: &Table) -> Result<PhaseTerms, AllocError>
-    ensures value { IfOk result (λ p. phase_of p ≡ spec.phase_in (names_in names.now) (table_view table.now)) }
+    ensures value { IfOk result (λ p. phase_of p
+        ≡ spec.phase_in (names_in names.now) (table_view table.now)) }
     ensures unplaced { IfOk result AreUnplacedPhases }
 {
     Ok(PhaseTerms {
@@ -75,7 +76,8 @@ fn phase_in(alloc: Global, names: &Catalogue<'_>, table: &Table) -> Result<Phase
 
 #[tactic(auto, unfolding(book_spec::specs::DraftOf::memo_in))]
 fn memo_in(alloc: Global, names: &Catalogue<'_>, value: &Value) -> Result<Memo, AllocError>
-    ensures value { IfOk result (λ m. memo_of m ≡ spec.memo_in (names_in names.now) (view value.now)) }
+    ensures value { IfOk result (λ m. memo_of m
+        ≡ spec.memo_in (names_in names.now) (view value.now)) }
     ensures unplaced { IfOk result IsUnplacedMemo }
 {
     let empty = Table::new(alloc);
@@ -90,7 +92,8 @@ fn memo_in(alloc: Global, names: &Catalogue<'_>, value: &Value) -> Result<Memo, 
 }
 
 fn memos_in(alloc: Global, names: &Catalogue<'_>, items: &[Value]) -> Result<Vec<Memo>, AllocError>
-    ensures value { IfOk result (λ v. map memo_of v.items ≡ map (spec.memo_in (names_in names.now)) (views items.now)) }
+    ensures value { IfOk result (λ v. map memo_of v.items
+        ≡ map (spec.memo_in (names_in names.now)) (views items.now)) }
     ensures unplaced { IfOk result (λ v. All IsUnplacedMemo v.items) }
 {
     let mut memos = Vec::new(alloc);

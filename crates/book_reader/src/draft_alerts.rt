@@ -29,7 +29,8 @@ const TITLE: usize = limits::TEXT;
 
 #[tactic(auto, unfolding(book_spec::specs::DraftOf::line_in))]
 fn line_in(alloc: Global, names: &Catalogue<'_>, value: &Value) -> Result<Line, AllocError>
-    ensures value { IfOk result (λ l. line_of l ≡ spec.line_in (names_in names.now) (view value.now)) }
+    ensures value { IfOk result (λ l. line_of l
+        ≡ spec.line_in (names_in names.now) (view value.now)) }
     ensures unplaced { IfOk result IsUnplacedLine }
 {
     let empty = Table::new(alloc);
@@ -43,7 +44,8 @@ fn line_in(alloc: Global, names: &Catalogue<'_>, value: &Value) -> Result<Line, 
 }
 
 fn lines_in(alloc: Global, names: &Catalogue<'_>, items: &[Value]) -> Result<Vec<Line>, AllocError>
-    ensures value { IfOk result (λ v. map line_of v.items ≡ map (spec.line_in (names_in names.now)) (views items.now)) }
+    ensures value { IfOk result (λ v. map line_of v.items
+        ≡ map (spec.line_in (names_in names.now)) (views items.now)) }
     ensures unplaced { IfOk result (λ v. All IsUnplacedLine v.items) }
 {
     let mut lines = Vec::new(alloc);
@@ -96,7 +98,8 @@ fn secondaries_in(alloc: Global, items: &[Value]) -> Result<Vec<Name>, AllocErro
 }
 
 fn level_at(table: &Table) -> Level
-    ensures { result ≡ defaults.level_of (defaults.number_or_least 1 3 (codes "level") (table_view table.now)) }
+    ensures { result ≡ defaults.level_of (defaults.number_or_least 1 3 (codes "level")
+        (table_view table.now)) }
 {
     let level = number_or_least(table, 1, 3, "level");
     if level <= 1 {
@@ -126,7 +129,8 @@ fn known_system(names: &Catalogue<'_>, table: &Table) -> Option<u32>
 }
 
 fn system_or_first(names: &Catalogue<'_>, table: &Table) -> u32
-    ensures { result ≡ unwrap_or (system_at (names_in names.now) (codes "system") (table_view table.now)) 0 }
+    ensures { result ≡ unwrap_or (system_at (names_in names.now) (codes "system")
+        (table_view table.now)) 0 }
 {
     known_system(names, table).unwrap_or(0)
 }
@@ -139,7 +143,8 @@ fn known_page(names: &Catalogue<'_>, table: &Table) -> Option<u32>
 
 #[tactic(auto, unfolding(book_spec::specs::DraftOf::alert_in))]
 fn alert_in(alloc: Global, names: &Catalogue<'_>, value: &Value) -> Result<Alert, AllocError>
-    ensures value { IfOk result (λ a. alert_of a ≡ spec.alert_in (names_in names.now) (view value.now)) }
+    ensures value { IfOk result (λ a. alert_of a
+        ≡ spec.alert_in (names_in names.now) (view value.now)) }
     ensures unplaced { IfOk result IsUnplacedAlert }
 {
     let empty = Table::new(alloc);
@@ -167,7 +172,8 @@ pub(crate) fn alerts_in(
     names: &Catalogue<'_>,
     items: &[Value],
 ) -> Result<Vec<Alert>, AllocError>
-    ensures value { IfOk result (λ v. map alert_of v.items ≡ map (spec.alert_in (names_in names.now)) (views items.now)) }
+    ensures value { IfOk result (λ v. map alert_of v.items
+        ≡ map (spec.alert_in (names_in names.now)) (views items.now)) }
     ensures unplaced { IfOk result (λ v. All IsUnplacedAlert v.items) }
 {
     let mut alerts = Vec::new(alloc);

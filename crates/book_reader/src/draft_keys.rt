@@ -82,7 +82,8 @@ pub(crate) fn kind_or_discrete(table: &Table) -> Kind
 
 /// The colour at the key `colour`, or this one.
 pub(crate) fn colour_or(table: &Table, default: Colour) -> Colour
-    ensures { result ≡ defaults.word_or default colour_words (codes "colour") (table_view table.now) }
+    ensures { result ≡ defaults.word_or default colour_words (codes "colour")
+        (table_view table.now) }
 {
     match string_at(table, "colour") {
         Some(word) => colour_of(word).unwrap_or(default),

@@ -65,7 +65,8 @@ fn rows_in(
     names: &Catalogue<'_>,
     items: &[Value],
 ) -> Result<Vec<PageRow>, AllocError>
-    ensures { IfOk result (λ v. map row_of v.items ≡ map (spec.row_in (names_in names.now)) (views items.now)) }
+    ensures { IfOk result (λ v. map row_of v.items
+        ≡ map (spec.row_in (names_in names.now)) (views items.now)) }
 {
     let mut rows = Vec::new(alloc);
     for item in items {
@@ -98,7 +99,8 @@ pub(crate) fn pages_in(
     names: &Catalogue<'_>,
     items: &[Value],
 ) -> Result<Vec<Page>, AllocError>
-    ensures { IfOk result (λ v. map page_of v.items ≡ map (spec.page_in (names_in names.now)) (views items.now)) }
+    ensures { IfOk result (λ v. map page_of v.items
+        ≡ map (spec.page_in (names_in names.now)) (views items.now)) }
 {
     let mut pages = Vec::new(alloc);
     for item in items {

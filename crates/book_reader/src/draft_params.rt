@@ -62,7 +62,8 @@ fn parameter_in(alloc: Global, value: &Value) -> Result<Param, AllocError>
 
 /// The parameters that these values are.
 pub(crate) fn parameters_in(alloc: Global, items: &[Value]) -> Result<Vec<Param>, AllocError>
-    ensures { IfOk result (λ v. map parameter_of v.items ≡ map spec.parameter_in (views items.now)) }
+    ensures { IfOk result (λ v. map parameter_of v.items
+        ≡ map spec.parameter_in (views items.now)) }
 {
     let mut params = Vec::new(alloc);
     for item in items {

@@ -33,7 +33,8 @@ fn constant(holds: bool) -> Term
 }
 
 fn term_text_at<'a>(table: &'a Table, key: &str) -> Option<&'a str>
-    ensures value { option_copied result ≡ option_and_then term_text_in (get_member key.now (table_view table.now)) }
+    ensures value { option_copied result ≡ option_and_then term_text_in
+        (get_member key.now (table_view table.now)) }
     ensures short { IfSome result (λ t. length t.now ≤ TERM_TEXT) }
 {
     term_text_in(find(table, key)?)
@@ -47,7 +48,8 @@ fn meaning_or(
     default: bool,
 ) -> Result<Term, AllocError>
     requires { length text.now ≤ TERM_TEXT }
-    ensures value { IfOk result (λ t. tree_in t ≡ defaults.tree_or (constant default) (Some (verdict (term_names_in names.now) text.now))) }
+    ensures value { IfOk result (λ t. tree_in t
+        ≡ defaults.tree_or (constant default) (Some (verdict (term_names_in names.now) text.now))) }
     ensures unplaced { IfOk result IsUnplacedTerm }
 {
     match read_condition(alloc, text, names) {
@@ -66,7 +68,8 @@ pub(crate) fn term_or(
     key: &str,
     default: bool,
 ) -> Result<Term, AllocError>
-    ensures value { IfOk result (λ t. tree_in t ≡ defaults.term_or default (names_in names.now) key.now (table_view table.now)) }
+    ensures value { IfOk result (λ t. tree_in t
+        ≡ defaults.term_or default (names_in names.now) key.now (table_view table.now)) }
     ensures unplaced { IfOk result IsUnplacedTerm }
 {
     match term_text_at(table, key) {

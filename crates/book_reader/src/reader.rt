@@ -35,7 +35,8 @@ fn top_fault(code: u8) -> LoadError
 
 fn table_in(alloc: Global, bytes: &[u8]) -> Result<Table, LoadError>
     ensures table { IfOk result (λ t. spec.table_of_text bytes.now ≡ Some (table_view t)) }
-    ensures fault { (f : BookFault) → result ≡ Err (Fault f) → (f ≡ spec.top_fault 2) × (spec.table_of_text bytes.now ≡ None) }
+    ensures fault { (f : BookFault) → result ≡ Err (Fault f)
+        → (f ≡ spec.top_fault 2) × (spec.table_of_text bytes.now ≡ None) }
 {
     match toml::table_from_slice(alloc, bytes) {
         Ok(table) => Ok(table),
@@ -69,7 +70,8 @@ fn draft_in(alloc: Global, top: &Table) -> Result<Draft, LoadError>
     ensures draft { IfOk result (λ d. draft_of d ≡ plain.draft_of (table_view top.now)) }
     ensures unplaced { IfOk result IsUnplaced }
     ensures faultless { IfOk result (λ d. table_fault (table_view top.now) ≡ None) }
-    ensures fault { (f : BookFault) → result ≡ Err (Fault f) → table_fault (table_view top.now) ≡ Some f }
+    ensures fault { (f : BookFault) → result ≡ Err (Fault f)
+        → table_fault (table_view top.now) ≡ Some f }
 {
     // No list of a document of 4 MiB is longer.
     if !has_few_items(top) {

@@ -59,7 +59,8 @@ pub(crate) fn name_places<'a>(
 /// The place of a name that is no longer than names may be; a longer one is unknown.
 #[tactic(auto, unfolding(ecam_spec::specs::TermText::name_place))]
 pub(crate) fn short_place(places: &NamePlaces<'_>, name: &[u8]) -> Option<u32>
-    ensures { (names : List Text) → FindsPlaces names places.now → result ≡ name_place names name.now }
+    ensures { (names : List Text) → FindsPlaces names places.now
+        → result ≡ name_place names name.now }
 {
     if name.len() > LONGEST_NAME {
         return None;

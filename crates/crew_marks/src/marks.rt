@@ -71,7 +71,8 @@ impl Marks {
     pub fn clear(&mut self)
         ensures fits { (b : plain.Book) → MarksFit b self.old → MarksFit b self.new }
         ensures moments { self.new.moments ≡ 0 }
-        ensures stands { (b : plain.Book) (c : Cockpit) → MarksFit b self.old → MarksStand b c 0 self.new }
+        ensures stands { (b : plain.Book) (c : Cockpit) → MarksFit b self.old
+            → MarksStand b c 0 self.new }
         ensures changed { self.new.changed ≡ false }
     {
         self.sets.clear();
@@ -122,15 +123,20 @@ impl Marks {
 
         // An alert that was cleared, and neither was recalled nor waits: without a press of RCL it stays hidden, and with
         // one it is shown where it is up and not cancelled. In a replay each cleared alert is one of these: it is active.
-        ensures hidden { is_pressed keys.now Rcl ≡ false → (a : ℕ) → OnlyCleared self.old waiting.now a
+        ensures hidden { is_pressed keys.now Rcl ≡ false → (a : ℕ)
+            → OnlyCleared self.old waiting.now a
             → is_shown self.new a ≡ false }
-        ensures restored { is_pressed keys.now Rcl ≡ true → (a : ℕ) → OnlyCleared self.old waiting.now a
-            → is_shown self.new a ≡ (slice_index_or up.now a false && not (is_cancelled self.new a)) }
+        ensures restored { is_pressed keys.now Rcl ≡ true → (a : ℕ)
+            → OnlyCleared self.old waiting.now a
+            → is_shown self.new a ≡ (slice_index_or up.now a false
+            && not (is_cancelled self.new a)) }
 
         // An alert that waits: with a press of RCL it is shown where CLR doesn't strike it in this moment, and it isn't
         // cancelled.
-        ensures recalled { is_pressed keys.now Rcl ≡ true → (a : ℕ) → slice_index_or waiting.now a false ≡ true
-            → is_shown self.new a ≡ (not (strikes self.old keys.now a) && not (is_cancelled self.new a)) }
+        ensures recalled { is_pressed keys.now Rcl ≡ true → (a : ℕ)
+            → slice_index_or waiting.now a false ≡ true
+            → is_shown self.new a ≡ (not (strikes self.old keys.now a)
+            && not (is_cancelled self.new a)) }
     {
         let held_since = running_after(self.held_since, keys.held(Key::Rcl), self.moments);
         let actions = actions_of(keys, restores(held_since, self.moments, enters_one));
@@ -180,7 +186,8 @@ impl Marks {
     /// showed. `None` where that showed nothing, or there is no such moment.
     pub fn target(&self) -> Option<u32>
         ensures value { result ≡ self.now.target }
-        ensures within { (b : plain.Book) → MarksFit b self.now → IfSome result (λ a. a < length b.alerts) }
+        ensures within { (b : plain.Book) → MarksFit b self.now
+            → IfSome result (λ a. a < length b.alerts) }
     {
         self.target
     }
@@ -189,7 +196,8 @@ impl Marks {
     /// come.
     pub fn first(&self) -> Option<u32>
         ensures value { result ≡ self.now.first }
-        ensures within { (b : plain.Book) → MarksFit b self.now → IfSome result (λ a. a < length b.alerts) }
+        ensures within { (b : plain.Book) → MarksFit b self.now
+            → IfSome result (λ a. a < length b.alerts) }
     {
         self.first
     }

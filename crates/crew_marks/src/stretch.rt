@@ -40,7 +40,8 @@ pub fn restores(held_since: Option<u64>, now: u64, enters_one: bool) -> bool
 
 /// The last press since which it was quiet, by that of the moment before `now`.
 pub fn press_after(was: Option<u64>, pressed: bool, quiet: bool, now: u64) -> Option<u64>
-    ensures { (p q : Signal) (k : ℕ) → now ≡ k → pressed ≡ p k → quiet ≡ q k → was ≡ previously (last_within p q) k
+    ensures { (p q : Signal) (k : ℕ) → now ≡ k → pressed ≡ p k → quiet ≡ q k
+        → was ≡ previously (last_within p q) k
         → result ≡ previously (last_within p q) (suc k) }
 {
     if !quiet {
@@ -54,7 +55,8 @@ pub fn press_after(was: Option<u64>, pressed: bool, quiet: bool, now: u64) -> Op
 
 /// Whether NORMAL stands in the last of so many moments.
 pub fn is_normal(press: Option<u64>, moments: u64) -> bool
-    ensures { (c : Cockpit) (k : ℕ) → moments ≡ k → press ≡ previously (last_within c.rcl (shows_nothing c)) k
+    ensures { (c : Cockpit) (k : ℕ) → moments ≡ k
+        → press ≡ previously (last_within c.rcl (shows_nothing c)) k
         → result ≡ previous (normal c) k }
 {
     match press {

@@ -84,7 +84,8 @@ fn alert(alloc: Global, own: &str, level: Level, sound: Sound) -> Alert
 
 fn alerts(alloc: Global) -> Result<Vec<Alert>, AllocError>
     ensures { IfOk result (λ v. map alert_of v.items ≡
-        (let plain : List ℕ → Levels.Level → Sounds.Sound → DraftAlert = λ name level sound. record {
+        (let plain : List ℕ → Levels.Level → Sounds.Sound
+        → DraftAlert = λ name level sound. record {
           name = name;
           title = codes "T";
           system = 0;

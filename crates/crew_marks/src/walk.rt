@@ -35,7 +35,8 @@ pub fn walk(
     requires waiting { length waiting.now ≡ length (the_book book.now).alerts }
     ensures many { AreMany sets.new (length (the_book book.now).alerts) }
     ensures marks { (a : ℕ) → a < length (the_book book.now).alerts → mark_at sets.new a
-        ≡ mark_after (mark_at sets.old a) (sight_of (the_book book.now) up.now waiting.now target a) actions.now }
+        ≡ mark_after (mark_at sets.old a) (sight_of (the_book book.now) up.now waiting.now target a)
+        actions.now }
     ensures first { result.first
         ≡ find (λ a. slice_index_or sets.new.shown a false) (order (the_book book.now)) }
     ensures changed { (result.changed ≡ false) ↔ (sets.new ≡ sets.old) }

@@ -51,7 +51,8 @@ impl Model for MemoryShelf {
 
 // The number of the first file of that name.
 fn find(files: &[MemoryFile], name: &str) -> Option<usize>
-    ensures found { IfSome result (λ i. file_named (files_of files.now) name.now ≡ Some (left_of (files_of files.now) (Some i) 0)) }
+    ensures found { IfSome result (λ i. file_named (files_of files.now) name.now
+        ≡ Some (left_of (files_of files.now) (Some i) 0)) }
     ensures missing { IfNone result (file_named (files_of files.now) name.now ≡ None) }
 {
     for (i, file) in files.iter().enumerate() {
@@ -85,7 +86,16 @@ impl MemoryShelf {
     /// fail. A read gives `piece` bytes at most.
     pub fn new(files: Vec<MemoryFile>, failing: Vec<u32>, piece: usize) -> MemoryShelf
         requires { 0 < piece }
-        ensures { result ≡ record { files = files_of files.items; failing = failing.items; piece = piece; is_open = false; left = []; calls = 0; opens = 0; faults = 0 } }
+        ensures { result ≡ record {
+          files = files_of files.items;
+          failing = failing.items;
+          piece = piece;
+          is_open = false;
+          left = [];
+          calls = 0;
+          opens = 0;
+          faults = 0;
+        } }
     {
         MemoryShelf {
             files,
@@ -105,7 +115,8 @@ impl MemoryShelf {
         ensures faults { self.old.faults ≤ self.new.faults }
         ensures state { self.new ≡ record self.old {
           calls = raised self.old.calls;
-          faults = (if fails_after self.old.failing self.old.calls then raised self.old.faults else self.old.faults);
+          faults = (if fails_after self.old.failing self.old.calls then raised self.old.faults
+              else self.old.faults);
         } }
     {
         self.calls = self.calls.saturating_add(1);
@@ -118,7 +129,11 @@ impl MemoryShelf {
 
     // Counts an open, and leaves nothing open.
     fn close(&mut self)
-        ensures { self.new ≡ record self.old { is_open = false; left = []; opens = raised self.old.opens } }
+        ensures { self.new ≡ record self.old {
+          is_open = false;
+          left = [];
+          opens = raised self.old.opens;
+        } }
     {
         self.opens = self.opens.saturating_add(1);
         self.file = None;
@@ -128,7 +143,10 @@ impl MemoryShelf {
     fn find_file(&mut self, name: &str) -> Result<(), Failed>
         ensures answer { is_ok result ≡ is_some (file_named self.old.files name.now) }
         ensures opened { OnOk result (file_named self.old.files name.now ≡ Some self.new.left) }
-        ensures state { self.new ≡ record self.old { is_open = self.new.is_open; left = self.new.left } }
+        ensures state { self.new ≡ record self.old {
+          is_open = self.new.is_open;
+          left = self.new.left;
+        } }
         ensures is_open { OnOk result (self.new.is_open ≡ true) }
         ensures same { OnErr result (self.new ≡ self.old) }
     {
@@ -171,22 +189,31 @@ impl Source for MemoryShelf {
     fn read(&mut self, into: &mut [u8]) -> Result<usize, Failed>
         requires { 0 < length into.old }
         ensures bound { IfOk result (λ n. n ≤ length into.old) }
-        ensures moved { IfOk result (λ n. Consumes (Some self.old.left) (Some self.new.left) (take n into.new)) }
+        ensures moved { IfOk result (λ n. Consumes (Some self.old.left) (Some self.new.left)
+            (take n into.new)) }
         ensures end { IfOk result (λ n. n ≡ 0 → IsAtEnd (Some self.new.left)) }
         ensures kept { OnErr result (Some self.new.left ≡ Some self.old.left) }
         ensures is_open { self.new.is_open ≡ self.old.is_open }
         ensures files { Some self.new.files ≡ Some self.old.files }
         ensures opens { self.new.opens ≡ self.old.opens }
-        ensures reads { Appended HasRead self.old self.new (read_call (length into.old) result ∷ []) }
+        ensures reads { Appended HasRead self.old self.new
+            (read_call (length into.old) result ∷ []) }
         ensures faults { self.old.faults ≤ self.new.faults }
         ensures quiet { OnOk result (self.new.faults ≡ self.old.faults) }
         ensures cause { OnErr result (Rose self.old.faults self.new.faults) }
 
         // Which calls fail, how many bytes one gives, and all that it changes.
         ensures fails { is_err result ≡ fails_after self.old.failing self.old.calls }
-        ensures count { IfOk result (λ n. n ≡ min (min self.old.piece (length self.old.left)) (length into.old)) }
-        ensures ok { IfOk result (λ n. self.new ≡ record self.old { calls = raised self.old.calls; left = drop n self.old.left }) }
-        ensures err { OnErr result (self.new ≡ record self.old { calls = raised self.old.calls; faults = raised self.old.faults }) }
+        ensures count { IfOk result (λ n. n ≡ min (min self.old.piece (length self.old.left))
+            (length into.old)) }
+        ensures ok { IfOk result (λ n. self.new ≡ record self.old {
+          calls = raised self.old.calls;
+          left = drop n self.old.left;
+        }) }
+        ensures err { OnErr result (self.new ≡ record self.old {
+          calls = raised self.old.calls;
+          faults = raised self.old.faults;
+        }) }
     {
         self.count_call()?;
         Ok(self.take(into))
@@ -196,7 +223,8 @@ impl Source for MemoryShelf {
 impl Shelf for MemoryShelf {
     // What each shelf says.
     fn open(&mut self, name: &str) -> Result<(), Failed>
-        ensures found { OnOk result (FileHas (Some self.old.files) name.now (λ bytes. Some self.new.left ≡ Some bytes)) }
+        ensures found { OnOk result (FileHas (Some self.old.files) name.now
+            (λ bytes. Some self.new.left ≡ Some bytes)) }
         ensures closed { OnErr result (IsClosed (Some self.old.files) (Some self.new.left)) }
         ensures is_open { self.new.is_open ≡ is_ok result }
         ensures files { Some self.new.files ≡ Some self.old.files }
@@ -204,11 +232,14 @@ impl Shelf for MemoryShelf {
         ensures reads { IsKept HasRead self.old self.new }
         ensures faults { self.old.faults ≤ self.new.faults }
         ensures quiet { OnOk result (self.new.faults ≡ self.old.faults) }
-        ensures cause { OnErr result (MayRefuse (Some self.old.files) name.now self.old.faults self.new.faults) }
+        ensures cause { OnErr result (MayRefuse (Some self.old.files) name.now self.old.faults
+            self.new.faults) }
 
         // Which calls succeed, which raise the count of faults, and all that one changes.
-        ensures succeeds { is_ok result ≡ (not (fails_after self.old.failing self.old.calls) && is_some (file_named self.old.files name.now)) }
-        ensures counted { self.new.faults ≡ (if fails_after self.old.failing self.old.calls then raised self.old.faults else self.old.faults) }
+        ensures succeeds { is_ok result ≡ (not (fails_after self.old.failing self.old.calls)
+            && is_some (file_named self.old.files name.now)) }
+        ensures counted { self.new.faults ≡ (if fails_after self.old.failing self.old.calls
+            then raised self.old.faults else self.old.faults) }
         ensures changed { self.new ≡ record self.old {
           is_open = is_ok result;
           left = self.new.left;

@@ -46,7 +46,14 @@ impl MemorySink {
         room: usize,
     ) -> Result<MemorySink, AllocError>
         requires { 0 < piece }
-        ensures { IfOk result (λ s. s ≡ record { bytes = []; failing = failing.items; piece = piece; room = room; calls = 0; faults = 0 }) }
+        ensures { IfOk result (λ s. s ≡ record {
+          bytes = [];
+          failing = failing.items;
+          piece = piece;
+          room = room;
+          calls = 0;
+          faults = 0;
+        }) }
     {
         let bytes = Vec::with_capacity(alloc, room)?;
         Ok(MemorySink {
@@ -68,13 +75,15 @@ impl MemorySink {
 
     // Counts a call, and the fault where the call fails.
     fn count_call(&mut self) -> Result<(), Failed>
-        ensures answer { is_err result ≡ (fails_after self.old.failing self.old.calls || length self.old.bytes == self.old.room) }
+        ensures answer { is_err result ≡ (fails_after self.old.failing self.old.calls
+            || length self.old.bytes == self.old.room) }
         ensures faults { self.old.faults ≤ self.new.faults }
         ensures free { OnOk result (length self.old.bytes < self.old.room) }
         ensures quiet { OnOk result (self.new.faults ≡ self.old.faults) }
         ensures state { self.new ≡ record self.old {
           calls = raised self.old.calls;
-          faults = (if fails_after self.old.failing self.old.calls || length self.old.bytes == self.old.room then raised self.old.faults else self.old.faults);
+          faults = (if fails_after self.old.failing self.old.calls || length self.old.bytes
+              == self.old.room then raised self.old.faults else self.old.faults);
         } }
     {
         self.calls = self.calls.saturating_add(1);
@@ -89,9 +98,12 @@ impl MemorySink {
     fn append(&mut self, bytes: &[u8]) -> usize
         requires free { length self.old.bytes < self.old.room }
         requires some { 0 < length bytes.now }
-        ensures count { result ≡ min (min self.old.piece (self.old.room - length self.old.bytes)) (length bytes.now) }
+        ensures count { result ≡ min (min self.old.piece (self.old.room - length self.old.bytes))
+            (length bytes.now) }
         ensures some { 0 < result }
-        ensures state { self.new ≡ record self.old { bytes = self.old.bytes ++ take result bytes.now } }
+        ensures state { self.new ≡ record self.old {
+          bytes = self.old.bytes ++ take result bytes.now;
+        } }
     {
         let free = self.room - self.bytes.len();
         let n = self.piece.min(free).min(bytes.len());
@@ -110,17 +122,26 @@ impl Sink for MemorySink {
         requires { 0 < length bytes.now }
         ensures some { IfOk result (λ n. 0 < n) }
         ensures bound { IfOk result (λ n. n ≤ length bytes.now) }
-        ensures appended { IfOk result (λ n. Appended (λ s w. w ≡ s.bytes) self.old self.new (take n bytes.now)) }
+        ensures appended { IfOk result (λ n. Appended (λ s w. w ≡ s.bytes) self.old self.new
+            (take n bytes.now)) }
         ensures kept { OnErr result (IsKept (λ s w. w ≡ s.bytes) self.old self.new) }
         ensures faults { self.old.faults ≤ self.new.faults }
         ensures quiet { OnOk result (self.new.faults ≡ self.old.faults) }
         ensures cause { OnErr result (Rose self.old.faults self.new.faults) }
 
         // Which calls fail, how many bytes one takes, and all that it changes.
-        ensures fails { is_err result ≡ (fails_after self.old.failing self.old.calls || length self.old.bytes == self.old.room) }
-        ensures count { IfOk result (λ n. n ≡ min (min self.old.piece (self.old.room - length self.old.bytes)) (length bytes.now)) }
-        ensures ok { IfOk result (λ n. self.new ≡ record self.old { calls = raised self.old.calls; bytes = self.old.bytes ++ take n bytes.now }) }
-        ensures err { OnErr result (self.new ≡ record self.old { calls = raised self.old.calls; faults = raised self.old.faults }) }
+        ensures fails { is_err result ≡ (fails_after self.old.failing self.old.calls
+            || length self.old.bytes == self.old.room) }
+        ensures count { IfOk result (λ n. n ≡ min
+            (min self.old.piece (self.old.room - length self.old.bytes)) (length bytes.now)) }
+        ensures ok { IfOk result (λ n. self.new ≡ record self.old {
+          calls = raised self.old.calls;
+          bytes = self.old.bytes ++ take n bytes.now;
+        }) }
+        ensures err { OnErr result (self.new ≡ record self.old {
+          calls = raised self.old.calls;
+          faults = raised self.old.faults;
+        }) }
     {
         self.count_call()?;
         Ok(self.append(bytes))

@@ -36,7 +36,8 @@ pub(crate) fn read_counted<R: Read>(
 ) -> Result<usize, Failed>
     requires { 0 < length into.old }
     ensures bound { IfOk result (λ n. n ≤ length into.old) }
-    ensures moved { IfOk result (λ n. Consumes (R.remaining from.old) (R.remaining from.new) (take n into.new)) }
+    ensures moved { IfOk result (λ n. Consumes (R.remaining from.old) (R.remaining from.new)
+        (take n into.new)) }
     ensures end { IfOk result (λ n. n ≡ 0 → IsAtEnd (R.remaining from.new)) }
     ensures kept { OnErr result (Keeps (R.remaining from.old) (R.remaining from.new)) }
     ensures faults { faults.old ≤ faults.new }
@@ -59,7 +60,8 @@ pub(crate) fn read_counted<R: Read>(
 fn write_counted<W: Write>(to: &mut W, faults: &mut u64, bytes: &[u8]) -> Result<usize, Failed>
     ensures some { IfOk result (λ n. 0 < n) }
     ensures bound { IfOk result (λ n. n ≤ length bytes.now) }
-    ensures appended { IfOk result (λ n. Appends (W.contents to.old) (W.contents to.new) (take n bytes.now)) }
+    ensures appended { IfOk result (λ n. Appends (W.contents to.old) (W.contents to.new)
+        (take n bytes.now)) }
     ensures faults { faults.old ≤ faults.new }
     ensures quiet { OnOk result (faults.new ≡ faults.old) }
     ensures counted { OnErr result (faults.new ≡ raised faults.old) }

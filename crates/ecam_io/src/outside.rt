@@ -32,7 +32,8 @@ pub trait Source {
     fn read(&mut self, into: &mut [u8]) -> Result<usize, Failed>
         requires { 0 < length into.old }
         ensures bound { IfOk result (λ n. n ≤ length into.old) }
-        ensures moved { IfOk result (λ n. Consumes (left self.old) (left self.new) (take n into.new)) }
+        ensures moved { IfOk result (λ n. Consumes (left self.old) (left self.new)
+            (take n into.new)) }
         ensures end { IfOk result (λ n. n ≡ 0 → IsAtEnd (left self.new)) }
         ensures kept { OnErr result (left self.new ≡ left self.old) }
         ensures is_open { is_open self.new ≡ is_open self.old }
@@ -48,7 +49,8 @@ pub trait Source {
 pub trait Shelf: Source {
     /// Opens the first file of that name from its beginning. After `Failed` nothing is open.
     fn open(&mut self, name: &str) -> Result<(), Failed>
-        ensures found { OnOk result (FileHas (Self.files self.old) name.now (λ bytes. Self.left self.new ≡ Some bytes)) }
+        ensures found { OnOk result (FileHas (Self.files self.old) name.now
+            (λ bytes. Self.left self.new ≡ Some bytes)) }
         ensures closed { OnErr result (IsClosed (Self.files self.old) (Self.left self.new)) }
         ensures is_open { Self.is_open self.new ≡ is_ok result }
         ensures files { Self.files self.new ≡ Self.files self.old }
@@ -56,7 +58,8 @@ pub trait Shelf: Source {
         ensures reads { IsKept Self.reads self.old self.new }
         ensures faults { Self.faults self.old ≤ Self.faults self.new }
         ensures quiet { OnOk result (Self.faults self.new ≡ Self.faults self.old) }
-        ensures cause { OnErr result (MayRefuse (Self.files self.old) name.now (Self.faults self.old) (Self.faults self.new)) };
+        ensures cause { OnErr result (MayRefuse (Self.files self.old) name.now
+            (Self.faults self.old) (Self.faults self.new)) };
 }
 
 /// What bytes are written to. A call that answers `Ok` counts no fault.

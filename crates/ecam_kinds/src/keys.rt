@@ -30,9 +30,14 @@ impl Keys {
     /// A key goes down.
     pub fn press(&mut self, key: Key)
         requires { IsKey key }
-        ensures pressed { (q : Key) → IsKey q → is_pressed self.new q ≡ (same_key q key || is_pressed self.old q) }
-        ensures held { (q : Key) → IsKey q → is_held self.new q ≡ (same_key q key || is_held self.old q) }
-        ensures stands { (old new : ℕ → List Stroke) (k : ℕ) → OneMore old new k (record { key = key; down = true })
+        ensures pressed { (q : Key) → IsKey q
+            → is_pressed self.new q ≡ (same_key q key || is_pressed self.old q) }
+        ensures held { (q : Key) → IsKey q → is_held self.new q
+            ≡ (same_key q key || is_held self.old q) }
+        ensures stands { (old new : ℕ → List Stroke) (k : ℕ) → OneMore old new k (record {
+          key = key;
+          down = true;
+        })
             → KeysStand old k self.old → KeysStand new k self.new }
     {
         self.set_down(key);
@@ -42,8 +47,12 @@ impl Keys {
     pub fn release(&mut self, key: Key)
         requires { IsKey key }
         ensures pressed { (q : Key) → IsKey q → is_pressed self.new q ≡ is_pressed self.old q }
-        ensures held { (q : Key) → IsKey q → is_held self.new q ≡ (not (same_key q key) && is_held self.old q) }
-        ensures stands { (old new : ℕ → List Stroke) (k : ℕ) → OneMore old new k (record { key = key; down = false })
+        ensures held { (q : Key) → IsKey q → is_held self.new q
+            ≡ (not (same_key q key) && is_held self.old q) }
+        ensures stands { (old new : ℕ → List Stroke) (k : ℕ) → OneMore old new k (record {
+          key = key;
+          down = false;
+        })
             → KeysStand old k self.old → KeysStand new k self.new }
     {
         self.set_up(key);
@@ -73,8 +82,10 @@ impl Keys {
 
     fn set_down(&mut self, key: Key)
         requires { IsKey key }
-        ensures pressed { (q : Key) → IsKey q → is_pressed self.new q ≡ (same_key q key || is_pressed self.old q) }
-        ensures held { (q : Key) → IsKey q → is_held self.new q ≡ (same_key q key || is_held self.old q) }
+        ensures pressed { (q : Key) → IsKey q
+            → is_pressed self.new q ≡ (same_key q key || is_pressed self.old q) }
+        ensures held { (q : Key) → IsKey q → is_held self.new q
+            ≡ (same_key q key || is_held self.old q) }
     {
         let place = key_index(key);
         self.pressed[place] = true;
@@ -84,7 +95,8 @@ impl Keys {
     fn set_up(&mut self, key: Key)
         requires { IsKey key }
         ensures pressed { (q : Key) → IsKey q → is_pressed self.new q ≡ is_pressed self.old q }
-        ensures held { (q : Key) → IsKey q → is_held self.new q ≡ (not (same_key q key) && is_held self.old q) }
+        ensures held { (q : Key) → IsKey q → is_held self.new q
+            ≡ (not (same_key q key) && is_held self.old q) }
     {
         self.held[key_index(key)] = false;
     }

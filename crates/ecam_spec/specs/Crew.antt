@@ -34,7 +34,7 @@ abbrev pub is_alert : ℕ → Option ℕ → Bool
 is_alert a None = false
 is_alert a (Some b) = a == b
 
--- each definition takes what was shown in the moments before, the history
+-- what goes by what was shown in the moments before takes that: the history
 module _ (c : Cockpit) where
   -- CLR is pressed, and the alert is the target
   unfoldable pub struck : Shown → ℕ → Signal

@@ -35,7 +35,7 @@ module _ (f : Flight) where
   unfoldable pub trip : Signal
   trip = since (λ k. airborne k || (running k && f.fast k)) (λ k. not (parked k))
 
-  -- it is parked for less than five minutes after a trip
+  -- where it is parked: for less than five minutes, and after a trip
   unfoldable pub back_lately : Signal
   back_lately k = let x = start_of parked k in previous trip x && nat_lt (k - x) 3000
 

@@ -36,6 +36,10 @@ abbrev pub is_cancel : Option Selecting → Bool
 is_cancel (Some the_cancel) = true
 is_cancel _ = false
 
+-- the last page of the status that has a number: STS goes on to it and no further
+abbrev pub last_number : ℕ
+last_number = 4294967295
+
 module _ (p : Panel) where
   -- what a moment without ALL selects
   unfoldable pub selecting_one : Option ℕ → ℕ → Option Selecting
@@ -78,8 +82,8 @@ module _ (p : Panel) where
   choice_by (Some each_page) m = Page (page_in_turn m)
   choice_by (Some (one_page i)) m = Page i
   choice_by (Some the_clear) m = Auto
-  choice_by (Some the_status) m = Status (min 4294967295 (status_number m))
-  choice_by (Some the_cancel) m = Status (min 4294967295 (status_number m))
+  choice_by (Some the_status) m = Status (min last_number (status_number m))
+  choice_by (Some the_cancel) m = Status (min last_number (status_number m))
 
   abbrev pub choice_from : Option ℕ → Choice
   choice_from None = Auto

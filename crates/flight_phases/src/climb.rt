@@ -33,7 +33,8 @@ impl Climb {
     /// The climb of the next moment in the air. With take-off power low down a new one begins: a go-around.
     pub fn next(self, inputs: &PhaseInputs) -> Climb
         ensures { (f : Flight) (k : ℕ) → IsTrue (airborne f k) → self ≡ climb_at f k
-            → IsTrue (airborne f (suc k)) → AreInputs f (suc k) inputs.now → result ≡ climb_at f (suc k) }
+            → IsTrue (airborne f (suc k)) → AreInputs f (suc k) inputs.now
+            → result ≡ climb_at f (suc k) }
     {
         if inputs.high {
             Climb::Above

@@ -72,7 +72,8 @@ impl Regime {
 
     // The trip bit, where an engine runs on ground in the next moment.
     fn next_trip(self, fast: bool) -> bool
-        ensures { (f : Flight) (k : ℕ) → StandsAs f k self → IsTrue (f.gnd (suc k)) → IsTrue (f.run (suc k))
+        ensures { (f : Flight) (k : ℕ) → StandsAs f k self → IsTrue (f.gnd (suc k))
+            → IsTrue (f.run (suc k))
             → fast ≡ f.fast (suc k) → result ≡ trip f (suc k) }
     {
         match self {

@@ -43,7 +43,8 @@ impl PhaseState {
 
     // The regime of the next moment.
     fn next_regime(&self, inputs: &PhaseInputs) -> Regime
-        ensures { (f : Flight) (k : ℕ) → Stands f k self.now → AreInputs f k inputs.now → StandsAs f k result }
+        ensures { (f : Flight) (k : ℕ) → Stands f k self.now → AreInputs f k inputs.now
+            → StandsAs f k result }
     {
         match self.last {
             None => Regime::first(inputs),

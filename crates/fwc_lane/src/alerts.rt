@@ -64,12 +64,15 @@ pub fn step_alerts(cells: &mut Cells, truths: &mut Truths, book: &Book, env: &En
     ensures truths { (m : ℕ → Moment) → Lends (the_book book.now) m now env.now
         → env.now.phase.number ≡ phase_in (the_book book.now) m now
         → BookHalf (the_book book.now) m now alerts_from cells.old.slots
-        → TruthsStand (the_book book.now) (condition_in (the_book book.now) m) (phase_in (the_book book.now) m) now truths.old
-        → TruthsStand (the_book book.now) (condition_in (the_book book.now) m) (phase_in (the_book book.now) m) (suc now) truths.new }
+        → TruthsStand (the_book book.now) (condition_in (the_book book.now) m)
+        (phase_in (the_book book.now) m) now truths.old
+        → TruthsStand (the_book book.now) (condition_in (the_book book.now) m)
+        (phase_in (the_book book.now) m) (suc now) truths.new }
     ensures stands { (m : ℕ → Moment) → Lends (the_book book.now) m now env.now
         → env.now.phase.number ≡ phase_in (the_book book.now) m now
         → BookHalf (the_book book.now) m now alerts_from cells.old.slots
-        → TruthsStand (the_book book.now) (condition_in (the_book book.now) m) (phase_in (the_book book.now) m) now truths.old
+        → TruthsStand (the_book book.now) (condition_in (the_book book.now) m)
+        (phase_in (the_book book.now) m) now truths.old
         → BookHalf (the_book book.now) m now (lines_from (the_book book.now)) cells.new.slots }
 {
     for alert in 0..book.alerts().len() {

@@ -24,7 +24,8 @@ use system_display::Selector;
 
 /// Whether phase 1 starts with a moment that isn't the first.
 pub fn enters_one(ticked: bool, was: Phase, phase: Phase) -> bool
-    ensures { (b : plain.Book) (m : ℕ → Moment) (k : ℕ) → ticked ≡ nat_lt 0 k → phase.number ≡ phase_in b m k
+    ensures { (b : plain.Book) (m : ℕ → Moment) (k : ℕ) → ticked ≡ nat_lt 0 k
+        → phase.number ≡ phase_in b m k
         → ((j : ℕ) → k ≡ suc j → was.number ≡ phase_in b m j) → result ≡ screen.enters_one b m k }
 {
     enters(ticked, was.number, phase.number)
@@ -61,7 +62,8 @@ pub fn step_crew(
     ensures attention_moments { attention.new.moments ≡ attention.old.moments + 1 }
     ensures selector_moments { selector.new.moments ≡ selector.old.moments + 1 }
     ensures stands { (m : ℕ → Moment) (k : ℕ)
-        → TruthsStand (the_book book.now) (condition_in (the_book book.now) m) (phase_in (the_book book.now) m) (suc k) truths.now
+        → TruthsStand (the_book book.now) (condition_in (the_book book.now) m)
+        (phase_in (the_book book.now) m) (suc k) truths.now
         → KeysStand (strokes_in (the_book book.now) m) k keys.now
         → enters_one ≡ screen.enters_one (the_book book.now) m k
         → CrewStands (the_book book.now) m k marks.old attention.old selector.old

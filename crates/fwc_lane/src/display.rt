@@ -106,8 +106,10 @@ pub fn draw_display(
     ensures whole { IsWhole (tracked picture.new.rows changed.new) }
     ensures rows { (m : ℕ → Moment) (k : ℕ) → SceneStands (the_book book.now) m k scene.now
         → AreTurned (the_book book.now) m k turned
-        → ((j : ℕ) → k ≡ suc j → StandAt 15 (display_rows_in (the_book book.now) m j) (rows_of picture.old.rows))
-        → Mends 15 (display_rows_in (the_book book.now) m k) (tracked picture.old.rows changed.old) (tracked picture.new.rows changed.new) }
+        → ((j : ℕ) → k ≡ suc j → StandAt 15 (display_rows_in (the_book book.now) m j)
+        (rows_of picture.old.rows))
+        → Mends 15 (display_rows_in (the_book book.now) m k) (tracked picture.old.rows changed.old)
+        (tracked picture.new.rows changed.new) }
 {
     let choice = scene.selector.choice();
     if !display_turned(
@@ -126,7 +128,8 @@ fn fill_display(book: &Book, scene: &Scene<'_>, picture: &mut Picture, changed: 
     requires whole { IsWhole (tracked picture.old.rows changed.old) }
     ensures whole { IsWhole (tracked picture.new.rows changed.new) }
     ensures rows { (m : ℕ → Moment) (k : ℕ) → SceneStands (the_book book.now) m k scene.now
-        → Mends 15 (display_rows_in (the_book book.now) m k) (tracked picture.old.rows changed.old) (tracked picture.new.rows changed.new) }
+        → Mends 15 (display_rows_in (the_book book.now) m k) (tracked picture.old.rows changed.old)
+        (tracked picture.new.rows changed.new) }
 {
     match scene.selector.choice() {
         Choice::Auto => {

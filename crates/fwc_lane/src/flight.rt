@@ -26,7 +26,8 @@ fn step_inputs(cells: &mut Cells, book: &Book, env: &Env<'_>, now: u64) -> Phase
     requires now { now < 2 ^ 63 }
     ensures cells { length cells.new.slots ≡ length cells.old.slots }
     ensures inputs { (m : ℕ → Moment) → Lends (the_book book.now) m now env.now
-        → BookHalf (the_book book.now) m now 0 cells.old.slots → AreInputs (flight (the_book book.now) m) now result }
+        → BookHalf (the_book book.now) m now 0 cells.old.slots
+        → AreInputs (flight (the_book book.now) m) now result }
     ensures stands { (m : ℕ → Moment) → Lends (the_book book.now) m now env.now
         → BookHalf (the_book book.now) m now 0 cells.old.slots
         → BookHalf (the_book book.now) m now alerts_from cells.new.slots }

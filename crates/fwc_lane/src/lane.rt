@@ -73,7 +73,8 @@ impl Lane {
     /// A lane before anything happened. An error is want of memory.
     pub fn new(alloc: Global, book: &Book) -> Result<Lane, AllocError>
         ensures fits { IfOk result (LaneFits (the_book book.now)) }
-        ensures stands { IfOk result (λ l. (f : Flags) → LaneStands (the_book book.now) (empty_era f) l) }
+        ensures stands { IfOk result (λ l. (f : Flags)
+            → LaneStands (the_book book.now) (empty_era f) l) }
         ensures moments { IfOk result (λ l. l.moments ≡ 0) }
     {
         let params = Params::new(alloc, book)?;
@@ -131,7 +132,8 @@ impl Lane {
     /// Takes over all that another lane of the same book holds. Its cost is a copy of each of its lists.
     pub fn copy_from(&mut self, other: &Lane)
         requires { (b : plain.Book) × LaneFits b self.old × LaneFits b other.now }
-        ensures fits { (b : plain.Book) → LaneFits b self.old → LaneFits b other.now → LaneFits b self.new }
+        ensures fits { (b : plain.Book) → LaneFits b self.old → LaneFits b other.now
+            → LaneFits b self.new }
         ensures stands { (b : plain.Book) (e : Era) → LaneFits b self.old → LaneStands b e other.now
             → LaneStands b e self.new }
         ensures moments { self.new.moments ≡ other.now.moments }
@@ -165,9 +167,11 @@ impl Lane {
         requires goes_on { is_tick event.now ≡ true → CanGoOn self.old }
         ensures fits { LaneFits (the_book book.now) self.new }
         // Whatever came before in the era, the lane then stands for the era with this event.
-        ensures stands { (e : Era) → AreUp (era_with e event.now) one_up two_up → LaneStands (the_book book.now) e self.old
+        ensures stands { (e : Era) → AreUp (era_with e event.now) one_up two_up
+            → LaneStands (the_book book.now) e self.old
             → LaneStands (the_book book.now) (era_with e event.now) self.new }
-        ensures moments { self.new.moments ≡ self.old.moments + (if is_tick event.now then 1 else 0) }
+        ensures moments { self.new.moments ≡ self.old.moments + (if is_tick event.now then 1
+            else 0) }
     {
         match event {
             Event::Word { bus, bits } => self.params.take(book, *bus, *bits),
@@ -192,7 +196,8 @@ impl Lane {
         ensures keys { (strokes : ℕ → List Stroke) (k : ℕ) → strokes (suc k) ≡ []
             → KeysStand strokes k self.old.keys → KeysStand strokes (suc k) self.new.keys }
         ensures whole { (m : ℕ → Moment)
-            → Came (the_book book.now) m self.old.moments self.old.params self.old.keys one_up two_up
+            → Came (the_book book.now) m self.old.moments self.old.params self.old.keys one_up
+            two_up
             → WholeStands (the_book book.now) m self.old.moments self.old
             → WholeStands (the_book book.now) m (suc self.old.moments) self.new }
     {

@@ -35,7 +35,8 @@ pub fn step_memos(
     ensures flags { length flags.new.items ≡ length flags.old.items }
     ensures told { (m : ℕ → Moment) → Shows env.now (world (the_book book.now) m) now
         → BookHalf (the_book book.now) m now (memos_from (the_book book.now)) cells.old.slots
-        → TellsOf flags.new.items (the_book book.now).memos (λ x. holds (world (the_book book.now) m) x.when now) }
+        → TellsOf flags.new.items (the_book book.now).memos
+        (λ x. holds (world (the_book book.now) m) x.when now) }
     ensures stands { (m : ℕ → Moment) → Shows env.now (world (the_book book.now) m) now
         → BookHalf (the_book book.now) m now (memos_from (the_book book.now)) cells.old.slots
         → CellsStand (the_book book.now) m (suc now) cells.new.slots }

@@ -20,14 +20,19 @@ use term_eval::{Cells, Env};
 
 // Steps both conditions of a line, and answers whether it stands.
 fn step_line(cells: &mut Cells, line: &Line, env: &Env<'_>, now: u64) -> bool
-    requires when_range { line.now.when.at + slots (tree_in line.now.when) ≤ length cells.old.slots }
-    requires done_range { line.now.done.at + slots (tree_in line.now.done) ≤ length cells.old.slots }
-    requires when_names { IsWithin (length env.now.values.now) (length env.now.active.now) (tree_in line.now.when) }
-    requires done_names { IsWithin (length env.now.values.now) (length env.now.active.now) (tree_in line.now.done) }
+    requires when_range { line.now.when.at + slots (tree_in line.now.when) ≤ length
+        cells.old.slots }
+    requires done_range { line.now.done.at + slots (tree_in line.now.done) ≤ length
+        cells.old.slots }
+    requires when_names { IsWithin (length env.now.values.now) (length env.now.active.now)
+        (tree_in line.now.when) }
+    requires done_names { IsWithin (length env.now.values.now) (length env.now.active.now)
+        (tree_in line.now.done) }
     requires first { 1 ≤ env.now.phase.number }
     requires last { env.now.phase.number ≤ 10 }
     requires now { now < 2 ^ 63 }
-    ensures steps { StepsLine env.now now (placed_of line.now.when) (placed_of line.now.done) cells.old.slots cells.new.slots result }
+    ensures steps { StepsLine env.now now (placed_of line.now.when) (placed_of line.now.done)
+        cells.old.slots cells.new.slots result }
     ensures len { length cells.new.slots ≡ length cells.old.slots }
 {
     let when = step_term(cells, &line.when, env, now);
@@ -61,8 +66,11 @@ fn step_own(
     ensures cells { length cells.new.slots ≡ length cells.old.slots }
     ensures flags { length flags.new.items ≡ length flags.old.items }
     ensures stands { (m : ℕ → Moment) → Shows env.now (world (the_book book.now) m) now
-        → LinesHalf (the_book book.now) m now (length (lines_of (take alert (the_book book.now).alerts))) cells.old.slots flags.old.items
-        → LinesHalf (the_book book.now) m now (length (lines_of (take (alert + 1) (the_book book.now).alerts))) cells.new.slots flags.new.items }
+        → LinesHalf (the_book book.now) m now
+        (length (lines_of (take alert (the_book book.now).alerts))) cells.old.slots flags.old.items
+        → LinesHalf (the_book book.now) m now
+        (length (lines_of (take (alert + 1) (the_book book.now).alerts))) cells.new.slots
+        flags.new.items }
     ensures kept { result ≡ false → flags.new.items ≡ flags.old.items }
 {
     let own = &book.alerts()[alert].lines;
@@ -96,7 +104,8 @@ pub fn step_lines(
     ensures flags { length flags.new.items ≡ length flags.old.items }
     ensures told { (m : ℕ → Moment) → Shows env.now (world (the_book book.now) m) now
         → BookHalf (the_book book.now) m now (lines_from (the_book book.now)) cells.old.slots
-        → TellsOf flags.new.items (lines_of (the_book book.now).alerts) (line_stands (the_book book.now) m now) }
+        → TellsOf flags.new.items (lines_of (the_book book.now).alerts)
+        (line_stands (the_book book.now) m now) }
     ensures stands { (m : ℕ → Moment) → Shows env.now (world (the_book book.now) m) now
         → BookHalf (the_book book.now) m now (lines_from (the_book book.now)) cells.old.slots
         → BookHalf (the_book book.now) m now (memos_from (the_book book.now)) cells.new.slots }

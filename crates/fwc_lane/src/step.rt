@@ -67,10 +67,12 @@ pub fn step_conditions(
         → result.phase.number ≡ phase_in (the_book book.now) m now }
     ensures line_flags { (m : ℕ → Moment) → Lends (the_book book.now) m now env.now
         → ConditionsStand (the_book book.now) m now cells.old.slots state.old truths.old
-        → TellsOf lines.new.items (lines_of (the_book book.now).alerts) (line_stands (the_book book.now) m now) }
+        → TellsOf lines.new.items (lines_of (the_book book.now).alerts)
+        (line_stands (the_book book.now) m now) }
     ensures memo_flags { (m : ℕ → Moment) → Lends (the_book book.now) m now env.now
         → ConditionsStand (the_book book.now) m now cells.old.slots state.old truths.old
-        → TellsOf memos.new.items (the_book book.now).memos (λ x. holds (world (the_book book.now) m) x.when now) }
+        → TellsOf memos.new.items (the_book book.now).memos
+        (λ x. holds (world (the_book book.now) m) x.when now) }
     ensures lines_kept { result.lines ≡ false → lines.new.items ≡ lines.old.items }
     ensures memos_kept { result.memos ≡ false → memos.new.items ≡ memos.old.items }
 {

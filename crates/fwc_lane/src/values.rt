@@ -16,9 +16,11 @@ pub fn read_values(values: &mut Vec<Option<i64>>, params: &Params, book: &Book) 
     requires fits { ParamsFit (the_book book.now) params.now }
     requires many { length values.old.items ≡ length (the_book book.now).parameters }
     ensures many { length values.new.items ≡ length values.old.items }
-    ensures values { (words : ℕ → List BusWord) (k : ℕ) → ParamsStand (the_book book.now) words k params.now
+    ensures values { (words : ℕ → List BusWord) (k : ℕ)
+        → ParamsStand (the_book book.now) words k params.now
         → (p : ℕ) → p < length (the_book book.now).parameters
-        → slice_index_or values.new.items p None ≡ value (parameter_at (the_book book.now) p) words k }
+        → slice_index_or values.new.items p None
+        ≡ value (parameter_at (the_book book.now) p) words k }
     ensures short { AreShort values.new.items }
     ensures kept { result ≡ false → values.new.items ≡ values.old.items }
 {

@@ -22,7 +22,8 @@ use warning_display::{LeftCount, fill_flags, fill_lamps, fill_left, fill_right};
 
 // Whether anything that the left zone shows turned.
 fn left_turned(turned: Turned) -> bool
-    ensures { result ≡ (turned.first || (turned.marks || (turned.lines || (turned.memos || turned.normal)))) }
+    ensures { result ≡ (turned.first || (turned.marks
+        || (turned.lines || (turned.memos || turned.normal)))) }
 {
     turned.first || turned.marks || turned.lines || turned.memos || turned.normal
 }
@@ -42,7 +43,8 @@ pub fn draw_left(
     ensures rows { (m : ℕ → Moment) (k : ℕ) → SceneStands (the_book book.now) m k scene.now
         → AreTurned (the_book book.now) m k turned
         → ((j : ℕ) → k ≡ suc j → LeftStands (the_book book.now) m j (rows_of picture.old.rows) was)
-        → FillsLeft (left_in (the_book book.now) m k) result (tracked picture.old.rows changed.old) (tracked picture.new.rows changed.new) }
+        → FillsLeft (left_in (the_book book.now) m k) result (tracked picture.old.rows changed.old)
+        (tracked picture.new.rows changed.new) }
 {
     if !left_turned(turned) {
         return was;
@@ -80,7 +82,8 @@ pub fn draw_right(
     ensures rows { (m : ℕ → Moment) (k : ℕ) → SceneStands (the_book book.now) m k scene.now
         → AreTurned (the_book book.now) m k turned
         → ((j : ℕ) → k ≡ suc j → RightStands (the_book book.now) m j (rows_of picture.old.rows) was)
-        → FillsRight (right_in (the_book book.now) m k) result (tracked picture.old.rows changed.old) (tracked picture.new.rows changed.new) }
+        → FillsRight (right_in (the_book book.now) m k) result
+        (tracked picture.old.rows changed.old) (tracked picture.new.rows changed.new) }
 {
     if !right_turned(turned, scene.truths.changed()) {
         return was;
@@ -125,9 +128,11 @@ pub fn draw_flags(
 )
     requires { IsWhole (tracked picture.old.rows changed.old) }
     ensures whole { IsWhole (tracked picture.new.rows changed.new) }
-    ensures rows { (b : plain.Book) (m : ℕ → Moment) (k : ℕ) → first ≡ (k == 0) → AreCounts b m k counts
+    ensures rows { (b : plain.Book) (m : ℕ → Moment) (k : ℕ) → first ≡ (k == 0)
+        → AreCounts b m k counts
         → ((j : ℕ) → k ≡ suc j → FlagsStand b m j (rows_of picture.old.rows) was)
-        → Mends 14 (flag_rows_in b m k) (tracked picture.old.rows changed.old) (tracked picture.new.rows changed.new) }
+        → Mends 14 (flag_rows_in b m k) (tracked picture.old.rows changed.old)
+        (tracked picture.new.rows changed.new) }
 {
     if is_kept(first, was, counts) {
         return;
@@ -145,9 +150,11 @@ fn is_dark(first: bool, turned: bool) -> bool
 pub fn draw_lamps(scene: &Scene<'_>, first: bool, picture: &mut Picture, changed: &mut [bool; ROWS])
     requires { IsWhole (tracked picture.old.rows changed.old) }
     ensures whole { IsWhole (tracked picture.new.rows changed.new) }
-    ensures rows { (b : plain.Book) (m : ℕ → Moment) (k : ℕ) → first ≡ (k == 0) → SceneStands b m k scene.now
+    ensures rows { (b : plain.Book) (m : ℕ → Moment) (k : ℕ) → first ≡ (k == 0)
+        → SceneStands b m k scene.now
         → ((j : ℕ) → k ≡ suc j → StandAt 33 (lamp_rows_in b m j) (rows_of picture.old.rows))
-        → Mends 33 (lamp_rows_in b m k) (tracked picture.old.rows changed.old) (tracked picture.new.rows changed.new) }
+        → Mends 33 (lamp_rows_in b m k) (tracked picture.old.rows changed.old)
+        (tracked picture.new.rows changed.new) }
 {
     if is_dark(first, scene.attention.changed()) {
         return;

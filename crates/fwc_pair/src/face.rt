@@ -18,7 +18,8 @@ fn mend_row(rows: &mut [Row], changed: &mut [bool], place: usize, row: &Row, nam
     requires place { place < ROWS }
     ensures whole { IsWhole (tracked rows.new changed.new) }
     ensures row { (named ≡ false → get_or (rows_of rows.old) place spec.blank_row ≡ row_of row.now)
-        → Mends place (row_of row.now ∷ []) (tracked rows.old changed.old) (tracked rows.new changed.new) }
+        → Mends place (row_of row.now ∷ []) (tracked rows.old changed.old)
+        (tracked rows.new changed.new) }
 {
     if named {
         set_row(rows, changed, place, row.colour, row.text.as_slice());
@@ -32,7 +33,8 @@ fn mend(rows: &mut [Row], changed: &mut [bool], picture: &[Row], named: &[bool],
     requires named { length named.now ≡ ROWS }
     ensures whole { IsWhole (tracked rows.new changed.new) }
     ensures mended { (all ≡ false → OthersStand named.now (rows_of rows.old) (rows_of picture.now))
-        → IsMended (rows_of picture.now) (tracked rows.old changed.old) (tracked rows.new changed.new) }
+        → IsMended (rows_of picture.now) (tracked rows.old changed.old)
+        (tracked rows.new changed.new) }
 {
     for i in 0..ROWS {
         mend_row(rows, changed, i, &picture[i], all | named[i]);
@@ -43,7 +45,8 @@ fn mend(rows: &mut [Row], changed: &mut [bool], picture: &[Row], named: &[bool],
 fn mend_dead(rows: &mut [Row], changed: &mut [bool])
     requires whole { IsWhole (tracked rows.old changed.old) }
     ensures whole { IsWhole (tracked rows.new changed.new) }
-    ensures mended { IsMended spec.dead (tracked rows.old changed.old) (tracked rows.new changed.new) }
+    ensures mended { IsMended spec.dead (tracked rows.old changed.old)
+        (tracked rows.new changed.new) }
 {
     let count = put_next(
         rows,
@@ -62,7 +65,8 @@ fn mend_dead(rows: &mut [Row], changed: &mut [bool])
 fn show_lane(face: &mut Picture, changed: &mut [bool; ROWS], lane: &Lane)
     requires { changed.old ≡ replicate ROWS false }
     ensures { NamesChanges lane.now (picture_of face.old)
-        → IsShown (picture_of lane.now.picture) (picture_of face.old) (picture_of face.new) changed.new }
+        → IsShown (picture_of lane.now.picture) (picture_of face.old) (picture_of face.new)
+        changed.new }
 {
     mend(
         &mut face.rows,
@@ -94,11 +98,14 @@ pub(crate) fn show(
 )
     ensures face { is_tick event.now ≡ false → face.new ≡ face.old }
     ensures changed { is_tick event.now ≡ false → changed.new ≡ changed.old }
-    ensures one { is_tick event.now ≡ true → one_up ≡ true → NamesChanges one.now (picture_of face.old)
-        → IsShown (picture_of one.now.picture) (picture_of face.old) (picture_of face.new) changed.new }
+    ensures one { is_tick event.now ≡ true → one_up ≡ true
+        → NamesChanges one.now (picture_of face.old)
+        → IsShown (picture_of one.now.picture) (picture_of face.old) (picture_of face.new)
+        changed.new }
     ensures two { is_tick event.now ≡ true → one_up ≡ false → two_up ≡ true
         → NamesChanges two.now (picture_of face.old)
-        → IsShown (picture_of two.now.picture) (picture_of face.old) (picture_of face.new) changed.new }
+        → IsShown (picture_of two.now.picture) (picture_of face.old) (picture_of face.new)
+        changed.new }
     ensures dead { is_tick event.now ≡ true → (one_up || two_up) ≡ false
         → IsShown spec.dead (picture_of face.old) (picture_of face.new) changed.new }
 {

@@ -27,7 +27,8 @@ ghost use Rattle.ecam_kinds.specs.Shown.{picture_of};
 pub fn what_a_down_computer_holds_has_no_bearing()
     ensures same { (b : Book) (g h : List Event) (p q : Pair) → PairStands b g p → PairStands b h q
         → AgreeWhereUp g h p q → (later : List Event) → ComeToTheSame b (g ++ later) (h ++ later) }
-    ensures pictures { (b : Book) (g h : List Event) → ComeToTheSame b g h → (p q : Pair) → PairStands b g p
+    ensures pictures { (b : Book) (g h : List Event) → ComeToTheSame b g h → (p q : Pair)
+        → PairStands b g p
         → PairStands b h q → picture_of p.face ≡ picture_of q.face }
     ensures standings { (b : Book) (g h : List Event) → ComeToTheSame b g h → (a : ℕ)
         → standing b g a ≡ standing b h a }
@@ -44,11 +45,14 @@ pub fn the_picture_is_that_of_the_last_moment()
 /// cancelled; and in the latter case it is titled or counted. No alert has two of these standings.
 #[tactic(auto, using(crate::proofs::Accounts::each_accounted, crate::proofs::Accounts::recalled_has_row))]
 pub fn each_active_alert_is_accounted_for()
-    ensures accounted { (b : Book) (h : List Event) (k : ℕ) → IsLast h k → (a : ℕ) → accounts (standing b h a)
+    ensures accounted { (b : Book) (h : List Event) (k : ℕ) → IsLast h k → (a : ℕ)
+        → accounts (standing b h a)
         ≡ (active_in b (moment_of (era h)) a k
-        || (recalled_in b (moment_of (era h)) a k && not (cancelled_in b (moment_of (era h)) a k))) }
+        || (recalled_in b (moment_of (era h)) a k
+        && not (cancelled_in b (moment_of (era h)) a k))) }
     ensures recalled { (b : Book) (h : List Event) (k : ℕ) → IsLast h k → (a : ℕ)
-        → recalled_in b (moment_of (era h)) a k ≡ true → cancelled_in b (moment_of (era h)) a k ≡ false
+        → recalled_in b (moment_of (era h)) a k ≡ true
+        → cancelled_in b (moment_of (era h)) a k ≡ false
         → has_row (standing b h a) ≡ true }
 {}
 
@@ -86,7 +90,8 @@ pub fn rcl_restores_exactly_what_was_cleared_beside_what_waits()
         → cleared_in b (moment_of (era h)) a k ≡ true
         → pressed (strokes_in b (moment_of (era h))) Rcl (suc k) ≡ true
         → is_shown_in b (moment_of (era h)) a (suc k)
-        ≡ (up_in b (moment_of (era h)) a (suc k) && not (cancelled_in b (moment_of (era h)) a (suc k))) }
+        ≡ (up_in b (moment_of (era h)) a (suc k)
+        && not (cancelled_in b (moment_of (era h)) a (suc k))) }
     ensures recalled { (b : Book) (h : List Event) (k a : ℕ) → IsLast h k
         → waiting_in b (moment_of (era h)) a k ≡ true
         → pressed (strokes_in b (moment_of (era h))) Rcl k ≡ true

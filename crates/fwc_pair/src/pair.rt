@@ -137,7 +137,9 @@ impl Pair {
     // Computer 1 or 2 goes down.
     fn fail(&mut self, computer: u8)
         ensures { self.new
-            ≡ (if computer == 1 then record self.old { one_up = false } else record self.old { two_up = false }) }
+            ≡ (if computer == 1 then record self.old {
+              one_up = false;
+            } else record self.old { two_up = false }) }
     {
         if computer == 1 {
             self.one_up = false;
@@ -188,7 +190,8 @@ impl Pair {
     /// The first computer that is up.
     pub fn lane(&self) -> Option<&Lane>
         ensures none { IsNone result ↔ (none_up (flags_of self.now) ≡ true) }
-        ensures first { IfSome result (λ l. l.now ≡ (if self.now.one_up then self.now.one else self.now.two)) }
+        ensures first { IfSome result (λ l. l.now
+            ≡ (if self.now.one_up then self.now.one else self.now.two)) }
         ensures stands { (b : plain.Book) (h : List Event) → PairStands b h self.now
             → IfSome result (λ l. LaneStands b (era h) l.now) }
     {

@@ -56,7 +56,8 @@ fn rows_of(book: &Book, alert: usize, lines: &[bool]) -> usize
 pub(crate) fn title_row(book: &Book, shown: &[bool], lines: &[bool], alert: usize) -> Option<u8>
     requires shown { length shown.now ≡ length book.now.alerts.items }
     requires lines { length lines.now ≡ length (lines_of (the_book book.now).alerts) }
-    ensures { (stands : plain.Line → Bool) → TellsOf lines.now (lines_of (the_book book.now).alerts) stands
+    ensures { (stands : plain.Line → Bool) → TellsOf lines.now (lines_of (the_book book.now).alerts)
+        stands
         → result ≡ in_zone (zone.title_row alert
         (blocks (the_book book.now) stands (in_order (the_book book.now) (flagged shown.now)))) }
 {

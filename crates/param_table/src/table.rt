@@ -61,7 +61,8 @@ impl Params {
     /// Forgets all words and moments. Its cost is one write a source.
     pub fn clear(&mut self)
         ensures fits { (b : plain.Book) → ParamsFit b self.old → ParamsFit b self.new }
-        ensures stands { (b : plain.Book) (words : ℕ → List BusWord) → ParamsFit b self.old → words 0 ≡ []
+        ensures stands { (b : plain.Book) (words : ℕ → List BusWord) → ParamsFit b self.old
+            → words 0 ≡ []
             → ParamsStand b words 0 self.new }
     {
         self.clock = 0;
@@ -71,7 +72,8 @@ impl Params {
     /// Takes over the words and the moments of another table of the same book. Its cost is one write a source.
     pub fn copy_from(&mut self, other: &Params)
         requires { (b : plain.Book) × ParamsFit b self.old × ParamsFit b other.now }
-        ensures fits { (b : plain.Book) → ParamsFit b self.old → ParamsFit b other.now → ParamsFit b self.new }
+        ensures fits { (b : plain.Book) → ParamsFit b self.old → ParamsFit b other.now
+            → ParamsFit b self.new }
         ensures stands { (b : plain.Book) (words : ℕ → List BusWord) (k : ℕ) → ParamsFit b self.old
             → ParamsStand b words k other.now → ParamsStand b words k self.new }
     {
@@ -86,7 +88,8 @@ impl Params {
         ensures fits { ParamsFit (the_book book.now) self.new }
         ensures stands { (old new : ℕ → List BusWord) (k : ℕ)
             → OneMore old new k (record { bus = bus; bits = bits })
-            → ParamsStand (the_book book.now) old k self.old → ParamsStand (the_book book.now) new k self.new }
+            → ParamsStand (the_book book.now) old k self.old
+            → ParamsStand (the_book book.now) new k self.new }
     {
         let word = Word::new(bits);
         if word.odd() {
@@ -124,7 +127,8 @@ impl Params {
     pub fn value(&self, book: &Book, param: usize) -> Option<i64>
         requires fits { ParamsFit (the_book book.now) self.now }
         requires param { param < length book.now.params.items }
-        ensures value { (words : ℕ → List BusWord) (k : ℕ) → ParamsStand (the_book book.now) words k self.now
+        ensures value { (words : ℕ → List BusWord) (k : ℕ)
+            → ParamsStand (the_book book.now) words k self.now
             → result ≡ value (parameter_at (the_book book.now) param) words k }
         ensures bound { IfSome result (IsValueOf (parameter_at (the_book book.now) param).kind) }
     {
@@ -166,7 +170,8 @@ impl Params {
     fn source_value(&self, parameter: &Param, source: &WordSource, place: usize) -> Option<i64>
         requires sound { IsSoundSource (source_of source.now) }
         requires place { place < length self.now.received.items }
-        ensures value { result ≡ held_value parameter.now.kind parameter.now.stale (source_of source.now) self.now.clock
+        ensures value { result ≡ held_value parameter.now.kind parameter.now.stale
+            (source_of source.now) self.now.clock
             (slice_index_or self.now.received.items place None) }
         ensures bound { IfSome result (IsValueOf parameter.now.kind) }
     {

@@ -67,15 +67,18 @@ impl Piece {
     // Reads the next piece in place of this one. No bytes are the source's end.
     pub(crate) fn read<S: Source>(&mut self, source: &mut S) -> Result<(), Failed>
         ensures moved { OnOk result (Consumes (S.left source.old) (S.left source.new) self.new) }
-        ensures end { OnOk result (self.new ≡ [] → IsSpent (S.left source.old) (S.left source.new)) }
+        ensures end { OnOk result (self.new ≡ []
+            → IsSpent (S.left source.old) (S.left source.new)) }
         ensures few { length self.new ≤ 4096 }
         ensures none { OnErr result (self.new ≡ []) }
         ensures kept { OnErr result (S.left source.new ≡ S.left source.old) }
         ensures is_open { S.is_open source.new ≡ S.is_open source.old }
         ensures files { S.files source.new ≡ S.files source.old }
         ensures opens { S.opens source.new ≡ S.opens source.old }
-        ensures gave { OnOk result (Appended S.reads source.old source.new (piece_call (Some (length self.new)) ∷ [])) }
-        ensures failed { OnErr result (Appended S.reads source.old source.new (piece_call None ∷ [])) }
+        ensures gave { OnOk result (Appended S.reads source.old source.new
+            (piece_call (Some (length self.new)) ∷ [])) }
+        ensures failed { OnErr result (Appended S.reads source.old source.new
+            (piece_call None ∷ [])) }
         ensures faults { S.faults source.old ≤ S.faults source.new }
         ensures quiet { OnOk result (S.faults source.new ≡ S.faults source.old) }
         ensures cause { OnErr result (Rose (S.faults source.old) (S.faults source.new)) }

@@ -107,11 +107,14 @@ impl LineReader {
     /// bytes each time, and takes none behind the piece in which the record's fault stands.
     pub fn next<S: Source>(&mut self, source: &mut S) -> Result<Event, LineError>
         // Some bytes were taken, which tell this, whatever bytes were taken and events answered before.
-        ensures told { Takes (S.left source.old) (S.left source.new) (λ more. Tells self.old self.new more result) }
-        ensures end { settled self.old ≡ None → MeetsEnd (S.left source.old) (S.left source.new) result }
+        ensures told { Takes (S.left source.old) (S.left source.new)
+            (λ more. Tells self.old self.new more result) }
+        ensures end { settled self.old ≡ None
+            → MeetsEnd (S.left source.old) (S.left source.new) result }
 
         // What is answered again, and nothing is read.
-        ensures again { IfSome (settled self.old) (λ a. (result ≡ a) × (self.new ≡ self.old) × (source.new ≡ source.old)) }
+        ensures again { IfSome (settled self.old)
+            (λ a. (result ≡ a) × (self.new ≡ self.old) × (source.new ≡ source.old)) }
         ensures settled { settled self.new ≡ kept_answer result }
 
         // Each event costs two bytes of the limit at least.
@@ -119,11 +122,13 @@ impl LineReader {
 
         // What it has decides the answer, or it asks for pieces until they do.
         ensures spared { reads_next self.old ≡ false → source.new ≡ source.old }
-        ensures asks { settled self.old ≡ None → Makes S.reads source.old source.new (Asks (reads_next self.old) result) }
+        ensures asks { settled self.old ≡ None
+            → Makes S.reads source.old source.new (Asks (reads_next self.old) result) }
 
         ensures event { IfOk result IsEvent }
         ensures quiet { result ≢ Err LineError.Failed → S.faults source.new ≡ S.faults source.old }
-        ensures cause { result ≡ Err LineError.Failed → Rose (S.faults source.old) (S.faults source.new) }
+        ensures cause { result ≡ Err LineError.Failed
+            → Rose (S.faults source.old) (S.faults source.new) }
         ensures faults { S.faults source.old ≤ S.faults source.new }
         ensures is_open { S.is_open source.new ≡ S.is_open source.old }
         ensures files { S.files source.new ≡ S.files source.old }
@@ -290,17 +295,22 @@ impl LineReader {
     fn fill<S: Source>(&mut self, source: &mut S) -> Result<bool, Failed>
         requires empty { self.old.pending ≡ [] }
         requires within { self.old.over ≡ false }
-        ensures moved { IfOk result (λ _. Takes (S.left source.old) (S.left source.new) (λ more. (self.new ≡ filled more self.old) × (length more ≤ 4096))) }
-        ensures end { result ≡ Ok false → IsSpent (S.left source.old) (S.left source.new) × (self.new ≡ self.old) × Consumes (S.left source.old) (S.left source.new) [] }
+        ensures moved { IfOk result (λ _. Takes (S.left source.old) (S.left source.new)
+            (λ more. (self.new ≡ filled more self.old) × (length more ≤ 4096))) }
+        ensures end { result ≡ Ok false → IsSpent (S.left source.old) (S.left source.new)
+            × (self.new ≡ self.old) × Consumes (S.left source.old) (S.left source.new) [] }
         ensures nearer { result ≡ Ok true → wait self.new ≡ 2 * self.old.allowance }
         ensures same { OnErr result (self.new ≡ self.old) }
         ensures kept { OnErr result (S.left source.new ≡ S.left source.old) }
         ensures is_open { S.is_open source.new ≡ S.is_open source.old }
         ensures files { S.files source.new ≡ S.files source.old }
         ensures opens { S.opens source.new ≡ S.opens source.old }
-        ensures gave { result ≡ Ok true → (n : ℕ) × (0 < n) × Appended S.reads source.old source.new (piece_call (Some n) ∷ []) }
-        ensures spent { result ≡ Ok false → Appended S.reads source.old source.new (piece_call (Some 0) ∷ []) }
-        ensures failed { OnErr result (Appended S.reads source.old source.new (piece_call None ∷ [])) }
+        ensures gave { result ≡ Ok true → (n : ℕ) × (0 < n)
+            × Appended S.reads source.old source.new (piece_call (Some n) ∷ []) }
+        ensures spent { result ≡ Ok false → Appended S.reads source.old source.new
+            (piece_call (Some 0) ∷ []) }
+        ensures failed { OnErr result (Appended S.reads source.old source.new
+            (piece_call None ∷ [])) }
         ensures faults { S.faults source.old ≤ S.faults source.new }
         ensures quiet { OnOk result (S.faults source.new ≡ S.faults source.old) }
         ensures cause { OnErr result (Rose (S.faults source.old) (S.faults source.new)) }
@@ -341,7 +351,9 @@ impl LineReader {
     // The record has this fault in the line at hand.
     fn fail(&mut self, kind: FaultKind) -> LineError
         ensures answer { result ≡ LineError.Record (fault_in kind self.old) }
-        ensures state { self.new ≡ record self.old { stage = Stage.Faulty (fault_in kind self.old) } }
+        ensures state { self.new ≡ record self.old {
+          stage = Stage.Faulty (fault_in kind self.old);
+        } }
     {
         let fault = RecordFault {
             kind,

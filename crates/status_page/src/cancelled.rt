@@ -29,9 +29,11 @@ pub(crate) fn put_cancelled(
     requires active { length active.now ≡ length book.now.alerts.items }
     requires cancelled { length cancelled.now ≡ length book.now.alerts.items }
     ensures whole { IsWhole (tracked rows.new changed.new) }
-    ensures rows { (is_active is_cancelled : ℕ → Bool) → TellsBelow (length book.now.alerts.items) active.now is_active
+    ensures rows { (is_active is_cancelled : ℕ → Bool)
+        → TellsBelow (length book.now.alerts.items) active.now is_active
         → TellsBelow (length book.now.alerts.items) cancelled.now is_cancelled
-        → AppendsBehind (page.cancelled_rows (cancelleds (the_book book.now) is_active is_cancelled (alert_numbers (the_book book.now)))) place result
+        → AppendsBehind (page.cancelled_rows (cancelleds (the_book book.now) is_active is_cancelled
+        (alert_numbers (the_book book.now)))) place result
         (tracked rows.old changed.old) (tracked rows.new changed.new) }
 {
     let alerts = book.alerts();
@@ -63,7 +65,8 @@ fn put_title(
     requires whole { IsWhole (tracked rows.old changed.old) }
     ensures whole { IsWhole (tracked rows.new changed.new) }
     ensures rows { AppendsBehind (if listed then (if titled then spec.row Amber title.now.bytes ∷ []
-        else spec.row White (codes "CANCELLED CAUTION") ∷ spec.row Amber title.now.bytes ∷ []) else []) place result
+        else spec.row White (codes "CANCELLED CAUTION") ∷ spec.row Amber title.now.bytes ∷ [])
+        else []) place result
         (tracked rows.old changed.old) (tracked rows.new changed.new) }
 {
     if !listed {
@@ -82,7 +85,8 @@ fn put_title(
 fn put_heading(rows: &mut [Row], changed: &mut [bool], place: Place, titled: bool) -> Place
     requires whole { IsWhole (tracked rows.old changed.old) }
     ensures whole { IsWhole (tracked rows.new changed.new) }
-    ensures row { AppendsBehind (if titled then [] else spec.row White (codes "CANCELLED CAUTION") ∷ []) place result
+    ensures row { AppendsBehind (if titled then []
+        else spec.row White (codes "CANCELLED CAUTION") ∷ []) place result
         (tracked rows.old changed.old) (tracked rows.new changed.new) }
 {
     if titled {

@@ -14,7 +14,8 @@ pub fn status_rows(book: &Book, active: &[bool], cancelled: &[bool]) -> u32
     requires active { length active.now ≡ length book.now.alerts.items }
     requires cancelled { length cancelled.now ≡ length book.now.alerts.items }
     ensures few { result ≤ 9217 }
-    ensures rows { (is_active is_cancelled : ℕ → Bool) → TellsBelow (length book.now.alerts.items) active.now is_active
+    ensures rows { (is_active is_cancelled : ℕ → Bool)
+        → TellsBelow (length book.now.alerts.items) active.now is_active
         → TellsBelow (length book.now.alerts.items) cancelled.now is_cancelled
         → result ≡ length (status_of (the_book book.now) is_active is_cancelled) }
 {

@@ -31,7 +31,8 @@ pub fn fill_status(
     requires active { length active.now ≡ length book.now.alerts.items }
     requires cancelled { length cancelled.now ≡ length book.now.alerts.items }
     ensures whole { IsWhole (tracked picture.new.rows changed.new) }
-    ensures rows { (is_active is_cancelled : ℕ → Bool) → TellsBelow (length book.now.alerts.items) active.now is_active
+    ensures rows { (is_active is_cancelled : ℕ → Bool)
+        → TellsBelow (length book.now.alerts.items) active.now is_active
         → TellsBelow (length book.now.alerts.items) cancelled.now is_cancelled
         → Mends 15 (status_page page (status_of (the_book book.now) is_active is_cancelled))
         (tracked picture.old.rows changed.old) (tracked picture.new.rows changed.new) }
@@ -51,7 +52,8 @@ fn fill_zone(
     requires active { length active.now ≡ length book.now.alerts.items }
     requires cancelled { length cancelled.now ≡ length book.now.alerts.items }
     ensures whole { IsWhole (tracked rows.new changed.new) }
-    ensures rows { (is_active is_cancelled : ℕ → Bool) → TellsBelow (length book.now.alerts.items) active.now is_active
+    ensures rows { (is_active is_cancelled : ℕ → Bool)
+        → TellsBelow (length book.now.alerts.items) active.now is_active
         → TellsBelow (length book.now.alerts.items) cancelled.now is_cancelled
         → Mends 15 (status_page page (status_of (the_book book.now) is_active is_cancelled))
         (tracked rows.old changed.old) (tracked rows.new changed.new) }
@@ -84,7 +86,8 @@ fn put_all(
     requires active { length active.now ≡ length book.now.alerts.items }
     requires cancelled { length cancelled.now ≡ length book.now.alerts.items }
     ensures whole { IsWhole (tracked rows.new changed.new) }
-    ensures rows { (is_active is_cancelled : ℕ → Bool) → TellsBelow (length book.now.alerts.items) active.now is_active
+    ensures rows { (is_active is_cancelled : ℕ → Bool)
+        → TellsBelow (length book.now.alerts.items) active.now is_active
         → TellsBelow (length book.now.alerts.items) cancelled.now is_cancelled
         → AppendsBehind (status_of (the_book book.now) is_active is_cancelled) place result
         (tracked rows.old changed.old) (tracked rows.new changed.new) }

@@ -27,7 +27,8 @@ fn put_lines(
     requires whole { IsWhole (tracked rows.old changed.old) }
     ensures whole { IsWhole (tracked rows.new changed.new) }
     ensures rows { AppendsBehind (map (λ (l : plain.StatusLine). spec.row colour l.text)
-        (filter (λ (l : plain.StatusLine). l.section == section) (map status_of lines.now))) place result
+        (filter (λ (l : plain.StatusLine). l.section == section) (map status_of lines.now))) place
+        result
         (tracked rows.old changed.old) (tracked rows.new changed.new) }
 {
     let mut place = place;
@@ -48,7 +49,8 @@ fn put_line(
 ) -> Place
     requires whole { IsWhole (tracked rows.old changed.old) }
     ensures whole { IsWhole (tracked rows.new changed.new) }
-    ensures row { AppendsBehind (if line.now.section == section then spec.row colour line.now.text.bytes ∷ [] else []) place result
+    ensures row { AppendsBehind (if line.now.section == section
+        then spec.row colour line.now.text.bytes ∷ [] else []) place result
         (tracked rows.old changed.old) (tracked rows.new changed.new) }
 {
     if line.section != section {
@@ -71,8 +73,10 @@ pub(crate) fn put_section(
     requires whole { IsWhole (tracked rows.old changed.old) }
     requires active { length active.now ≡ length book.now.alerts.items }
     ensures whole { IsWhole (tracked rows.new changed.new) }
-    ensures rows { (is_active : ℕ → Bool) → TellsBelow (length book.now.alerts.items) active.now is_active
-        → AppendsBehind (page.section_rows (actives (the_book book.now) is_active (alert_numbers (the_book book.now))) (section, colour)) place result
+    ensures rows { (is_active : ℕ → Bool) → TellsBelow (length book.now.alerts.items) active.now
+        is_active
+        → AppendsBehind (page.section_rows (actives (the_book book.now) is_active
+        (alert_numbers (the_book book.now))) (section, colour)) place result
         (tracked rows.old changed.old) (tracked rows.new changed.new) }
 {
     let alerts = book.alerts();
@@ -103,8 +107,10 @@ fn put_active(
 ) -> Place
     requires whole { IsWhole (tracked rows.old changed.old) }
     ensures whole { IsWhole (tracked rows.new changed.new) }
-    ensures rows { AppendsBehind (if active then map (λ (l : plain.StatusLine). spec.row colour l.text)
-        (filter (λ (l : plain.StatusLine). l.section == section) (map status_of lines.now)) else []) place result
+    ensures rows { AppendsBehind (if active then map
+        (λ (l : plain.StatusLine). spec.row colour l.text)
+        (filter (λ (l : plain.StatusLine). l.section == section) (map status_of lines.now)) else [])
+        place result
         (tracked rows.old changed.old) (tracked rows.new changed.new) }
 {
     if !active {

@@ -27,7 +27,8 @@ pub fn the_rows_are_those_of_the_choice()
         → option_and_then (slice_get b.pages) page ≡ called_page (display b m k)
         → page_rows (display b m k) (option_and_then (slice_get b.pages) page) ≡ display_in b m k }
     ensures selected { (b : Book) (m : ℕ → Moment) (k page : ℕ) → choice (panel b m) k ≡ Page page
-        → page_rows (display b m k) (option_and_then (slice_get b.pages) (Some page)) ≡ display_in b m k }
+        → page_rows (display b m k) (option_and_then (slice_get b.pages) (Some page))
+        ≡ display_in b m k }
     ensures status { (b : Book) (m : ℕ → Moment) (k page : ℕ) → choice (panel b m) k ≡ Status page
         → status_page page (status_in b m k) ≡ display_in b m k }
 {}

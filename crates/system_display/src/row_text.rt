@@ -68,7 +68,8 @@ fn write_known(out: &mut RowText, row: &PageRow, kind: Kind, value: i64)
     requires room { LeavesRoom row.now }
     requires short { IsShort value }
     ensures { (c : Colour) → spec.row c out.new.items
-        ≡ value_row row.now.text.bytes (option_map bytes_of row.now.unit) c (value_text kind value) }
+        ≡ value_row row.now.text.bytes (option_map bytes_of row.now.unit) c
+        (value_text kind value) }
 {
     match kind {
         Kind::Disc => write_value(out, row, if value == 1 { b"ON" } else { b"OFF" }),

@@ -79,21 +79,26 @@ impl Cells {
     /// the length of the history.
     pub fn refresh(&mut self, cond: &Cond, at: usize, env: &Env, now: u64) -> Turn
         requires range { at + slots (tree_of cond.now) ≤ length self.old.slots }
-        requires names { IsWithin (length env.now.values.now) (length env.now.active.now) (tree_of cond.now) }
+        requires names { IsWithin (length env.now.values.now) (length env.now.active.now)
+            (tree_of cond.now) }
         requires first { 1 ≤ env.now.phase.number }
         requires last { env.now.phase.number ≤ 10 }
         requires now { now < 2 ^ 63 }
-        ensures truth { (w : World) → Shows env.now w now → Stand w now (tree_of cond.now) at self.old.slots
+        ensures truth { (w : World) → Shows env.now w now
+            → Stand w now (tree_of cond.now) at self.old.slots
             → result.holds ≡ holds w (tree_of cond.now) now }
-        ensures due { (w : World) → Shows env.now w now → Stand w now (tree_of cond.now) at self.old.slots
+        ensures due { (w : World) → Shows env.now w now
+            → Stand w now (tree_of cond.now) at self.old.slots
             → IsDue (staying w now) (tree_of cond.now) now result.due }
-        ensures stands { (w : World) → Shows env.now w now → Stand w now (tree_of cond.now) at self.old.slots
+        ensures stands { (w : World) → Shows env.now w now
+            → Stand w now (tree_of cond.now) at self.old.slots
             → Stand w (suc now) (tree_of cond.now) at self.new.slots }
         ensures before { (i : ℕ) → i < at → cell_at self.new.slots i ≡ cell_at self.old.slots i }
         ensures behind { (i : ℕ) → at + slots (tree_of cond.now) ≤ i
             → cell_at self.new.slots i ≡ cell_at self.old.slots i }
         ensures len { length self.new.slots ≡ length self.old.slots }
-        ensures visits { self.new.visits ≡ min (self.old.visits + nodes (tree_of cond.now)) (2 ^ 64 - 1) }
+        ensures visits { self.new.visits ≡ min (self.old.visits + nodes (tree_of cond.now))
+            (2 ^ 64 - 1) }
     {
         let mut next = at;
         step(cond, &mut self.cells, &mut next, &mut self.visits, env, now)

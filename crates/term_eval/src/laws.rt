@@ -12,14 +12,17 @@ ghost use Rattle.term_eval.specs.Due.{staying, IsDue};
 /// Two worlds that agree, in each moment up to now, on the operands that a condition names give it equal truth:
 /// nothing that it doesn't name has a bearing on it, and nothing that comes later.
 pub fn what_is_named_decides()
-    ensures { (v w : World) (c : Tree) (k : ℕ) → ((i : ℕ) → i ≤ k → AgreeOn v w i c) → holds v c k ≡ holds w c k }
+    ensures { (v w : World) (c : Tree) (k : ℕ) → ((i : ℕ) → i ≤ k → AgreeOn v w i c)
+        → holds v c k ≡ holds w c k }
 {}
 
 /// A condition that nothing wakes in a moment holds where it held in the moment before, its cells stand for one moment more
 /// as they are, and it is due when it was.
 pub fn a_condition_at_rest_keeps_its_truth()
-    ensures truth { (w : World) (c : Tree) (k : ℕ) → woken w c (suc k) ≡ false → holds w c (suc k) ≡ holds w c k }
-    ensures stands { (w : World) (c : Tree) (k at : ℕ) (cells : List Cell) → woken w c (suc k) ≡ false
+    ensures truth { (w : World) (c : Tree) (k : ℕ) → woken w c (suc k) ≡ false
+        → holds w c (suc k) ≡ holds w c k }
+    ensures stands { (w : World) (c : Tree) (k at : ℕ) (cells : List Cell)
+        → woken w c (suc k) ≡ false
         → Stand w (suc k) c at cells → Stand w (suc (suc k)) c at cells }
     ensures due { (w : World) (c : Tree) (k due : ℕ) → suc k < 2 ^ 63 → woken w c (suc k) ≡ false
         → IsDue (staying w k) c k due → IsDue (staying w (suc k)) c (suc k) due }

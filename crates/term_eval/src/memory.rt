@@ -18,7 +18,8 @@ pub enum Cell {
 
 /// The cell keeps the moment in which the unbroken stretch of the condition started.
 pub fn confirm(cell: &mut Cell, now: bool, moments: u32, moment: u64) -> Turn
-    ensures truth { result.holds ≡ (now && nat_le (min (start_by cell.old moment + moments) never) moment) }
+    ensures truth { result.holds ≡ (now && nat_le (min (start_by cell.old moment + moments) never)
+        moment) }
     ensures due { result.due ≡ (if now
         then (if nat_le (min (start_by cell.old moment + moments) never) moment
         then never else min (start_by cell.old moment + moments) never)
@@ -44,7 +45,8 @@ pub fn confirm(cell: &mut Cell, now: bool, moments: u32, moment: u64) -> Turn
 
 /// The cell is on while the condition holds, and then keeps the moment in which it held last.
 pub fn hold(cell: &mut Cell, now: bool, moments: u32, moment: u64) -> Turn
-    ensures truth { result.holds ≡ (now || nat_lt moment (end_of (last_by cell.old moment) moments)) }
+    ensures truth { result.holds ≡ (now || nat_lt moment
+        (end_of (last_by cell.old moment) moments)) }
     ensures due { result.due ≡ (if now then never
         else (if nat_lt moment (end_of (last_by cell.old moment) moments)
         then end_of (last_by cell.old moment) moments else never)) }
@@ -70,7 +72,8 @@ pub fn hold(cell: &mut Cell, now: bool, moments: u32, moment: u64) -> Turn
 /// The cell is on where the condition held in the moment before.
 pub fn rise(cell: &mut Cell, now: bool, moment: u64) -> Turn
     ensures truth { result.holds ≡ (now && not (is_on cell.old)) }
-    ensures due { result.due ≡ (if now && not (is_on cell.old) then min (moment + 1) never else never) }
+    ensures due { result.due ≡ (if now && not (is_on cell.old) then min (moment + 1) never
+        else never) }
     ensures cell { cell.new ≡ on_if now }
 {
     let holds = now && !is_on(*cell);

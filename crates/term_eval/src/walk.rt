@@ -25,13 +25,15 @@ pub fn step(
     now: u64,
 ) -> Turn
     requires range { next.old + slots (tree_of cond.now) ≤ length cells.old }
-    requires names { IsWithin (length env.now.values.now) (length env.now.active.now) (tree_of cond.now) }
+    requires names { IsWithin (length env.now.values.now) (length env.now.active.now)
+        (tree_of cond.now) }
     requires first { 1 ≤ env.now.phase.number }
     requires last { env.now.phase.number ≤ 10 }
     requires now { now < 2 ^ 63 }
     ensures next { next.new ≡ next.old + slots (tree_of cond.now) }
     ensures visits { visits.new ≡ min (visits.old + nodes (tree_of cond.now)) (2 ^ 64 - 1) }
-    ensures steps { Steps env.now now (tree_of cond.now) next.old cells.old cells.new result.holds result.due }
+    ensures steps { Steps env.now now (tree_of cond.now) next.old cells.old cells.new result.holds
+        result.due }
 {
     *visits = visits.saturating_add(1);
     match cond {
@@ -131,14 +133,16 @@ fn step_each(
     now: u64,
 ) -> Tally
     requires range { next.old + slots_of (trees_of members.now) ≤ length cells.old }
-    requires names { AreWithin (length env.now.values.now) (length env.now.active.now) (trees_of members.now) }
+    requires names { AreWithin (length env.now.values.now) (length env.now.active.now)
+        (trees_of members.now) }
     requires first { 1 ≤ env.now.phase.number }
     requires last { env.now.phase.number ≤ 10 }
     requires now { now < 2 ^ 63 }
     requires visits { visits.old ≤ 2 ^ 64 - 1 }
     ensures next { next.new ≡ next.old + slots_of (trees_of members.now) }
     ensures visits { visits.new ≡ min (visits.old + nodes_of (trees_of members.now)) (2 ^ 64 - 1) }
-    ensures steps { StepsAll env.now now (trees_of members.now) next.old cells.old cells.new result.count result.due }
+    ensures steps { StepsAll env.now now (trees_of members.now) next.old cells.old cells.new
+        result.count result.due }
 {
     let mut count = 0usize;
     let mut due = NEVER;

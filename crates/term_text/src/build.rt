@@ -24,7 +24,8 @@ pub(crate) fn condition_of<D: Dictionary>(
 ) -> Result<Cond, TermError>
     requires few_parameters { length (D.known names.now).parameters < 2 ^ 32 }
     requires few_alerts { length (D.known names.now).alerts < 2 ^ 32 }
-    ensures { (f : Form) → after_all steps.now [] ≡ Some (f ∷ []) → Tells (judged (D.known names.now) text.now f) result }
+    ensures { (f : Form) → after_all steps.now [] ≡ Some (f ∷ [])
+        → Tells (judged (D.known names.now) text.now f) result }
 {
     let mut read = Parts::new(alloc);
     for step in steps {
@@ -43,7 +44,8 @@ fn apply<D: Dictionary>(
 ) -> Result<(), AllocError>
     requires few_parameters { length (D.known names.now).parameters < 2 ^ 32 }
     requires few_alerts { length (D.known names.now).alerts < 2 ^ 32 }
-    ensures { (forms after : List Form) → StandFor (D.known names.now) text.now (parts read.old) forms → after_step step forms ≡ Some after
+    ensures { (forms after : List Form) → StandFor (D.known names.now) text.now (parts read.old)
+        forms → after_step step forms ≡ Some after
         → OnOk result (StandFor (D.known names.now) text.now (parts read.new) after) }
 {
     let part = part_of(alloc, text, names, step, read)?;
@@ -60,7 +62,8 @@ fn part_of<D: Dictionary>(
 ) -> Result<Part, AllocError>
     requires few_parameters { length (D.known names.now).parameters < 2 ^ 32 }
     requires few_alerts { length (D.known names.now).alerts < 2 ^ 32 }
-    ensures { (forms after : List Form) → StandFor (D.known names.now) text.now (parts read.old) forms → after_step step forms ≡ Some after
+    ensures { (forms after : List Form) → StandFor (D.known names.now) text.now (parts read.old)
+        forms → after_step step forms ≡ Some after
         → IfOk result (λ p. StandFor (D.known names.now) text.now (p ∷ parts read.new) after) }
 {
     match step {

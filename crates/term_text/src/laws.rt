@@ -6,6 +6,7 @@ ghost use Rattle.term_text.specs.Readable.{CanBeRead, IsWritable};
 /// Some text means a condition exactly where its names are known, each by the first place at which it stands,
 /// its numbers are in their ranges, and it has at most 64 nodes and a depth of at most 16.
 pub fn readable_conditions()
-    ensures only { (names : TermNames) (tree : Tree) → CanBeRead names tree → IsWritable names tree }
+    ensures only { (names : TermNames) (tree : Tree) → CanBeRead names tree
+        → IsWritable names tree }
     ensures all { (names : TermNames) (tree : Tree) → IsWritable names tree → CanBeRead names tree }
 {}

@@ -41,7 +41,8 @@ impl Members {
 
     /// Takes the condition before those that were taken.
     pub fn add(&mut self, part: Part) -> Result<(), AllocError>
-        ensures { (names : TermNames) (text : Text) (f : Form) (fs : Forms) → JudgesForm names text part f → JudgesForms names text self.old fs
+        ensures { (names : TermNames) (text : Text) (f : Form) (fs : Forms)
+            → JudgesForm names text part f → JudgesForms names text self.old fs
             → OnOk result (JudgesForms names text self.new (and_then f fs)) }
     {
         let Part {
@@ -59,7 +60,9 @@ impl Members {
 
     /// The condition over them.
     pub fn listed(self, text: &[u8], list: Listed) -> Part
-        ensures { (names : TermNames) (f : Form) (fs : Forms) → JudgesForms names text.now self (and_then f fs) → JudgesForm names text.now result (list_form list f fs) }
+        ensures { (names : TermNames) (f : Form) (fs : Forms)
+            → JudgesForms names text.now self (and_then f fs)
+            → JudgesForm names text.now result (list_form list f fs) }
     {
         let Members {
             flaw,

@@ -44,7 +44,8 @@ pub(crate) struct Part {
 impl Part {
     /// A condition of this tree.
     pub fn new(flaw: Option<Flaw>, depth: usize, size: usize, cond: Cond) -> Part
-        ensures { (tree : Tree) → Measures (flaw_in flaw) depth size cond tree → Judges result (flaw_in flaw) tree }
+        ensures { (tree : Tree) → Measures (flaw_in flaw) depth size cond tree
+            → Judges result (flaw_in flaw) tree }
     {
         let is_kept = flaw.is_none() && depth <= DEEPEST && size <= LARGEST;
         let cond = kept(is_kept, cond);
@@ -58,21 +59,24 @@ impl Part {
 
     /// A condition with no condition in it.
     pub fn atom(flaw: Option<Flaw>, cond: Cond) -> Part
-        ensures { (tree : Tree) → depth tree ≡ 1 → nodes tree ≡ 1 → (flaw_in flaw ≡ None → tree_of cond ≡ tree) → Judges result (flaw_in flaw) tree }
+        ensures { (tree : Tree) → depth tree ≡ 1 → nodes tree ≡ 1
+            → (flaw_in flaw ≡ None → tree_of cond ≡ tree) → Judges result (flaw_in flaw) tree }
     {
         Part::new(flaw, 1, 1, cond)
     }
 
     /// A node over conditions of this depth and this size.
     pub fn above(flaw: Option<Flaw>, depth: usize, size: usize, node: Cond) -> Part
-        ensures { (tree : Tree) → Measures (flaw_in flaw) (min (depth + 1) most) (min (size + 1) most) node tree → Judges result (flaw_in flaw) tree }
+        ensures { (tree : Tree) → Measures (flaw_in flaw) (min (depth + 1) most)
+            (min (size + 1) most) node tree → Judges result (flaw_in flaw) tree }
     {
         Part::new(flaw, depth.saturating_add(1), size.saturating_add(1), node)
     }
 
     /// That this one doesn't hold.
     pub fn negated(self, alloc: Global) -> Result<Part, AllocError>
-        ensures { (wrong : Option Wrong) (tree : Tree) → Judges self wrong tree → IfOk result (λ p. Judges p wrong (negation tree)) }
+        ensures { (wrong : Option Wrong) (tree : Tree) → Judges self wrong tree
+            → IfOk result (λ p. Judges p wrong (negation tree)) }
     {
         let Part {
             flaw,
@@ -86,7 +90,8 @@ impl Part {
 
     /// That this one begins to hold.
     pub fn risen(self, alloc: Global) -> Result<Part, AllocError>
-        ensures { (wrong : Option Wrong) (tree : Tree) → Judges self wrong tree → IfOk result (λ p. Judges p wrong (risen tree)) }
+        ensures { (wrong : Option Wrong) (tree : Tree) → Judges self wrong tree
+            → IfOk result (λ p. Judges p wrong (risen tree)) }
     {
         let Part {
             flaw,
@@ -101,7 +106,9 @@ impl Part {
     /// That this one has held for so many moments.
     pub fn confirmed(self, alloc: Global, text: &[u8], number: Span) -> Result<Part, AllocError>
         ensures { (names : TermNames) (wrong : Option Wrong) (tree : Tree) → Judges self wrong tree
-            → IfOk result (λ p. Judges p (earlier_of wrong (earliest (moments_flaw names text.now number))) (confirmed tree (amount names text.now number))) }
+            → IfOk result (λ p. Judges p (earlier_of wrong
+            (earliest (moments_flaw names text.now number)))
+            (confirmed tree (amount names text.now number))) }
     {
         let Part {
             flaw,
@@ -117,7 +124,9 @@ impl Part {
     /// That this one holds or held so many moments before.
     pub fn held(self, alloc: Global, text: &[u8], number: Span) -> Result<Part, AllocError>
         ensures { (names : TermNames) (wrong : Option Wrong) (tree : Tree) → Judges self wrong tree
-            → IfOk result (λ p. Judges p (earlier_of wrong (earliest (moments_flaw names text.now number))) (held tree (amount names text.now number))) }
+            → IfOk result (λ p. Judges p (earlier_of wrong
+            (earliest (moments_flaw names text.now number)))
+            (held tree (amount names text.now number))) }
     {
         let Part {
             flaw,
@@ -132,7 +141,8 @@ impl Part {
 
     /// That this one has held, and the other hasn't since.
     pub fn latched(self, alloc: Global, reset: Part) -> Result<Part, AllocError>
-        ensures { (wrong other_wrong : Option Wrong) (tree other : Tree) → Judges self wrong tree → Judges reset other_wrong other
+        ensures { (wrong other_wrong : Option Wrong) (tree other : Tree) → Judges self wrong tree
+            → Judges reset other_wrong other
             → IfOk result (λ p. Judges p (earlier_of wrong other_wrong) (latched tree other)) }
     {
         let flaw = earlier_of(self.flaw, reset.flaw);
@@ -145,8 +155,10 @@ impl Part {
 
     /// Compares the value of a parameter, whose truth this condition is.
     pub fn compared(self, text: &[u8], op: Op, number: Span) -> Part
-        ensures { (names : TermNames) (wrong : Option Wrong) (param : ℕ) → Judges self wrong (discrete param)
-            → Judges result (earlier_of wrong (earliest (compared_flaw names text.now number))) (compared param op (value (bytes_of text.now number))) }
+        ensures { (names : TermNames) (wrong : Option Wrong) (param : ℕ)
+            → Judges self wrong (discrete param)
+            → Judges result (earlier_of wrong (earliest (compared_flaw names text.now number)))
+            (compared param op (value (bytes_of text.now number))) }
     {
         let Part {
             flaw,
@@ -165,8 +177,10 @@ impl Part {
 
     /// Takes one more phase to those that this condition has.
     pub fn also_in_phase(self, text: &[u8], number: Span) -> Part
-        ensures { (names : TermNames) (wrong : Option Wrong) (set : ℕ) → Judges self wrong (in_phase set)
-            → Judges result (earlier_of wrong (earliest (phase_flaw names text.now number))) (in_phase (bit_or set (one_phase (amount names text.now number)))) }
+        ensures { (names : TermNames) (wrong : Option Wrong) (set : ℕ)
+            → Judges self wrong (in_phase set)
+            → Judges result (earlier_of wrong (earliest (phase_flaw names text.now number)))
+            (in_phase (bit_or set (one_phase (amount names text.now number)))) }
     {
         let Part {
             flaw,
@@ -188,7 +202,8 @@ impl Part {
 
     /// The tree, or why it is refused.
     pub fn judged(self) -> Result<Cond, TermError>
-        ensures { (names : TermNames) (text : Text) (wrong : Option Wrong) (tree : Tree) → Judges self wrong tree → Tells (judged_tree names text wrong tree) result }
+        ensures { (names : TermNames) (text : Text) (wrong : Option Wrong) (tree : Tree)
+            → Judges self wrong tree → Tells (judged_tree names text wrong tree) result }
     {
         match self.flaw {
             Some(Flaw::UnknownName(at)) => Err(TermError::UnknownName { at }),
@@ -198,7 +213,8 @@ impl Part {
     }
 
     fn measured(self) -> Result<Cond, TermError>
-        ensures { (names : TermNames) (text : Text) (tree : Tree) → Judges self None tree → Tells (judged_tree names text None tree) result }
+        ensures { (names : TermNames) (text : Text) (tree : Tree) → Judges self None tree
+            → Tells (judged_tree names text None tree) result }
     {
         if self.depth > DEEPEST {
             Err(TermError::TooDeep)

@@ -38,7 +38,8 @@ impl Parts {
 
     /// Takes the condition on top. The steps of a text never ask for one that isn't there; it would be a constant.
     pub fn pop(&mut self) -> Part
-        ensures { (top : Kept) (rest : List Kept) → parts self.old ≡ top ∷ rest → (result ≡ top) × (parts self.new ≡ rest) }
+        ensures { (top : Kept) (rest : List Kept) → parts self.old ≡ top ∷ rest
+            → (result ≡ top) × (parts self.new ≡ rest) }
     {
         match self.stack.pop() {
             Some(part) => part,
@@ -48,9 +49,12 @@ impl Parts {
 
     /// Takes so many conditions, which are those of a list: one or more.
     pub fn take(&mut self, alloc: Global, count: usize) -> Result<Members, AllocError>
-        ensures { (names : TermNames) (text : Text) (forms older : List Form) (f : Form) (fs : Forms)
-            → StandFor names text (parts self.old) forms → gathered (count - 1) no_more forms ≡ Some (f, fs, older)
-            → IfOk result (λ m. JudgesForms names text m (and_then f fs) × StandFor names text (parts self.new) older) }
+        ensures { (names : TermNames) (text : Text) (forms older : List Form) (f : Form)
+            (fs : Forms)
+            → StandFor names text (parts self.old) forms
+            → gathered (count - 1) no_more forms ≡ Some (f, fs, older)
+            → IfOk result (λ m. JudgesForms names text m (and_then f fs)
+            × StandFor names text (parts self.new) older) }
     {
         let mut members = Members::new(alloc);
         for _ in 0..count.max(1) {

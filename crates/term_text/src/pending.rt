@@ -51,9 +51,11 @@ impl Pending {
 
     // Takes what is expected next. A comparison that isn't there is passed over.
     fn next_for(&mut self, token: Token) -> Option<Expected>
-        ensures next { next_move (pending self.old) token ≡ move_from result (pending self.new) token }
+        ensures next { next_move (pending self.old) token
+            ≡ move_from result (pending self.new) token }
         ensures sign { IfSome result (λ e. is_tail e ≡ true → is_sign token ≡ true) }
-        ensures count { (n : ℕ) → CountsWithin n (pending self.old) → IfSome result (λ e. count_of e ≤ n) }
+        ensures count { (n : ℕ) → CountsWithin n (pending self.old)
+            → IfSome result (λ e. count_of e ≤ n) }
     {
         while let Some(expected) = self.stack.pop() {
             if !is_tail(expected) || is_sign(token) {
@@ -74,7 +76,8 @@ impl Pending {
         requires sign { is_tail expected ≡ true → is_sign token ≡ true }
         requires count { count_of expected ≤ at }
         requires room { at < usize.MAX }
-        ensures { Moves (next_move (expected ∷ pending self.old) token) (pending self.new) at result }
+        ensures { Moves (next_move (expected ∷ pending self.old) token) (pending self.new) at
+            result }
     {
         match (expected, token) {
             (Expected::Condition, Token::Word(word)) => {
@@ -166,7 +169,8 @@ impl Pending {
 
     // Expects a condition and a number in brackets.
     fn expect_timed(&mut self, role: NumberRole) -> Result<(), AllocError>
-        ensures { OnOk result (pending self.new ≡ Opening ∷ Condition ∷ Separator ∷ ANumber role ∷ Closing ∷ pending self.old) }
+        ensures { OnOk result (pending self.new
+            ≡ Opening ∷ Condition ∷ Separator ∷ ANumber role ∷ Closing ∷ pending self.old) }
     {
         self.expect(&[
             Expected::Opening,

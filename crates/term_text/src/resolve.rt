@@ -34,7 +34,8 @@ pub(crate) struct Resolved<T> {
 pub(crate) fn param_at<D: Dictionary>(text: &[u8], names: &D, name: Span) -> Resolved<u32>
     requires { length (D.known names.now).parameters < 2 ^ 32 }
     ensures value { result.value ≡ parameter_of (D.known names.now) text.now name }
-    ensures flaw { flaw_in result.flaw ≡ earliest (name_flaw (D.known names.now) text.now (D.known names.now).parameters name) }
+    ensures flaw { flaw_in result.flaw ≡ earliest
+        (name_flaw (D.known names.now) text.now (D.known names.now).parameters name) }
 {
     match names.param(bytes_of(text, name)) {
         Some(value) => Resolved { value, flaw: None },
@@ -50,7 +51,8 @@ pub(crate) fn param_at<D: Dictionary>(text: &[u8], names: &D, name: Span) -> Res
 pub(crate) fn alert_at<D: Dictionary>(text: &[u8], names: &D, name: Span) -> Resolved<u32>
     requires { length (D.known names.now).alerts < 2 ^ 32 }
     ensures value { result.value ≡ alert_place (D.known names.now) text.now name }
-    ensures flaw { flaw_in result.flaw ≡ earliest (name_flaw (D.known names.now) text.now (D.known names.now).alerts name) }
+    ensures flaw { flaw_in result.flaw ≡ earliest
+        (name_flaw (D.known names.now) text.now (D.known names.now).alerts name) }
 {
     match names.alert(bytes_of(text, name)) {
         Some(value) => Resolved { value, flaw: None },
@@ -65,8 +67,10 @@ pub(crate) fn alert_at<D: Dictionary>(text: &[u8], names: &D, name: Span) -> Res
 #[tactic(auto, unfolding(ecam_spec::specs::TermText::number_flaw, ecam_spec::specs::TermText::earlier))]
 pub(crate) fn amount_at(text: &[u8], number: Span, low: u64, high: u64) -> Resolved<u64>
     requires { high < u64.MAX }
-    ensures value { (names : TermNames) → flaw_in result.flaw ≡ None → result.value ≡ amount names text.now number }
-    ensures flaw { (names : TermNames) → flaw_in result.flaw ≡ earliest (number_flaw names text.now (pos low) (pos high) number) }
+    ensures value { (names : TermNames) → flaw_in result.flaw ≡ None
+        → result.value ≡ amount names text.now number }
+    ensures flaw { (names : TermNames) → flaw_in result.flaw
+        ≡ earliest (number_flaw names text.now (pos low) (pos high) number) }
     ensures range { low ≤ high → (low ≤ result.value) × (result.value ≤ high) }
 {
     match amount_within(bytes_of(text, number), low, high) {
@@ -82,7 +86,8 @@ pub(crate) fn amount_at(text: &[u8], number: Span, low: u64, high: u64) -> Resol
 #[tactic(auto, unfolding(ecam_spec::specs::TermText::number_flaw, ecam_spec::specs::TermText::earlier))]
 pub(crate) fn compared_at(text: &[u8], number: Span) -> Resolved<i64>
     ensures value { flaw_in result.flaw ≡ None → result.value ≡ value (bytes_of text.now number) }
-    ensures flaw { (names : TermNames) → flaw_in result.flaw ≡ earliest (compared_flaw names text.now number) }
+    ensures flaw { (names : TermNames) → flaw_in result.flaw
+        ≡ earliest (compared_flaw names text.now number) }
 {
     match compared_number(bytes_of(text, number)) {
         Some(value) => Resolved { value, flaw: None },

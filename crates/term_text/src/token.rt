@@ -157,7 +157,8 @@ pub(crate) struct Found {
 pub(crate) fn token_at(text: &[u8], at: usize) -> Found
     requires { at < length text.now }
     ensures token { result.token ≡ token_at at (slice_index text.now at) (drop (at + 1) text.now) }
-    ensures end { result.end ≡ at + suc (more_bytes (slice_index text.now at) (drop (at + 1) text.now)) }
+    ensures end { result.end ≡ at + suc (more_bytes (slice_index text.now at)
+        (drop (at + 1) text.now)) }
     ensures within { result.end ≤ length text.now }
 {
     let first = text[at];

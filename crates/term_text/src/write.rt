@@ -21,9 +21,11 @@ use term_tree::Cond;
 /// phases rising, each once. It has at most 4096 bytes, and read with the same names it is the condition again.
 pub fn write_term(alloc: Global, cond: &Cond, names: &Names<'_>) -> Result<String, AllocError>
     requires { CanBeRead (known_names names.now) (tree_of cond.now) }
-    ensures normal { IfOk result (λ t. string_bytes t ≡ written (known_names names.now) (tree_of cond.now)) }
+    ensures normal { IfOk result (λ t. string_bytes t
+        ≡ written (known_names names.now) (tree_of cond.now)) }
     ensures short { IfOk result (λ t. length (string_bytes t) ≤ 4096) }
-    ensures reads_back { IfOk result (λ t. IsVerdict (known_names names.now) (string_bytes t) (means (tree_of cond.now))) }
+    ensures reads_back { IfOk result (λ t. IsVerdict (known_names names.now) (string_bytes t)
+        (means (tree_of cond.now))) }
 {
     let mut text = String::new(alloc);
     push_condition(&mut text, cond, names)?;
@@ -34,8 +36,10 @@ pub fn write_term(alloc: Global, cond: &Cond, names: &Names<'_>) -> Result<Strin
 #[cycle(condition)]
 #[tactic(auto, unfolding(crate::specs::Written::written, ecam_spec::specs::TermNames::IsWithin))]
 fn push_condition(text: &mut String, cond: &Cond, names: &Names<'_>) -> Result<(), AllocError>
-    requires { IsWithin (length names.now.params.now) (length names.now.alerts.now) (tree_of cond.now) }
-    ensures { IfOk result (λ _. string_bytes text.new ≡ string_bytes text.old ++ written (known_names names.now) (tree_of cond.now)) }
+    requires { IsWithin (length names.now.params.now) (length names.now.alerts.now)
+        (tree_of cond.now) }
+    ensures { IfOk result (λ _. string_bytes text.new
+        ≡ string_bytes text.old ++ written (known_names names.now) (tree_of cond.now)) }
 {
     match cond {
         Cond::Const(true) => text.push_str("true"),
@@ -74,7 +78,8 @@ fn push_over(
     of: &Cond,
     names: &Names<'_>,
 ) -> Result<(), AllocError>
-    requires { IsWithin (length names.now.params.now) (length names.now.alerts.now) (tree_of of.now) }
+    requires { IsWithin (length names.now.params.now) (length names.now.alerts.now)
+        (tree_of of.now) }
     ensures { IfOk result (λ _. string_bytes text.new ≡ string_bytes text.old
         ++ enclosed opening.now (written (known_names names.now) (tree_of of.now))) }
 {
@@ -92,9 +97,11 @@ fn push_timed(
     moments: u32,
     names: &Names<'_>,
 ) -> Result<(), AllocError>
-    requires { IsWithin (length names.now.params.now) (length names.now.alerts.now) (tree_of of.now) }
+    requires { IsWithin (length names.now.params.now) (length names.now.alerts.now)
+        (tree_of of.now) }
     ensures { IfOk result (λ _. string_bytes text.new ≡ string_bytes text.old
-        ++ enclosed opening.now (written (known_names names.now) (tree_of of.now) ++ codes ", " ++ decimal moments)) }
+        ++ enclosed opening.now (written (known_names names.now) (tree_of of.now) ++ codes ", "
+        ++ decimal moments)) }
 {
     text.push_str(opening)?;
     push_condition(text, of, names)?;
@@ -111,7 +118,8 @@ fn push_list(
     members: &[Cond],
     names: &Names<'_>,
 ) -> Result<(), AllocError>
-    requires { AreWithin (length names.now.params.now) (length names.now.alerts.now) (trees_of members.now) }
+    requires { AreWithin (length names.now.params.now) (length names.now.alerts.now)
+        (trees_of members.now) }
     ensures { IfOk result (λ _. string_bytes text.new ≡ string_bytes text.old
         ++ enclosed opening.now (listed (known_names names.now) true (trees_of members.now))) }
 {
@@ -128,9 +136,11 @@ fn push_at_least(
     members: &[Cond],
     names: &Names<'_>,
 ) -> Result<(), AllocError>
-    requires { AreWithin (length names.now.params.now) (length names.now.alerts.now) (trees_of members.now) }
+    requires { AreWithin (length names.now.params.now) (length names.now.alerts.now)
+        (trees_of members.now) }
     ensures { IfOk result (λ _. string_bytes text.new ≡ string_bytes text.old
-        ++ enclosed (codes "atleast(") (decimal least ++ codes ", " ++ listed (known_names names.now) true (trees_of members.now))) }
+        ++ enclosed (codes "atleast(") (decimal least ++ codes ", "
+        ++ listed (known_names names.now) true (trees_of members.now))) }
 {
     text.push_str("atleast(")?;
     push_number(text, least)?;
@@ -142,7 +152,8 @@ fn push_at_least(
 // Adds conditions with commas between them.
 #[cycle(condition)]
 fn push_members(text: &mut String, members: &[Cond], names: &Names<'_>) -> Result<(), AllocError>
-    requires { AreWithin (length names.now.params.now) (length names.now.alerts.now) (trees_of members.now) }
+    requires { AreWithin (length names.now.params.now) (length names.now.alerts.now)
+        (trees_of members.now) }
     ensures { IfOk result (λ _. string_bytes text.new ≡ string_bytes text.old
         ++ listed (known_names names.now) true (trees_of members.now)) }
 {

@@ -33,7 +33,8 @@ pub(crate) fn push_enclosed(
     opening: &str,
     inside: &str,
 ) -> Result<(), AllocError>
-    ensures { IfOk result (λ _. string_bytes text.new ≡ string_bytes text.old ++ spec.enclosed opening.now inside.now) }
+    ensures { IfOk result (λ _. string_bytes text.new
+        ≡ string_bytes text.old ++ spec.enclosed opening.now inside.now) }
 {
     text.push_str(opening)?;
     text.push_str(inside)?;
@@ -71,7 +72,8 @@ pub(crate) fn push_comparison(
 }
 
 fn push_key(text: &mut String, key: Key) -> Result<(), AllocError>
-    ensures { IfOk result (λ _. string_bytes text.new ≡ string_bytes text.old ++ spec.key_word key) }
+    ensures { IfOk result (λ _. string_bytes text.new
+        ≡ string_bytes text.old ++ spec.key_word key) }
 {
     match key {
         Key::Clr => text.push_str("CLR"),
@@ -87,7 +89,8 @@ fn push_key(text: &mut String, key: Key) -> Result<(), AllocError>
 }
 
 fn push_page(text: &mut String, page: u8) -> Result<(), AllocError>
-    ensures { IfOk result (λ _. string_bytes text.new ≡ string_bytes text.old ++ (codes "PG" ++ decimal page)) }
+    ensures { IfOk result (λ _. string_bytes text.new
+        ≡ string_bytes text.old ++ (codes "PG" ++ decimal page)) }
 {
     text.push_str("PG")?;
     push_number(text, page)
@@ -95,7 +98,8 @@ fn push_page(text: &mut String, page: u8) -> Result<(), AllocError>
 
 /// Adds that a key is pressed.
 pub(crate) fn push_press(text: &mut String, key: Key) -> Result<(), AllocError>
-    ensures { IfOk result (λ _. string_bytes text.new ≡ string_bytes text.old ++ spec.enclosed (codes "press(") (spec.key_word key)) }
+    ensures { IfOk result (λ _. string_bytes text.new
+        ≡ string_bytes text.old ++ spec.enclosed (codes "press(") (spec.key_word key)) }
 {
     text.push_str("press(")?;
     push_key(text, key)?;
@@ -104,7 +108,8 @@ pub(crate) fn push_press(text: &mut String, key: Key) -> Result<(), AllocError>
 
 /// Adds that a computer is up.
 pub(crate) fn push_computer(text: &mut String, number: u8) -> Result<(), AllocError>
-    ensures { IfOk result (λ _. string_bytes text.new ≡ string_bytes text.old ++ spec.enclosed (codes "fwc(") (decimal number)) }
+    ensures { IfOk result (λ _. string_bytes text.new
+        ≡ string_bytes text.old ++ spec.enclosed (codes "fwc(") (decimal number)) }
 {
     text.push_str("fwc(")?;
     push_number(text, number)?;
@@ -119,7 +124,8 @@ pub(crate) fn separator(is_first: bool) -> &'static str
 }
 
 fn push_phases(text: &mut String, phases: PhaseSet) -> Result<(), AllocError>
-    ensures { IfOk result (λ _. string_bytes text.new ≡ string_bytes text.old ++ spec.listed_numbers (spec.phases_of phases.0)) }
+    ensures { IfOk result (λ _. string_bytes text.new
+        ≡ string_bytes text.old ++ spec.listed_numbers (spec.phases_of phases.0)) }
 {
     let mut is_first = true;
     for number in 1..11 {

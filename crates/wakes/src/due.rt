@@ -101,7 +101,8 @@ fn put_key(nodes: &mut [u64], width: usize, leaf: usize, key: u64)
     requires lesser { (i : ℕ) → 1 ≤ i → i < width → IsLesser nodes.old i }
     ensures long { length nodes.new ≡ length nodes.old }
     ensures lesser { (i : ℕ) → 1 ≤ i → i < width → IsLesser nodes.new i }
-    ensures leaves { (i : ℕ) → width ≤ i → slice_index nodes.new i ≡ slice_index (slice_set nodes.old leaf key) i }
+    ensures leaves { (i : ℕ) → width ≤ i → slice_index nodes.new i
+        ≡ slice_index (slice_set nodes.old leaf key) i }
 {
     let mut node = leaf;
     nodes[leaf] = key;
@@ -133,7 +134,8 @@ fn descend(nodes: &[u64], width: usize, depth: usize, now: u64) -> Option<usize>
 // The first child of a node that is due, where one of them is.
 fn first_child(nodes: &[u64], node: usize, now: u64) -> usize
     requires { 2 * node + 1 < length nodes.now }
-    ensures { result ≡ (if nat_le (slice_index nodes.now (2 * node)) now then 2 * node else 2 * node + 1) }
+    ensures { result ≡ (if nat_le (slice_index nodes.now (2 * node)) now then 2 * node
+        else 2 * node + 1) }
 {
     if nodes[2 * node] <= now {
         2 * node

@@ -57,7 +57,8 @@ fn put_number(text: &mut ArrayVec<u8, ROW_TEXT>, name: &[u8], number: u32)
     requires name { length name.now ≡ 4 }
     requires room { length text.old.items + 15 ≤ ROW_TEXT }
     ensures joined { (flags : List Text) → IsJoined flags text.old.items
-        → IsJoined (flags ++ (if nat_lt 0 number then (name.now ++ decimal number) ∷ [] else [])) text.new.items }
+        → IsJoined (flags ++ (if nat_lt 0 number then (name.now ++ decimal number) ∷ [] else []))
+        text.new.items }
     ensures long { length text.new.items ≤ length text.old.items + 15 }
 {
     if number == 0 {

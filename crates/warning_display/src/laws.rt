@@ -14,7 +14,8 @@ ghost use Rattle.warning_display.specs.RightRows.{right_of};
 /// that of the moment.
 pub fn the_left_zone_is_that_of_the_moment()
     ensures { (b : Book) (m : ℕ → Moment) (k : ℕ) →
-        left_of b (line_stands b m k) (λ x. holds (world b m) x.when k) (shown_in b m k) (normal (cockpit b m) k)
+        left_of b (line_stands b m k) (λ x. holds (world b m) x.when k) (shown_in b m k)
+        (normal (cockpit b m) k)
         ≡ left_in b m k }
 {}
 

@@ -44,7 +44,8 @@ fn put_block(
     ensures whole { IsWhole (tracked rows.new changed.new) }
     ensures rows { (stands : plain.Line → Bool)
         → TellsOf lines.now (lines_of (the_book book.now).alerts) stands
-        → Appends 0 7 (if shown then alert_block (the_book book.now) stands alert else []) count result
+        → Appends 0 7 (if shown then alert_block (the_book book.now) stands alert else []) count
+        result
         (tracked rows.old changed.old) (tracked rows.new changed.new) }
 {
     if !shown {
@@ -92,7 +93,8 @@ fn put_alerts(
         (tracked rows.old changed.old) (tracked rows.new changed.new) }
     ensures titles { (stands : plain.Line → Bool)
         → TellsOf lines.now (lines_of (the_book book.now).alerts) stands
-        → result.1 ≡ overflow (blocks (the_book book.now) stands (in_order (the_book book.now) (flagged shown.now))) }
+        → result.1 ≡ overflow (blocks (the_book book.now) stands
+        (in_order (the_book book.now) (flagged shown.now))) }
 {
     let order = book.order();
     let mut count = 0;
@@ -121,7 +123,8 @@ fn put_calm(
     ensures rows { (test : plain.Memo → Bool) → TellsOf holds.now (map memo_of memos.now) test
         → (left : List LeftRow) (start : TrackedRows)
         → IsFilled 0 7 (rows_in left) count start (tracked rows.old changed.old)
-        → IsFilled 0 7 (rows_in (left_rows left normal (memo_rows true test (map memo_of memos.now)))) result start
+        → IsFilled 0 7 (rows_in (left_rows left normal
+        (memo_rows true test (map memo_of memos.now)))) result start
         (tracked rows.new changed.new) }
 {
     if count > 0 {

@@ -24,7 +24,8 @@ fn put_memo(
     requires zone { first + 7 ≤ ROWS }
     requires few { total < 2 ^ 63 }
     ensures whole { IsWhole (tracked rows.new changed.new) }
-    ensures row { Adds first (if is_of left (memo_of memo.now) && holds then memo_row (memo_of memo.now) ∷ [] else []) total result
+    ensures row { Adds first (if is_of left (memo_of memo.now) && holds
+        then memo_row (memo_of memo.now) ∷ [] else []) total result
         (tracked rows.old changed.old) (tracked rows.new changed.new) }
 {
     if memo.left != left {

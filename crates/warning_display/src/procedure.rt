@@ -85,7 +85,8 @@ pub(crate) fn put_alert(
     requires whole { IsWhole (tracked rows.old changed.old) }
     requires told { length stands.now ≡ length alert.now.lines.items }
     ensures whole { IsWhole (tracked rows.new changed.new) }
-    ensures rows { (test : plain.Line → Bool) → TellsOf stands.now (map line_of alert.now.lines.items) test
+    ensures rows { (test : plain.Line → Bool)
+        → TellsOf stands.now (map line_of alert.now.lines.items) test
         → let lines = map line_of alert.now.lines.items in
         Appends 0 7 (block test alert.now.level alert.now.title.bytes lines) count result
         (tracked rows.old changed.old) (tracked rows.new changed.new) }

@@ -39,7 +39,8 @@ fn mark_systems(marks: &mut [bool], book: &Book, starred: &[bool])
     requires starred { length starred.now ≡ length book.now.alerts.items }
     ensures count { length marks.new ≡ SYSTEMS }
     ensures marked { (s : ℕ) → s < SYSTEMS → slice_index_or marks.new s false
-        ≡ is_marked (the_book book.now) (flagged starred.now) (alert_numbers (the_book book.now)) s }
+        ≡ is_marked (the_book book.now) (flagged starred.now) (alert_numbers (the_book book.now))
+        s }
 {
     let alerts = book.alerts();
     for a in 0..alerts.len() {
@@ -76,7 +77,8 @@ fn put_systems(rows: &mut [Row], changed: &mut [bool], systems: &[Text], marks: 
     requires marks { length marks.now ≡ SYSTEMS }
     ensures whole { IsWhole (tracked rows.new changed.new) }
     ensures few { result ≤ SYSTEMS }
-    ensures rows { Adds 7 (marked_rows (map bytes_of systems.now) marks.now (length systems.now)) 0 result
+    ensures rows { Adds 7 (marked_rows (map bytes_of systems.now) marks.now (length systems.now)) 0
+        result
         (tracked rows.old changed.old) (tracked rows.new changed.new) }
 {
     let mut total = 0;

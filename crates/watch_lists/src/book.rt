@@ -16,7 +16,8 @@ use std::alloc::{AllocError, Global};
 /// Per operand the numbers of the conditions that name it. An error is want of memory.
 pub fn lists_of(alloc: Global, book: &Book) -> Result<Vec<Vec<usize>>, AllocError>
     ensures count { IfOk result (λ v. length v.items ≡ operand_count (sizes_of book.now)) }
-    ensures lists { IfOk result (λ v. ListsAll (sizes_of book.now) (places (the_book book.now)) (items_of v.items)) }
+    ensures lists { IfOk result (λ v. ListsAll (sizes_of book.now) (places (the_book book.now))
+        (items_of v.items)) }
 {
     let sizes = Sizes {
         params: book.params().len(),
@@ -52,8 +53,10 @@ fn add_term(
     requires lists { length lists.old.items ≡ operand_count sizes }
     requires within { IsWithin sizes.params sizes.alerts (tree_in term.now) }
     ensures len { OnOk result (length lists.new.items ≡ length lists.old.items) }
-    ensures listed { OnOk result ((ps : List Placed) → slice_get ps number ≡ Some (placed_of term.now)
-        → NextListed sizes ps number (suc number) (items_of lists.old.items) (items_of lists.new.items)) }
+    ensures listed { OnOk result ((ps : List Placed)
+        → slice_get ps number ≡ Some (placed_of term.now)
+        → NextListed sizes ps number (suc number) (items_of lists.old.items)
+        (items_of lists.new.items)) }
 {
     add_operands(lists, &term.cond, number, sizes)
 }
@@ -80,7 +83,8 @@ fn add_alerts(lists: &mut Vec<Vec<usize>>, book: &Book, sizes: Sizes) -> Result<
     requires sizes { sizes ≡ sizes_of book.now }
     requires lists { length lists.old.items ≡ operand_count sizes }
     ensures len { OnOk result (length lists.new.items ≡ length lists.old.items) }
-    ensures listed { OnOk result (NextListed sizes (places (the_book book.now)) alerts_from (lines_from (the_book book.now))
+    ensures listed { OnOk result (NextListed sizes (places (the_book book.now)) alerts_from
+        (lines_from (the_book book.now))
         (items_of lists.old.items) (items_of lists.new.items)) }
 {
     for alert in 0..book.alerts().len() {
@@ -94,7 +98,8 @@ fn add_procedures(lists: &mut Vec<Vec<usize>>, book: &Book, sizes: Sizes) -> Res
     requires sizes { sizes ≡ sizes_of book.now }
     requires lists { length lists.old.items ≡ operand_count sizes }
     ensures len { OnOk result (length lists.new.items ≡ length lists.old.items) }
-    ensures listed { OnOk result (NextListed sizes (places (the_book book.now)) (lines_from (the_book book.now)) (memos_from (the_book book.now))
+    ensures listed { OnOk result (NextListed sizes (places (the_book book.now))
+        (lines_from (the_book book.now)) (memos_from (the_book book.now))
         (items_of lists.old.items) (items_of lists.new.items)) }
 {
     for alert in 0..book.alerts().len() {
@@ -114,7 +119,8 @@ fn add_lines(
     requires lists { length lists.old.items ≡ operand_count sizes }
     requires alert { alert < length book.now.alerts.items }
     ensures len { OnOk result (length lists.new.items ≡ length lists.old.items) }
-    ensures listed { OnOk result (NextListed sizes (places (the_book book.now)) (line_number book.now alert 0) (line_number book.now (alert + 1) 0)
+    ensures listed { OnOk result (NextListed sizes (places (the_book book.now))
+        (line_number book.now alert 0) (line_number book.now (alert + 1) 0)
         (items_of lists.old.items) (items_of lists.new.items)) }
 {
     let own = &book.alerts()[alert].lines;
@@ -147,9 +153,11 @@ fn add_line(
     requires when { IsWithin sizes.params sizes.alerts (tree_in line.now.when) }
     requires done { IsWithin sizes.params sizes.alerts (tree_in line.now.done) }
     ensures len { OnOk result (length lists.new.items ≡ length lists.old.items) }
-    ensures listed { OnOk result ((ps : List Placed) → slice_get ps number ≡ Some (placed_of line.now.when)
+    ensures listed { OnOk result ((ps : List Placed)
+        → slice_get ps number ≡ Some (placed_of line.now.when)
         → slice_get ps (suc number) ≡ Some (placed_of line.now.done)
-        → NextListed sizes ps number (suc (suc number)) (items_of lists.old.items) (items_of lists.new.items)) }
+        → NextListed sizes ps number (suc (suc number)) (items_of lists.old.items)
+        (items_of lists.new.items)) }
 {
     add_term(lists, &line.when, number, sizes)?;
     add_term(lists, &line.done, number + 1, sizes)
@@ -160,7 +168,8 @@ fn add_memos(lists: &mut Vec<Vec<usize>>, book: &Book, sizes: Sizes) -> Result<(
     requires sizes { sizes ≡ sizes_of book.now }
     requires lists { length lists.old.items ≡ operand_count sizes }
     ensures len { OnOk result (length lists.new.items ≡ length lists.old.items) }
-    ensures listed { OnOk result (NextListed sizes (places (the_book book.now)) (memos_from (the_book book.now)) (length (places (the_book book.now)))
+    ensures listed { OnOk result (NextListed sizes (places (the_book book.now))
+        (memos_from (the_book book.now)) (length (places (the_book book.now)))
         (items_of lists.old.items) (items_of lists.new.items)) }
 {
     let first = first_memo(book, sizes);

@@ -13,7 +13,8 @@ use term_tree::Cond;
 fn add_one(lists: &mut Vec<Vec<usize>>, operand: usize, term: usize) -> Result<(), AllocError>
     requires { operand < length lists.old.items }
     ensures len { OnOk result (length lists.new.items ≡ length lists.old.items) }
-    ensures listed { OnOk result (Adds term (λ o. operand == o) (items_of lists.old.items) (items_of lists.new.items)) }
+    ensures listed { OnOk result (Adds term (λ o. operand == o) (items_of lists.old.items)
+        (items_of lists.new.items)) }
 {
     lists[operand].push(term)?;
     Ok(())
@@ -32,7 +33,8 @@ pub fn add_operands(
     requires lists { length lists.old.items ≡ operand_count sizes }
     requires within { IsWithin sizes.params sizes.alerts (tree_of cond.now) }
     ensures len { OnOk result (length lists.new.items ≡ length lists.old.items) }
-    ensures listed { OnOk result (Adds term (names sizes (tree_of cond.now)) (items_of lists.old.items) (items_of lists.new.items)) }
+    ensures listed { OnOk result (Adds term (names sizes (tree_of cond.now))
+        (items_of lists.old.items) (items_of lists.new.items)) }
 {
     match cond {
         Cond::Const(_) => Ok(()),
@@ -80,7 +82,8 @@ fn add_each(
     requires lists { length lists.old.items ≡ operand_count sizes }
     requires within { AreWithin sizes.params sizes.alerts (trees_of members.now) }
     ensures len { OnOk result (length lists.new.items ≡ length lists.old.items) }
-    ensures listed { OnOk result (Adds term (some_name sizes (trees_of members.now)) (items_of lists.old.items) (items_of lists.new.items)) }
+    ensures listed { OnOk result (Adds term (some_name sizes (trees_of members.now))
+        (items_of lists.old.items) (items_of lists.new.items)) }
 {
     for member in members {
         add_operands(lists, member, term, sizes)?;

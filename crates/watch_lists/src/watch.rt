@@ -33,7 +33,8 @@ impl Watch {
     pub fn listed(&self, operand: usize) -> &[usize]
         requires { (d : Draft) × IsWatch d self.now × (operand < operand_count (sizes_of d)) }
         ensures { (d : Draft) → IsWatch d self.now → operand < operand_count (sizes_of d)
-            → (j : ℕ) → has_term result.now j ≡ names_at (sizes_of d) (places (the_book d)) j operand }
+            → (j : ℕ) → has_term result.now j
+            ≡ names_at (sizes_of d) (places (the_book d)) j operand }
     {
         &self.terms[self.starts[operand]..self.starts[operand + 1]]
     }

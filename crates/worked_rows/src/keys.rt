@@ -7,7 +7,8 @@ ghost use Rattle.worked_rows.specs.Books.{book_a, book_b, book_e, book_n};
 
 /// CLR acts on what the moment before showed: the alert that ended in the same moment, not the new one.
 pub fn clr_acts_on_the_moment_before()
-    ensures { written book_e (codes "W 0 0000041d/T/W 0 0000081d/P CLR/T/E/") ≡ lines (codes "@0/L1 A ALERT X/@1/L1 A ALERT Y/END 2/") }
+    ensures { written book_e (codes "W 0 0000041d/T/W 0 0000081d/P CLR/T/E/")
+        ≡ lines (codes "@0/L1 A ALERT X/@1/L1 A ALERT Y/END 2/") }
 {}
 
 /// CLR with nothing shown does nothing.
@@ -24,7 +25,8 @@ pub fn rcl_brings_back_the_cleared()
 /// A cancelled caution stays cancelled while its condition comes and goes, and a long recall brings it back.
 pub fn a_long_recall_brings_back_the_cancelled()
     ensures { written book_b
-        (codes "W 0 0000041d/T/P EMER/T/W 0 8000001d/T/W 0 0000041d/T/P RCL/" ++ repeat 30 (codes "T/") ++ codes "E/")
+        (codes "W 0 0000041d/T/P EMER/T/W 0 8000001d/T/W 0 0000041d/T/P RCL/"
+        ++ repeat 30 (codes "T/") ++ codes "E/")
         ≡ lines (
         codes "@0/L1 A HYD G RSVR LO LVL/MC A MASTER CAUT/AU W SC/"
         ++ codes "@1/L1 -/FL W STS/S01 W CANCELLED CAUTION/S02 A HYD G RSVR LO LVL/MC -/AU -/"
@@ -38,7 +40,8 @@ pub fn a_long_recall_brings_back_the_cancelled()
 /// RCL held for 29 moments is no long recall.
 pub fn a_shorter_recall_brings_back_nothing()
     ensures { written book_b
-        (codes "W 0 0000041d/T/P EMER/T/W 0 8000001d/T/W 0 0000041d/T/P RCL/" ++ repeat 29 (codes "T/") ++ codes "R RCL/T/E/")
+        (codes "W 0 0000041d/T/P EMER/T/W 0 8000001d/T/W 0 0000041d/T/P RCL/"
+        ++ repeat 29 (codes "T/") ++ codes "R RCL/T/E/")
         ≡ lines (
         codes "@0/L1 A HYD G RSVR LO LVL/MC A MASTER CAUT/AU W SC/"
         ++ codes "@1/L1 -/FL W STS/S01 W CANCELLED CAUTION/S02 A HYD G RSVR LO LVL/MC -/AU -/"

@@ -15,7 +15,8 @@ pub fn a_caution_chimes()
 /// Where the value is gone, the caution ends with its light and its sound.
 pub fn a_caution_ends_with_its_light()
     ensures { written (book_fresh Two) (codes "W 0 0000041d/T/T/T/T/E/")
-        ≡ lines (codes "@0/L1 A HYD G RSVR LO LVL/MC A MASTER CAUT/AU W SC/@3/L1 -/MC -/AU -/END 4/") }
+        ≡ lines (codes
+        "@0/L1 A HYD G RSVR LO LVL/MC A MASTER CAUT/AU W SC/@3/L1 -/MC -/AU -/END 4/") }
 {}
 
 /// A press of MASTER WARN silences a warning, whose text stays.
@@ -27,7 +28,8 @@ pub fn a_press_silences_a_warning()
 /// A press of MASTER WARN acknowledges the warning before it, and not the one that comes up in the same moment.
 pub fn a_press_in_the_moment_of_an_onset()
     ensures { written book_warnings (codes "W 0 0000041d/T/W 0 80000c1d/P MW/T/E/")
-        ≡ lines (codes "@0/L1 R ALERT X/MW R MASTER WARN/AU W CRC/@1/L2 R ALERT Y/AU W CAV/END 2/") }
+        ≡ lines (codes
+        "@0/L1 R ALERT X/MW R MASTER WARN/AU W CRC/@1/L2 R ALERT Y/AU W CAV/END 2/") }
 {}
 
 /// EMER CANC puts out both lights and the sound of a warning, and all else of the picture stays.

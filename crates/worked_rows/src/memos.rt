@@ -7,7 +7,8 @@ ghost use Rattle.worked_rows.specs.DisplayBooks.{book_memos, book_explained};
 
 /// With nothing shown, RCL shows NORMAL for thirty moments in the place of the left memos; the right ones stand beside it.
 pub fn normal_stands_before_the_memos()
-    ensures { written book_memos (codes "W 0 0000041d/P RCL/T/" ++ repeat 30 (codes "T/") ++ codes "E/") ≡ lines (
+    ensures { written book_memos (codes "W 0 0000041d/P RCL/T/" ++ repeat 30 (codes "T/")
+        ++ codes "E/") ≡ lines (
         codes "@0/L1 G NORMAL/R1 M RIGHT 1/R2 M RIGHT 2/R3 M RIGHT 3/R4 M RIGHT 4/R5 M RIGHT 5/R6 M RIGHT 6/"
         ++ codes "R7 M RIGHT 7/FL W RGT 2/"
         ++ codes "@30/L1 G LEFT 1/L2 G LEFT 2/L3 G LEFT 3/L4 G LEFT 4/L5 G LEFT 5/L6 G LEFT 6/L7 G LEFT 7/FL W v RGT 2/"

@@ -22,7 +22,8 @@ pub fn all_shows_each_page_in_turn()
 
 /// A discrete is ON or OFF; a number may be negative and without a unit; a row of mere text has its own colour.
 pub fn values_of_each_kind()
-    ensures { written book_values (codes "W 0 0000041d/W 1 7a560003/W 2 648d1400/P PG1/T/E/") ≡ lines (
+    ensures { written book_values (codes "W 0 0000041d/W 1 7a560003/W 2 648d1400/P PG1/T/E/")
+        ≡ lines (
         codes "@0/S01 W HYD/S02 G LEVEL LOW                     ON/S03 G PUMP OFF                     OFF/"
         ++ codes "S04 G GREEN PRESS                -1450 PSI/S05 G QUANTITY                  -12345/"
         ++ codes "S06 C GROUND TEST/END 1/") }

@@ -15,14 +15,16 @@ pub fn a_recalled_alert_lights_up_when_active()
 pub fn clr_strikes_a_recalled_alert()
     ensures written { written (book_d Two) (until_recall ++ codes "P CLR/T/E/")
         ≡ lines (codes "@4/L1 A HYD G RSVR LO LVL/@5/L1 -/END 6/") }
-    ensures stands { standings (book_d Two) (until_recall ++ codes "P CLR/T/E/") ≡ lines (codes "g_rsvr waiting/") }
+    ensures stands { standings (book_d Two) (until_recall ++ codes "P CLR/T/E/")
+        ≡ lines (codes "g_rsvr waiting/") }
 {}
 
 /// A recalled alert is titled.
 pub fn a_recalled_alert_is_titled()
     ensures written { written (book_d Two) (until_recall ++ codes "E/")
         ≡ lines (codes "@4/L1 A HYD G RSVR LO LVL/END 5/") }
-    ensures stands { standings (book_d Two) (until_recall ++ codes "E/") ≡ lines (codes "g_rsvr titled 1/") }
+    ensures stands { standings (book_d Two) (until_recall ++ codes "E/")
+        ≡ lines (codes "g_rsvr titled 1/") }
 {}
 
 /// A recalled alert has no light and no sound, though its last onset was just before and never acknowledged.

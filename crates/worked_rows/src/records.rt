@@ -9,13 +9,15 @@ ghost use Rattle.worked_rows.specs.Books.{book_a};
 /// A record of 17 bytes under a limit of 17.
 pub fn a_record_as_long_as_its_limit()
     ensures fault { fault (lines (codes "W 0 0000041d/T/E/")) 17 ≡ None }
-    ensures written { written_within 17 book_a (codes "W 0 0000041d/T/E/") ≡ lines (codes "@0/L1 A HYD G RSVR LO LVL/END 1/") }
+    ensures written { written_within 17 book_a (codes "W 0 0000041d/T/E/")
+        ≡ lines (codes "@0/L1 A HYD G RSVR LO LVL/END 1/") }
 {}
 
 /// The same under a limit of 16: the blocks before the fault, and no last line.
 pub fn a_record_longer_than_its_limit()
     ensures fault { fault (lines (codes "W 0 0000041d/T/E/")) 16 ≡ at_line Limit 3 }
-    ensures written { written_within 16 book_a (codes "W 0 0000041d/T/E/") ≡ lines (codes "@0/L1 A HYD G RSVR LO LVL/") }
+    ensures written { written_within 16 book_a (codes "W 0 0000041d/T/E/")
+        ≡ lines (codes "@0/L1 A HYD G RSVR LO LVL/") }
 {}
 
 /// A sound record has no fault.
@@ -28,7 +30,8 @@ pub fn records_that_are_cut()
     ensures no_bytes { fault_of [] ≡ at_line NoEnd 1 }
     ensures no_line_end { fault_of (codes "T") ≡ at_line Cut 1 }
     ensures no_end { fault_of (codes "W 0 0000041d/T/") ≡ at_line NoEnd 3 }
-    ensures written { written book_a (codes "W 0 0000041d/T/") ≡ lines (codes "@0/L1 A HYD G RSVR LO LVL/") }
+    ensures written { written book_a (codes "W 0 0000041d/T/")
+        ≡ lines (codes "@0/L1 A HYD G RSVR LO LVL/") }
 {}
 
 /// Records with a byte that fits nowhere.

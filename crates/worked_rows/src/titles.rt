@@ -12,7 +12,8 @@ pub fn nothing_happens()
 
 /// A word with the bit shows the title in its moment.
 pub fn a_bit_shows_its_title()
-    ensures { written book_a (codes "W 0 0000041d/T/E/") ≡ lines (codes "@0/L1 A HYD G RSVR LO LVL/END 1/") }
+    ensures { written book_a (codes "W 0 0000041d/T/E/")
+        ≡ lines (codes "@0/L1 A HYD G RSVR LO LVL/END 1/") }
 {}
 
 /// A word of even parity counts as if it hadn't come.
@@ -39,20 +40,24 @@ pub fn nine_titles()
 
 /// A word is stale after two moments.
 pub fn a_word_grows_stale()
-    ensures { written (book_fresh One) (codes "W 0 0000041d/T/T/T/T/E/") ≡ lines (codes "@0/L1 A HYD G RSVR LO LVL/@3/L1 -/END 4/") }
+    ensures { written (book_fresh One) (codes "W 0 0000041d/T/T/T/T/E/")
+        ≡ lines (codes "@0/L1 A HYD G RSVR LO LVL/@3/L1 -/END 4/") }
 {}
 
 /// A second source stands in for a first that gives nothing.
 pub fn a_second_source_stands_in()
-    ensures { written book_two_sources (codes "W 0 6000041d/W 1 0000041d/T/E/") ≡ lines (codes "@0/L1 A HYD G RSVR LO LVL/END 1/") }
+    ensures { written book_two_sources (codes "W 0 6000041d/W 1 0000041d/T/E/")
+        ≡ lines (codes "@0/L1 A HYD G RSVR LO LVL/END 1/") }
 {}
 
 /// The first source counts where it gives a value.
 pub fn the_first_source_counts()
-    ensures { written book_two_sources (codes "W 0 8000001d/W 1 0000041d/T/E/") ≡ lines (codes "END 1/") }
+    ensures { written book_two_sources (codes "W 0 8000001d/W 1 0000041d/T/E/")
+        ≡ lines (codes "END 1/") }
 {}
 
 /// A source that names an SDI takes its words alone.
 pub fn a_source_with_an_sdi()
-    ensures { written book_sdi (codes "W 0 0000041d/T/W 0 8000051d/T/E/") ≡ lines (codes "@1/L1 A HYD G RSVR LO LVL/END 2/") }
+    ensures { written book_sdi (codes "W 0 0000041d/T/W 0 8000051d/T/E/")
+        ≡ lines (codes "@1/L1 A HYD G RSVR LO LVL/END 2/") }
 {}

@@ -17,7 +17,8 @@ ghost use Rattle.ecam_spec.specs.Replay.{standing_in};
 #[tactic(auto, using(crate::proofs::AccountLaws::accounted))]
 pub fn each_active_alert_is_accounted_for()
     ensures { (b : Book) (moments : ℕ → Moment) (a k : ℕ) → accounts (standing_in b moments k a)
-        ≡ (active_in b moments a k || (recalled_in b moments a k && not (cancelled_in b moments a k))) }
+        ≡ (active_in b moments a k || (recalled_in b moments a k
+        && not (cancelled_in b moments a k))) }
 {}
 
 /// A recalled alert that isn't cancelled is titled or counted.
@@ -31,14 +32,16 @@ pub fn a_recalled_alert_is_titled_or_counted()
 pub fn a_titled_alert_stands_in_its_row()
     ensures { (b : Book) (moments : ℕ → Moment) (a k r : ℕ) → standing_in b moments k a ≡ Titled r →
         (1 ≤ r) × (r ≤ 7) ×
-        (get_or (picture_in b moments k) (r - 1) blank_row ≡ row (title_colour (alert_at b a).level) (alert_at b a).title) }
+        (get_or (picture_in b moments k) (r - 1) blank_row
+        ≡ row (title_colour (alert_at b a).level) (alert_at b a).title) }
 {}
 
 /// The counted alerts are as many as OVF says.
 #[tactic(auto, using(crate::proofs::AccountLaws::counted_is_overflow))]
 pub fn ovf_counts_the_counted_alerts()
     ensures { (b : Book) (moments : ℕ → Moment) (k : ℕ) →
-        count_by (λ a. is_counted (standing_in b moments k a)) (alert_numbers b) ≡ overflow (left_in b moments k) }
+        count_by (λ a. is_counted (standing_in b moments k a)) (alert_numbers b)
+        ≡ overflow (left_in b moments k) }
 {}
 
 /// An alert's title is among the left zone's rows, the seven that stand and those beyond, exactly where the alert
@@ -46,5 +49,6 @@ pub fn ovf_counts_the_counted_alerts()
 #[tactic(auto, using(crate::proofs::AccountLaws::titled_where_listed))]
 pub fn a_shown_alert_has_its_title()
     ensures { (b : Book) (moments : ℕ → Moment) (a k : ℕ) →
-        is_some (title_row a (left_in b moments k)) ≡ list_any (λ i. a == i) (shown_in b moments k) }
+        is_some (title_row a (left_in b moments k))
+        ≡ list_any (λ i. a == i) (shown_in b moments k) }
 {}

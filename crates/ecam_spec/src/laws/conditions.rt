@@ -13,6 +13,8 @@ pub fn one_condition()
 /// Each text of a condition has a verdict, and no other.
 #[tactic(auto, using(crate::proofs::TermVerdict::some_verdict, crate::proofs::TermVerdict::one_verdict))]
 pub fn one_verdict()
-    ensures some { (names : TermNames) (text : List ℕ) → (outcome : Outcome) × IsVerdict names text outcome }
-    ensures one { (names : TermNames) (text : List ℕ) (o p : Outcome) → IsVerdict names text o → IsVerdict names text p → o ≡ p }
+    ensures some { (names : TermNames) (text : List ℕ)
+        → (outcome : Outcome) × IsVerdict names text outcome }
+    ensures one { (names : TermNames) (text : List ℕ) (o p : Outcome) → IsVerdict names text o
+        → IsVerdict names text p → o ≡ p }
 {}

@@ -20,13 +20,15 @@ pub fn what_is_shown_is_what_was_defined()
 /// The target of CLR and EMER CANC was shown in the moment before.
 #[tactic(auto, using(crate::proofs::CrewLaws::target_shown))]
 pub fn the_target_was_shown()
-    ensures { (c : Cockpit) (a k : ℕ) → is_alert a (target (shown c) (suc k)) ≡ true → is_shown c (shown c) a k ≡ true }
+    ensures { (c : Cockpit) (a k : ℕ) → is_alert a (target (shown c) (suc k)) ≡ true
+        → is_shown c (shown c) a k ≡ true }
 {}
 
 /// A cleared alert that isn't waiting isn't shown in the next moment, if RCL isn't pressed in it.
 #[tactic(auto, using(crate::proofs::CrewLaws::cleared_hidden))]
 pub fn a_cleared_alert_is_not_shown()
-    ensures { (c : Cockpit) (a k : ℕ) → cleared c (shown c) a k ≡ true → c.waiting a (suc k) ≡ false →
+    ensures { (c : Cockpit) (a k : ℕ) → cleared c (shown c) a k ≡ true
+        → c.waiting a (suc k) ≡ false →
         c.rcl (suc k) ≡ false → is_shown c (shown c) a (suc k) ≡ false }
 {}
 
@@ -42,13 +44,15 @@ pub fn a_recall_shows_a_cleared_alert()
 #[tactic(auto, using(crate::proofs::CrewLaws::waiting_recalled))]
 pub fn a_recall_shows_a_waiting_alert()
     ensures { (c : Cockpit) (a k : ℕ) → c.waiting a k ≡ true → c.rcl k ≡ true →
-        is_shown c (shown c) a k ≡ (not (struck c (shown c) a k) && not (cancelled c (shown c) a k)) }
+        is_shown c (shown c) a k ≡ (not (struck c (shown c) a k)
+        && not (cancelled c (shown c) a k)) }
 {}
 
 /// A recalled alert that became active or ended, or was struck, isn't recalled until RCL is pressed again.
 #[tactic(auto, using(crate::proofs::CrewLaws::recall_ends))]
 pub fn a_recalled_alert_is_recalled_while_it_waits()
-    ensures { (c : Cockpit) (s : Shown) (a j k : ℕ) → j ≤ k → (c.waiting a j && not (struck c s a j)) ≡ false →
+    ensures { (c : Cockpit) (s : Shown) (a j k : ℕ) → j ≤ k
+        → (c.waiting a j && not (struck c s a j)) ≡ false →
         ((i : ℕ) → j < i → i ≤ k → c.rcl i ≡ false) → recalled c s a k ≡ false }
 {}
 
@@ -63,7 +67,8 @@ pub fn an_alert_that_ended_is_not_cleared()
 #[tactic(auto, using(crate::proofs::CrewLaws::cancelled_stays))]
 pub fn a_cancelled_caution_stays_cancelled()
     ensures { (c : Cockpit) (s : Shown) (a j k : ℕ) → j ≤ k → cancelled c s a j ≡ true →
-        ((i : ℕ) → j < i → i ≤ k → (long_recall c i ≡ false) × (c.enters_one i ≡ false)) → cancelled c s a k ≡ true }
+        ((i : ℕ) → j < i → i ≤ k → (long_recall c i ≡ false) × (c.enters_one i ≡ false))
+        → cancelled c s a k ≡ true }
 {}
 
 /// A long recall, and the start of phase 1, end a cancellation, unless EMER CANC is pressed on the alert in that
@@ -85,10 +90,13 @@ pub fn a_long_recall_holds_rcl()
 #[tactic(auto, using(crate::proofs::RecallLaws::cleared_stays, crate::proofs::RecallLaws::cleared_recalled))]
 pub fn rcl_restores_what_was_cleared()
     ensures hidden { (b : Book) (moments : ℕ → Moment) (a k : ℕ) → cleared_in b moments a k ≡ true →
-        pressed (strokes_in b moments) Rcl (suc k) ≡ false → is_shown_in b moments a (suc k) ≡ false }
-    ensures restored { (b : Book) (moments : ℕ → Moment) (a k : ℕ) → cleared_in b moments a k ≡ true →
+        pressed (strokes_in b moments) Rcl (suc k) ≡ false
+        → is_shown_in b moments a (suc k) ≡ false }
+    ensures restored { (b : Book) (moments : ℕ → Moment) (a k : ℕ)
+        → cleared_in b moments a k ≡ true →
         pressed (strokes_in b moments) Rcl (suc k) ≡ true →
-        is_shown_in b moments a (suc k) ≡ (up_in b moments a (suc k) && not (cancelled_in b moments a (suc k))) }
+        is_shown_in b moments a (suc k) ≡ (up_in b moments a (suc k)
+        && not (cancelled_in b moments a (suc k))) }
 {}
 
 /// And an alert that waits in a moment with a press of RCL is shown exactly where it isn't struck in that moment and
@@ -98,5 +106,6 @@ pub fn rcl_shows_what_waits()
     ensures { (b : Book) (moments : ℕ → Moment) (a k : ℕ) → waiting_in b moments a k ≡ true →
         pressed (strokes_in b moments) Rcl k ≡ true →
         is_shown_in b moments a k
-        ≡ (not (struck (cockpit b moments) (shown_in b moments) a k) && not (cancelled_in b moments a k)) }
+        ≡ (not (struck (cockpit b moments) (shown_in b moments) a k)
+        && not (cancelled_in b moments a k)) }
 {}

@@ -11,7 +11,8 @@ ghost use Rattle.ecam_spec.specs.Replay.{history_blocks};
 /// The picture of a moment depends on that moment and those before it alone.
 #[tactic(auto, using(crate::proofs::PictureAgree::picture_causal))]
 pub fn a_picture_depends_on_the_past_alone()
-    ensures { (b : Book) (m n : ℕ → Moment) (k : ℕ) → ((i : ℕ) → i ≤ k → m i ≡ n i) → picture_in b m k ≡ picture_in b n k }
+    ensures { (b : Book) (m n : ℕ → Moment) (k : ℕ) → ((i : ℕ) → i ≤ k → m i ≡ n i)
+        → picture_in b m k ≡ picture_in b n k }
 {}
 
 /// Where no condition of the book asks for a computer, and no line leaves both down, the lines on which computers fail

@@ -23,5 +23,6 @@ pub fn a_start_from_none_begins_an_era()
 /// The picture of a Tick depends on nothing that comes after it.
 #[tactic(auto, using(crate::proofs::ReplayLaws::picture_append))]
 pub fn nothing_later_changes_a_picture()
-    ensures { (b : Book) (h later : List Event) (t : ℕ) → t < tick_count h → picture b (h ++ later) t ≡ picture b h t }
+    ensures { (b : Book) (h later : List Event) (t : ℕ) → t < tick_count h
+        → picture b (h ++ later) t ≡ picture b h t }
 {}

@@ -17,7 +17,10 @@ pub fn an_onset_is_open_until_acknowledged()
 /// Where nothing that is shown is up, no light is lit and nothing sounds.
 #[tactic(auto, using(crate::proofs::LampLaws::dark_warns, crate::proofs::LampLaws::dark_cautions, crate::proofs::LampLaws::dark_sound))]
 pub fn a_recalled_alert_has_no_light()
-    ensures warns { (a : Attention) (k : ℕ) → list_any (λ i. a.up i k) (a.shown k) ≡ false → warns a k ≡ false }
-    ensures cautions { (a : Attention) (k : ℕ) → list_any (λ i. a.up i k) (a.shown k) ≡ false → cautions a k ≡ false }
-    ensures sound { (a : Attention) (k : ℕ) → list_any (λ i. a.up i k) (a.shown k) ≡ false → sound a k ≡ Quiet }
+    ensures warns { (a : Attention) (k : ℕ) → list_any (λ i. a.up i k) (a.shown k) ≡ false
+        → warns a k ≡ false }
+    ensures cautions { (a : Attention) (k : ℕ) → list_any (λ i. a.up i k) (a.shown k) ≡ false
+        → cautions a k ≡ false }
+    ensures sound { (a : Attention) (k : ℕ) → list_any (λ i. a.up i k) (a.shown k) ≡ false
+        → sound a k ≡ Quiet }
 {}

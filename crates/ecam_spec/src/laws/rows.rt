@@ -9,6 +9,8 @@ ghost use Rattle.ecam_spec.specs.Replay.{picture_at, last_picture};
 
 /// In each picture a row's text is empty exactly where its colour is Blank.
 pub fn a_row_is_empty_exactly_where_it_is_blank()
-    ensures at { (d : Draft) → IsSound d → (h : List Event) → All IsProper (picture_at (book_of d) h) }
-    ensures last { (d : Draft) → IsSound d → (h : List Event) → All IsProper (last_picture (book_of d) h) }
+    ensures at { (d : Draft) → IsSound d → (h : List Event)
+        → All IsProper (picture_at (book_of d) h) }
+    ensures last { (d : Draft) → IsSound d → (h : List Event)
+        → All IsProper (last_picture (book_of d) h) }
 {}

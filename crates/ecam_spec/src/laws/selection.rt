@@ -16,8 +16,10 @@ pub fn one_more_moment_is_counted()
 /// A moment that selects leaves its own choice, and any other that of the moment before.
 #[tactic(auto, using(crate::proofs::SelectionSteps::chosen_here, crate::proofs::SelectionSteps::choice_kept))]
 pub fn a_moment_that_selects_leaves_its_choice()
-    ensures selected { (p : Panel) (k : ℕ) (s : Selecting) → selecting p k ≡ Some s → choice p k ≡ choice_by p (Some s) k }
-    ensures kept { (p : Panel) (k : ℕ) → selecting p (suc k) ≡ None → choice p (suc k) ≡ choice p k }
+    ensures selected { (p : Panel) (k : ℕ) (s : Selecting) → selecting p k ≡ Some s
+        → choice p k ≡ choice_by p (Some s) k }
+    ensures kept { (p : Panel) (k : ℕ) → selecting p (suc k) ≡ None
+        → choice p (suc k) ≡ choice p k }
 {}
 
 /// STS shows the next status page; after EMER CANC, which shows the first, that is the second, and after anything else
@@ -25,10 +27,16 @@ pub fn a_moment_that_selects_leaves_its_choice()
 #[tactic(auto, using(crate::proofs::SelectionSteps::number_ahead))]
 pub fn sts_shows_the_next_status_page()
     ensures number { (p : Panel) (k : ℕ) → status_number p k ≡ status_ahead p (suc k) - 1 }
-    ensures none { (p : Panel) (k : ℕ) → selecting p k ≡ None → status_ahead p (suc k) ≡ status_ahead p k }
-    ensures sts { (p : Panel) (k : ℕ) → selecting p k ≡ Some the_status → status_ahead p (suc k) ≡ status_ahead p k + 1 }
-    ensures cancel { (p : Panel) (k : ℕ) → selecting p k ≡ Some the_cancel → status_ahead p (suc k) ≡ 1 }
-    ensures clear { (p : Panel) (k : ℕ) → selecting p k ≡ Some the_clear → status_ahead p (suc k) ≡ 0 }
-    ensures all { (p : Panel) (k : ℕ) → selecting p k ≡ Some each_page → status_ahead p (suc k) ≡ 0 }
-    ensures page { (p : Panel) (i k : ℕ) → selecting p k ≡ Some (one_page i) → status_ahead p (suc k) ≡ 0 }
+    ensures none { (p : Panel) (k : ℕ) → selecting p k ≡ None
+        → status_ahead p (suc k) ≡ status_ahead p k }
+    ensures sts { (p : Panel) (k : ℕ) → selecting p k ≡ Some the_status
+        → status_ahead p (suc k) ≡ status_ahead p k + 1 }
+    ensures cancel { (p : Panel) (k : ℕ) → selecting p k ≡ Some the_cancel
+        → status_ahead p (suc k) ≡ 1 }
+    ensures clear { (p : Panel) (k : ℕ) → selecting p k ≡ Some the_clear
+        → status_ahead p (suc k) ≡ 0 }
+    ensures all { (p : Panel) (k : ℕ) → selecting p k ≡ Some each_page
+        → status_ahead p (suc k) ≡ 0 }
+    ensures page { (p : Panel) (i k : ℕ) → selecting p k ≡ Some (one_page i)
+        → status_ahead p (suc k) ≡ 0 }
 {}

@@ -61,7 +61,12 @@ fn page(own: &str, title: &str, rows: Vec<PageRow>) -> Page
 fn row(label: &str, show: Option<u32>, unit: Option<Text>, colour: Colour) -> PageRow
     requires { length label.now ≤ 36 }
     ensures { row_of result
-        ≡ record { text = label.now; show = show; unit = option_map bytes_of unit; colour = colour } }
+        ≡ record {
+          text = label.now;
+          show = show;
+          unit = option_map bytes_of unit;
+          colour = colour;
+        } }
 {
     PageRow {
         text: text(label),
@@ -73,7 +78,12 @@ fn row(label: &str, show: Option<u32>, unit: Option<Text>, colour: Colour) -> Pa
 
 fn rows(alloc: Global) -> Result<Vec<PageRow>, AllocError>
     ensures { IfOk result (λ v. map row_of v.items ≡
-        record { text = codes "GREEN PRESS"; show = Some 0; unit = Some (codes "PSI"); colour = Colour.White }
+        record {
+          text = codes "GREEN PRESS";
+          show = Some 0;
+          unit = Some (codes "PSI");
+          colour = Colour.White;
+        }
         ∷ record { text = codes "PUMP"; show = Some 1; unit = None; colour = Colour.White }
         ∷ record { text = codes "QTY"; show = Some 0; unit = None; colour = Colour.White }
         ∷ record { text = codes "RESERVE"; show = None; unit = None; colour = Colour.Cyan } ∷ []) }
@@ -193,7 +203,8 @@ fn alerts(alloc: Global) -> Result<Vec<Alert>, AllocError>
           lines = [];
           status = [];
         } in
-        plain (codes "caution") Level.Two Sound.Chime ∷ plain (codes "warning") Level.Three Sound.Repetitive ∷ [])) }
+        plain (codes "caution") Level.Two Sound.Chime ∷ plain (codes "warning") Level.Three
+        Sound.Repetitive ∷ [])) }
 {
     let caution = alert(alloc, "caution", Level::Two, Sound::Chime);
     let warning = alert(alloc, "warning", Level::Three, Sound::Repetitive);
