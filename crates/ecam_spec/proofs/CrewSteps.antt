@@ -70,8 +70,8 @@ module _ (c : Cockpit) where
         quiet : (b : Bool) → shows_nothing c k ≡ b
             → (b && option_map_or (λ j. ltb k (j + 29 + 1)) (last (λ j. c.rcl j && historically_from j (shows_nothing c) k) k) false)
             ≡ option_map_or (λ j. ltb k (j + 29 + 1)) (last (λ j. c.rcl j && historically_from j (shows_nothing c) k) k) false
-        quiet true shown = refl
-        quiet false shown = sym (ap (λ o. option_map_or (λ j. ltb k (j + 29 + 1)) o false) (last_since-off c.rcl (shows_nothing c) k shown))
+        quiet true e = refl
+        quiet false e = sym (ap (λ o. option_map_or (λ j. ltb k (j + 29 + 1)) o false) (last_since-off c.rcl (shows_nothing c) k e))
 
 module _ (b : Book) (moments : ℕ → Moment) where
   -- flags of the alerts that tell which are shown tell what is shown

@@ -4,8 +4,8 @@ use Rattle.std.proofs.Common.{◌≡◌, ℕ, zero, suc, ◌+◌, ◌-◌, ◌�
 use Rattle.std.specs.Option.{option_or, option_map_or}
 use Rattle.std.proofs.lemmas.Bool.Decides.{nat_tests}
 use Rattle.std.proofs.Math.Bool.{and-true, and-false}
-use Rattle.ecam_spec.specs.Past.{Signal, previous, last, start_of, previously, running_since, last_since, historically_from, historically, historically_within}
-use Rattle.ecam_spec.proofs.PastSteps.{last-zero, last-suc, historically_from-suc, historically_from-after, start_of-on, start_of-rise, start_of-off, start_of-on-le}
+use Rattle.ecam_spec.specs.Past.{Signal, previous, last, start_of, previously, running_since, last_since, historically_from, historically_within}
+use Rattle.ecam_spec.proofs.PastSteps.{last-zero, last-suc, historically_from-suc, historically_from-here, start_of-on, start_of-rise, start_of-off, start_of-on-le}
 use Rattle.ecam_spec.proofs.PastAgree.{last-below}
 use Rattle.ecam_spec.proofs.PastMoments.{historically_within-start}
 
@@ -67,17 +67,12 @@ last-none p (suc k) none =
     last-suc p k ∙ ap (λ b. cond b (Some (suc k)) (last p k)) (none (suc k) (omega arith)) ∙ last-none p k (λ i h. none i (omega arith))
 
 module _ (p q : Signal) where
-  here : (k : ℕ) → historically_from k q k ≡ q k
-  unfolding historically_from historically
-  here zero = refl
-  here (suc k) = historically_from-suc (suc k) q k (omega arith) ∙ ap (λ b. q (suc k) && b) (historically_from-after (suc k) q k (omega arith)) ∙ and-true (q (suc k))
-
   -- q doesn't hold now, so there is no such moment
   pub last_since-off : (k : ℕ) → q k ≡ false → last_since p q k ≡ None
   unfolding last_since
   last_since-off zero off =
       last-none (λ j. p j && historically_from j q 0) 0
-      (λ i h. let first : i ≡ 0 = omega arith in ap (λ j. p i && historically_from j q 0) first ∙ ap (λ b. p i && b) (here 0 ∙ off) ∙ and-false (p i))
+      (λ i h. let first : i ≡ 0 = omega arith in ap (λ j. p i && historically_from j q 0) first ∙ ap (λ b. p i && b) (historically_from-here q 0 ∙ off) ∙ and-false (p i))
   last_since-off (suc k) off =
       last-none (λ j. p j && historically_from j q (suc k)) (suc k)
       (λ i h. ap (λ b. p i && b) (historically_from-suc i q k h ∙ ap (λ b. b && historically_from i q k) off) ∙ and-false (p i))
@@ -85,10 +80,10 @@ module _ (p q : Signal) where
   last_since-on : (k : ℕ) → q k ≡ true → last_since p q k ≡ cond (p k) (Some k) (previously (last_since p q) k)
   unfolding last_since
   last_since-on zero on =
-      last-zero (λ j. p j && historically_from j q 0) ∙ ap (λ b. cond (p 0 && b) (Some 0) None) (here 0 ∙ on) ∙ ap (λ b. cond b (Some 0) None) (and-true (p 0))
+      last-zero (λ j. p j && historically_from j q 0) ∙ ap (λ b. cond (p 0 && b) (Some 0) None) (historically_from-here q 0 ∙ on) ∙ ap (λ b. cond b (Some 0) None) (and-true (p 0))
   last_since-on (suc k) on =
       last-suc (λ j. p j && historically_from j q (suc k)) k
-      ∙ ap (λ b. cond (p (suc k) && b) (Some (suc k)) (last (λ j. p j && historically_from j q (suc k)) k)) (here (suc k) ∙ on)
+      ∙ ap (λ b. cond (p (suc k) && b) (Some (suc k)) (last (λ j. p j && historically_from j q (suc k)) k)) (historically_from-here q (suc k) ∙ on)
       ∙ ap (λ b. cond b (Some (suc k)) (last (λ j. p j && historically_from j q (suc k)) k)) (and-true (p (suc k)))
       ∙ ap (cond (p (suc k)) (Some (suc k)))
       (last-below (λ j. p j && historically_from j q (suc k)) (λ j. p j && historically_from j q k) k

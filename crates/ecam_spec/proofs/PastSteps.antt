@@ -141,6 +141,12 @@ once_from-here p zero = once_from-zero p
 once_from-here p (suc k) =
     once_from-suc (suc k) p k (omega arith) ∙ ap (λ b. p (suc k) || b) (once_from-after (suc k) p k (omega arith)) ∙ or-false (p (suc k))
 
+pub historically_from-here : (p : Signal) (k : ℕ) → historically_from k p k ≡ p k
+unfolding historically_from historically
+historically_from-here p zero = refl
+historically_from-here p (suc k) =
+    historically_from-suc (suc k) p k (omega arith) ∙ ap (λ b. p (suc k) && b) (historically_from-after (suc k) p k (omega arith)) ∙ and-true (p (suc k))
+
 -- what is so now was so in some moment from j up to now
 pub once_from-now : (j : ℕ) (p : Signal) (k : ℕ) → j ≤ k → p k ≡ true → once_from j p k ≡ true
 once_from-now j p zero within now =
