@@ -5,7 +5,7 @@ use Rattle.std.specs.Option.{option_or, option_map_or}
 use Rattle.std.proofs.lemmas.Bool.Decides.{nat_tests}
 use Rattle.std.proofs.Math.Bool.{and-true, and-false}
 use Rattle.ecam_spec.specs.Past.{Signal, previous, last, start_of, previously, running_since, last_since, historically_from, historically_within}
-use Rattle.ecam_spec.proofs.PastSteps.{last-zero, last-suc, historically_from-suc, historically_from-here, start_of-on, start_of-rise, start_of-off, start_of-on-le}
+use Rattle.ecam_spec.proofs.PastSteps.{last-zero, last-suc, last-none, historically_from-suc, historically_from-here, start_of-on, start_of-rise, start_of-off, start_of-on-le}
 use Rattle.ecam_spec.proofs.PastAgree.{last-below}
 use Rattle.ecam_spec.proofs.PastMoments.{historically_within-start}
 
@@ -60,11 +60,6 @@ historically_within-running n p k =
     ∙ ap (λ o. option_map_or (λ s. leb n (k - s)) o false) (sym (running_since-start p k))
 
 -- ---- the last moment with p since which q holds
-
-last-none : (p : Signal) (k : ℕ) → ((i : ℕ) → i ≤ k → p i ≡ false) → last p k ≡ None
-last-none p zero none = last-zero p ∙ ap (λ b. cond b (Some 0) None) (none 0 (omega arith))
-last-none p (suc k) none =
-    last-suc p k ∙ ap (λ b. cond b (Some (suc k)) (last p k)) (none (suc k) (omega arith)) ∙ last-none p k (λ i h. none i (omega arith))
 
 module _ (p q : Signal) where
   -- q doesn't hold now, so there is no such moment

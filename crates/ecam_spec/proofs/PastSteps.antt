@@ -167,6 +167,12 @@ last-here p (suc k) now = last-suc p k ∙ ap (λ b. cond b (Some (suc k)) (last
 pub last-skip : (p : Signal) (k : ℕ) → p (suc k) ≡ false → last p (suc k) ≡ last p k
 last-skip p k off = last-suc p k ∙ ap (λ b. cond b (Some (suc k)) (last p k)) off
 
+-- what was so in no moment up to now has no last moment
+pub last-none : (p : Signal) (k : ℕ) → ((i : ℕ) → i ≤ k → p i ≡ false) → last p k ≡ None
+last-none p zero none = last-zero p ∙ ap (λ b. cond b (Some 0) None) (none 0 (omega arith))
+last-none p (suc k) none =
+    last-suc p k ∙ ap (λ b. cond b (Some (suc k)) (last p k)) (none (suc k) (omega arith)) ∙ last-none p k (λ i h. none i (omega arith))
+
 upto : (b : Bool) (k : ℕ) (o : Option ℕ) → moment_after o ≤ k → moment_after (cond b (Some k) o) ≤ suc k
 upto true k o h = omega arith
 upto false k o h = omega arith
