@@ -2,6 +2,7 @@
 // of each begin.
 ghost use Rattle.std.specs.Prelude.{◌≡◌, ◌<◌, ◌≤◌, ◌+◌, ◌^◌, ◌++◌, map, length, All, OnOk, IfOk};
 ghost use Rattle.std.specs.List.{filter_map};
+ghost use Rattle.ecam_spec.specs.declared.limits.TheConstants.{ALERTS, LINES};
 ghost use Rattle.book_model.specs.View.{name_of, bytes_of};
 ghost use Rattle.book_model.specs.NamePlaces.{number_by};
 ghost use Rattle.book_model.specs.Parts.{starts, total, line_counts, order_by, level_places, secondaries_by, is_level};
@@ -77,8 +78,8 @@ fn places_of(alloc: Global, places: &NamePlaces<'_>, names: &[Name]) -> Result<V
 
 /// Where the lines of each alert begin in the list of all lines, and how many lines there are.
 pub fn line_starts_of(alloc: Global, alerts: &[Alert]) -> Result<(Vec<usize>, usize), AllocError>
-    requires count { length alerts.now ≤ 1024 }
-    requires lines { All (λ a. length a.lines.items ≤ 16) alerts.now }
+    requires count { length alerts.now ≤ ALERTS }
+    requires lines { All (λ a. length a.lines.items ≤ LINES) alerts.now }
     ensures starts { IfOk result (λ r. r.0.items ≡ starts 0 (line_counts alerts.now)) }
     ensures total { IfOk result (λ r. r.1 ≡ total (line_counts alerts.now)) }
 {

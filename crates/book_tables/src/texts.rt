@@ -1,7 +1,7 @@
 // What may stand as a name, as a text and as a label.
 ghost use Rattle.std.specs.Prelude.{◌≡◌, ◌≤◌, ◌<◌, ◌==◌, Bool, true, length, map, slice_index, option_map};
 ghost use Rattle.std.specs.List.{list_all, list_any};
-ghost use Rattle.ecam_spec.specs.BookText.{is_name, is_text, is_term_text, is_printable, reserved};
+ghost use Rattle.ecam_spec.specs.BookText.{is_name, is_text, is_term_text, is_printable};
 ghost use Rattle.ecam_spec.specs.Bytes.{same_text, is_small_letter, is_name_byte};
 ghost use Rattle.book_model.specs.View.{bytes_of};
 ghost use Rattle.book_spec.specs.Fields.{passing, label_from};
@@ -11,6 +11,7 @@ ghost use Rattle.book_tables.specs.Outcome.{has_no_blank_end, label_of};
 
 use book_model::{Name, Text};
 use ecam_spec::limits::{NAME, TERM_TEXT, TEXT};
+use term_text::is_reserved;
 
 /// Whether a text is one of these.
 pub(crate) fn is_one_of(known: &[&str], text: &str) -> bool
@@ -24,21 +25,7 @@ pub(crate) fn is_one_of(known: &[&str], text: &str) -> bool
     false
 }
 
-// Whether a word is one of those of conditions, which are no names.
-#[tactic(auto, unfolding(ecam_spec::specs::BookText::reserved, ecam_spec::specs::Token::reserved_words))]
-fn is_reserved(word: &str) -> bool
-    ensures { result ≡ list_any (same_text word.now) reserved }
-{
-    is_one_of(
-        &[
-            "true", "false", "valid", "phase", "alert", "press", "fwc", "not", "rise", "all",
-            "any", "atleast", "conf", "hold", "latch",
-        ],
-        word,
-    )
-}
-
-fn is_letter(byte: u8) -> bool
+fn is_small_letter(byte: u8) -> bool
     ensures { result ≡ is_small_letter byte }
 {
     b'a' <= byte && byte <= b'z'
@@ -47,7 +34,7 @@ fn is_letter(byte: u8) -> bool
 fn is_name_byte(byte: u8) -> bool
     ensures { result ≡ is_name_byte byte }
 {
-    is_letter(byte) || (b'0' <= byte && byte <= b'9' || byte == b'_')
+    is_small_letter(byte) || (b'0' <= byte && byte <= b'9' || byte == b'_')
 }
 
 fn has_name_bytes(text: &[u8]) -> bool
@@ -76,7 +63,7 @@ fn begins_with_letter(text: &[u8]) -> bool
     ensures { result ≡ is_small_letter (slice_index text.now 0) }
 {
     match text {
-        [first, ..] => is_letter(*first),
+        [first, ..] => is_small_letter(*first),
         [] => false,
     }
 }
@@ -101,7 +88,7 @@ pub fn is_name(text: &str) -> bool
         && bytes.len() <= NAME
         && begins_with_letter(bytes)
         && has_name_bytes(bytes)
-        && !is_reserved(text)
+        && !is_reserved(bytes)
 }
 
 /// Whether a text has 1 to `most` bytes of printable ASCII, with no blank at either end.

@@ -1,4 +1,5 @@
 pub mod NamePlaces
+pub mod ReservedWords
 pub mod Runs
 pub mod TokenAt
 pub mod Stack

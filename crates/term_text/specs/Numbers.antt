@@ -1,5 +1,6 @@
 -- The numbers of a condition's text, where they are in their ranges.
 use Rattle.std.specs.Prelude.{ℕ, Bool, true, false, ℤ, pos, neg_ℤ, Option, Some, None, if◌then◌else◌}
+use Rattle.ecam_spec.specs.declared.limits.TheConstants.{NUMBER}
 use Rattle.ecam_spec.specs.Book.{Text}
 use Rattle.ecam_spec.specs.TermNumber.{value, magnitude, is_within}
 
@@ -10,7 +11,7 @@ signed false m = pos m
 
 -- a number that something is compared with
 abbrev pub compared_number : Text → Option ℤ
-compared_number t = if is_within (neg_ℤ (pos 1000000)) (pos 1000000) (value t) then Some (value t) else None
+compared_number t = if is_within (neg_ℤ (pos NUMBER)) (pos NUMBER) (value t) then Some (value t) else None
 
 -- a number from low to high
 abbrev pub amount_within : ℕ → ℕ → Text → Option ℕ

@@ -1,6 +1,7 @@
 -- The conditions that the program has read, and how they stand to the grammar's.
 use Rattle.std.specs.Prelude.{◌≡◌, ⊤, ℕ, ℤ, bit_or, ◌≤◌, ◌-◌, ◌^◌, min, List, [], ◌∷◌, length, reverse, Option, None}
 use Rattle.ecam_spec.specs.declared.kinds.Op.{Op}
+use Rattle.ecam_spec.specs.declared.limits.TheConstants.{TERM_DEPTH, TERM_NODES}
 use Rattle.ecam_spec.specs.Book.{Text, Tree, discrete, compared, in_phase}
 use Rattle.ecam_spec.specs.Grammar.{Form, Forms, how_many}
 use Rattle.ecam_spec.specs.TermSize.{nodes, nodes_of, depth, depth_of}
@@ -21,7 +22,7 @@ most = 2 ^ 64 - 1
 pub record Measures (wrong : Option Flaw) (deep large : ℕ) (c : Cond) (tree : Tree) : Type 0 where
   pub depth_is : deep ≡ min (depth tree) most
   pub size_is : large ≡ min (nodes tree) most
-  pub tree_is : wrong ≡ None → depth tree ≤ 16 → nodes tree ≤ 64 → tree_of c ≡ tree
+  pub tree_is : wrong ≡ None → depth tree ≤ TERM_DEPTH → nodes tree ≤ TERM_NODES → tree_of c ≡ tree
 
 -- what is kept of a condition: what is wrong first with its names and numbers, and its tree
 pub record Judges (p : Part) (wrong : Option Flaw) (tree : Tree) : Type 0 where
@@ -55,7 +56,7 @@ module _ (names : TermNames) (text : Text) where
     pub depth_is : m.depth ≡ min (depth_of (trees_of_forms names text fs)) most
     pub size_is : m.size ≡ min (nodes_of (trees_of_forms names text fs)) most
     pub count_is : length m.conds.items ≡ how_many fs
-    pub trees_is : earliest (flaws_of_all names text fs) ≡ None → depth_of (trees_of_forms names text fs) ≤ 16 → nodes_of (trees_of_forms names text fs) ≤ 64
+    pub trees_is : earliest (flaws_of_all names text fs) ≡ None → depth_of (trees_of_forms names text fs) ≤ TERM_DEPTH → nodes_of (trees_of_forms names text fs) ≤ TERM_NODES
         → trees_of (reverse m.conds.items) ≡ trees_of_forms names text fs
 
 -- the conditions that were read, the last first

@@ -2,6 +2,7 @@
 -- numbers are in their ranges, and which are neither too deep nor too large.
 use Rattle.std.specs.Prelude.{◌≡◌, ℕ, ◌<◌, ◌≤◌, true, List, length, Some, None, slice_index, ℤ, pos, neg_ℤ}
 use Rattle.std.specs.List.{list_all}
+use Rattle.ecam_spec.specs.declared.limits.TheConstants.{NAME, NUMBER, WAIT, PHASE_SETS, TERM_DEPTH, TERM_NODES}
 use Rattle.ecam_spec.specs.Book.{Text, Tree, Trees, constant, discrete, valid, compared, in_phase, alert, press, computer, negation, all, any, at_least, confirmed, held, risen, latched, none, more}
 use Rattle.ecam_spec.specs.Keys.{IsKey}
 use Rattle.ecam_spec.specs.KeepsLimits.{count_of}
@@ -29,12 +30,12 @@ pub record IsNameWord (t : Text) : Type 0 where
 pub record IsKnownName (list : List Text) (p : ℕ) : Type 0 where
   pub within : p < length list
   pub word : IsNameWord (name_at list p)
-  pub short : length (name_at list p) ≤ 24
+  pub short : length (name_at list p) ≤ NAME
   pub first : name_place list (name_at list p) ≡ Some p
 
 -- a number that a condition may compare a parameter with
 abbrev pub IsComparable : ℤ → Type 0
-IsComparable x = is_within (neg_ℤ (pos 1000000)) (pos 1000000) x ≡ true
+IsComparable x = is_within (neg_ℤ (pos NUMBER)) (pos NUMBER) x ≡ true
 
 -- some conditions, and not none
 abbrev pub IsFull : Trees → Type 0
@@ -49,7 +50,7 @@ module _ (names : TermNames) where
     IsReadable (discrete p) = IsKnownName names.parameters p
     IsReadable (valid p) = IsKnownName names.parameters p
     IsReadable (compared p op x) = IsKnownName names.parameters p × IsComparable x
-    IsReadable (in_phase set) = (1 ≤ set) × (set < 1024)
+    IsReadable (in_phase set) = (1 ≤ set) × (set < PHASE_SETS)
     IsReadable (alert a) = IsKnownName names.alerts a
     IsReadable (press key) = IsKey key
     IsReadable (computer n) = (1 ≤ n) × (n ≤ 2)
@@ -57,8 +58,8 @@ module _ (names : TermNames) where
     IsReadable (all cs) = IsFull cs × AreReadable cs
     IsReadable (any cs) = IsFull cs × AreReadable cs
     IsReadable (at_least n cs) = (1 ≤ n) × (n ≤ count_of cs) × AreReadable cs
-    IsReadable (confirmed c n) = (n ≤ 36000) × IsReadable c
-    IsReadable (held c n) = (n ≤ 36000) × IsReadable c
+    IsReadable (confirmed c n) = (n ≤ WAIT) × IsReadable c
+    IsReadable (held c n) = (n ≤ WAIT) × IsReadable c
     IsReadable (risen c) = IsReadable c
     IsReadable (latched s r) = IsReadable s × IsReadable r
 
@@ -69,5 +70,5 @@ module _ (names : TermNames) where
   -- it is also neither too deep nor too large
   pub record IsWritable (c : Tree) : Type 0 where
     pub readable : IsReadable c
-    pub flat : depth c ≤ 16
-    pub small : nodes c ≤ 64
+    pub flat : depth c ≤ TERM_DEPTH
+    pub small : nodes c ≤ TERM_NODES

@@ -24,9 +24,5 @@ pub use error::TermError;
 pub use laws::readable_conditions;
 pub use names::{Dictionary, Names};
 pub use read::{read_term, read_term_by};
+pub use words::is_reserved;
 pub use write::write_term;
-
-#[cfg(test)]
-mod tests;
-#[cfg(test)]
-mod write_tests;

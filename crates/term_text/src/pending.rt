@@ -5,7 +5,7 @@ ghost use Rattle.ecam_spec.proofs.TermReading.{rule, at_once, name_step, number_
 ghost use Rattle.term_text.specs.Pending.{pending, is_tail, is_sign, count_of, CountsWithin, move_from, Moves};
 
 use crate::error::TermError;
-use ecam_spec::{Expected, Connective, NameRole, NumberRole, Reserved, Span, Step, Token};
+use ecam_spec::{Connective, Expected, NameRole, NumberRole, Reserved, Span, Step, Token};
 use std::alloc::{AllocError, Global};
 
 /// What is still expected of a condition's text. The next stands last.

@@ -1,5 +1,8 @@
 // The words of conditions.
 ghost use Rattle.std.specs.Prelude.{◌≡◌};
+ghost use Rattle.std.specs.List.{list_any};
+ghost use Rattle.ecam_spec.specs.Bytes.{same_text};
+ghost use Rattle.ecam_spec.specs.BookText.{reserved};
 ghost use Rattle.ecam_spec.specs.Token.{reserved_of};
 ghost use Rattle.ecam_spec.specs.RecordLine.{key_of};
 ghost use Rattle.term_text.specs.Words.{found_in};
@@ -32,6 +35,14 @@ pub(crate) fn reserved_of(word: &[u8]) -> Option<Reserved>
         ],
         word,
     )
+}
+
+/// Whether a word is reserved for conditions, and so no name.
+#[tactic(auto, using(crate::proofs::ReservedWords::is_reserved_word))]
+pub fn is_reserved(word: &[u8]) -> bool
+    ensures { result ≡ list_any (same_text word.now) reserved }
+{
+    reserved_of(word).is_some()
 }
 
 /// The key that a word is.

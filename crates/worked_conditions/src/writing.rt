@@ -1,8 +1,8 @@
 // Conditions of every form, read and then written.
-use super::*;
 use arrayvec::ArrayString;
 use std::alloc::Global;
-use std::test::*;
+use std::test::Fail;
+use term_text::{Names, read_term, write_term};
 
 // What is read, and what is then written. The parameters are g_lo, pump_off, alt, g_lo and true, of which the
 // last two are never meant; the alerts are hyd_g and g_lo.
@@ -68,7 +68,7 @@ fn names_of(alloc: Global, names: &[&str]) -> Result<Vec<ArrayString<24>>, Fail>
 }
 
 // The condition of a text, written again.
-#[tactic(auto, using(crate::proofs::WritableTrees::can_be_read))]
+#[tactic(auto, using(term_text::proofs::WritableTrees::can_be_read))]
 fn rewritten(alloc: Global, text: &str, names: &Names<'_>) -> Result<String, Fail> {
     if text.len() > 4096 || names.params.len() > 1024 || names.alerts.len() > 1024 {
         return Err("too long".into());

@@ -1,11 +1,11 @@
 // Texts of conditions and their verdicts, by hand from the grammar.
 
-use crate::{Names, TermError, read_term};
 use arrayvec::ArrayString;
 use bitflags::Flags;
 use ecam_kinds::{Key, PhaseSet};
 use std::alloc::Global;
 use std::test::Fail;
+use term_text::{Names, TermError, read_term};
 use term_tree::{Cond, Op};
 
 // What a text is answered with.
