@@ -1,5 +1,5 @@
 -- A table stands for all words that agree up to now.
-use Rattle.std.proofs.Common.{◌≡◌, ℕ, ◌≤◌, ◌<◌, ◌+◌, ◌-◌, List, get_or, Option, None, ap, ◌∙◌, arith}
+use Rattle.std.proofs.Common.{◌≡◌, ℕ, ◌≤◌, ◌+◌, ◌-◌, List, get_or, Option, None, ap, ◌∙◌, arith}
 use Rattle.std.specs.Prelude.{option_map}
 use Rattle.std.specs.List.{list_any}
 use Rattle.ecam_spec.specs.declared.kinds.Kind.{Kind}
@@ -11,6 +11,8 @@ use Rattle.param_table.specs.Places.{parameter_with}
 use Rattle.param_table.specs.TableState.{SourceStands, ParamsStand}
 use Rattle.param_table.specs.declared.received.Received.{Received}
 use Rattle.param_table.specs.declared.table.Params.{Params}
+use Rattle.ecam_spec.specs.Situation.{parameter_at}
+use Rattle.param_table.proofs.Told.{differ_below}
 use Rattle.param_table.proofs.Said.{source_before-below}
 
 module _ (words later : ℕ → List BusWord) (k : ℕ) (same : (i : ℕ) → i ≤ k → words i ≡ later i) where
@@ -26,6 +28,7 @@ module _ (words later : ℕ → List BusWord) (k : ℕ) (same : (i : ℕ) → i 
     fits = stands.fits;
     sources = λ q s is. SourceStands-below (parameter_with b.parameters q).kind (parameter_with b.parameters q).stale s p.clock (get_or p.held.received.items q None) (stands.sources q s is);
     due = stands.due;
+    told = λ j on. differ_below (parameter_at b j) words later k same (stands.told j on);
     unchanged = λ q s is off. stands.unchanged q s is off
         ∙ source_before-below words later k (λ i h. same i (omega arith)) (parameter_with b.parameters q).kind (parameter_with b.parameters q).stale s;
   }

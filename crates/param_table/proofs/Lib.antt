@@ -3,6 +3,7 @@ pub mod Chains
 pub mod Sources
 pub mod Entering
 pub mod Said
+pub mod Told
 pub mod Values
 pub mod Steps
 pub mod Visiting

@@ -1,5 +1,5 @@
 -- What a table says of one source, step by step, against the definition of a source's value.
-use Rattle.std.proofs.Common.{◌≡◌, ℕ, zero, suc, ◌+◌, ◌-◌, ◌^◌, ◌≤◌, ◌<◌, Bool, true, false, leb, ltb, List, [], Option, Some, None, ℤ, cond, refl, sym, ap, ◌∙◌, arith, inl, inr}
+use Rattle.std.proofs.Common.{◌≡◌, ℕ, zero, suc, ◌+◌, ◌-◌, ◌^◌, ◌<◌, Bool, true, false, leb, ltb, List, [], Option, Some, None, ℤ, cond, refl, sym, ap, ◌∙◌, arith, inl, inr}
 use Rattle.std.specs.Prelude.{option_map}
 use Rattle.std.specs.Option.{option_map_or, option_or, option_and_then}
 use Rattle.std.proofs.lemmas.Bool.{cases_Bool}
@@ -9,7 +9,6 @@ use Rattle.ecam_spec.specs.Past.{last, once_within}
 use Rattle.ecam_spec.specs.Book.{Source}
 use Rattle.ecam_spec.specs.Value.{BusWord, takes, arrives, word_of, is_fresh, reading, source_value}
 use Rattle.ecam_spec.specs.History.{OneMore}
-use Rattle.ecam_spec.proofs.PastSteps.{last-le}
 use Rattle.ecam_spec.proofs.PastWithin.{once_from-last}
 use Rattle.ecam_spec.proofs.ValueAgree.{source_value-below}
 use Rattle.param_table.specs.declared.received.Received.{Received}
@@ -91,7 +90,7 @@ fresh_left stale k clock r (Some m) e =
     let same : r.end - clock ≡ m + stale + 1 - k = cc in
     grind (arith, nat_tests)
 
-fresh_by_clock : (kind : Kind) (stale : ℕ) (s : Source) (words : ℕ → List BusWord) (k clock : ℕ) (r : Received)
+pub fresh_by_clock : (kind : Kind) (stale : ℕ) (s : Source) (words : ℕ → List BusWord) (k clock : ℕ) (r : Received)
     → SourceStands kind stale s words k clock (Some r) → ltb clock r.end ≡ is_fresh stale s words k
 unfolding is_fresh once_within
 fresh_by_clock kind stale s words k clock r stands =

@@ -1,13 +1,11 @@
 -- What the places hold, step by step, and when each is looked at.
-use Rattle.std.proofs.Common.{◌≡◌, ℕ, zero, suc, ◌+◌, ◌-◌, ◌*◌, ◌/◌, ◌^◌, ◌<◌, ◌≤◌, ◌==◌, ◌&&◌, ◌||◌, Bool, true, false, leb, ltb, List, [], ◌∷◌, length, get_or, set, slice_index, Option, Some, None, cond, refl, sym, ap, ◌∙◌, subst, arith, inl, inr}
-use Rattle.std.specs.Prelude.{IfSome}
-use Rattle.std.proofs.lemmas.Bool.{cases_Bool, false≢true}
+use Rattle.std.proofs.Common.{◌≡◌, ℕ, zero, suc, ◌-◌, ◌^◌, ◌<◌, ◌≤◌, Bool, true, false, leb, ltb, List, [], ◌∷◌, length, set, slice_index, Option, Some, None, cond, refl, ap, ◌∙◌, arith}
+use Rattle.std.proofs.lemmas.Bool.{false≢true}
 use Rattle.std.proofs.lemmas.Bool.Decides.{nat_tests}
-use Rattle.wakes.specs.Marks.{is_marked}
 use Rattle.param_table.specs.declared.received.Received.{Received}
 use Rattle.param_table.specs.declared.held.Held.{Held}
 use Rattle.param_table.specs.HeldValues.{given, is_ending, next_look}
-use Rattle.param_table.specs.HeldState.{IsDue, AreDue, Renews, WillLook}
+use Rattle.param_table.specs.HeldState.{IsDue, Renews}
 
 -- how many keys have come by now
 pub come_by : ℕ → List ℕ → ℕ

@@ -1,15 +1,14 @@
 -- A table of a book as a whole, step by step.
-use Rattle.std.proofs.Common.{◌≡◌, ℕ, zero, suc, ◌+◌, ◌-◌, ◌*◌, ◌/◌, ◌^◌, ◌<◌, ◌≤◌, Bool, true, ◌==◌, ◌≢◌, List, [], ◌∷◌, false, length, map, get_or, slice_index, set, replicate, Option, Some, None, All, cond, refl, sym, ap, ◌∙◌, subst, arith, inl, inr}
+use Rattle.std.proofs.Common.{◌≡◌, ℕ, zero, suc, ◌+◌, ◌-◌, ◌/◌, ◌^◌, ◌<◌, ◌≤◌, true, List, [], ◌∷◌, false, length, map, get_or, slice_index, set, replicate, Option, Some, None, All, cond, refl, sym, ap, ◌∙◌, subst, arith, inl, inr}
 use Rattle.std.specs.Prelude.{IfSome, MatchOption, is_some}
 use Rattle.std.specs.Option.{option_map_or}
 use Rattle.std.proofs.lemmas.Bool.{cases_Bool, and_parts, false≢true, cases_order}
 use Rattle.std.proofs.lemmas.List.{get_or-set_same, get_or-set_other, length-map}
-use Rattle.ecam_spec.specs.declared.kinds.Kind.{Kind}
 use Rattle.ecam_spec.specs.Book.{Source, Parameter, Book}
 use Rattle.ecam_spec.specs.Draft.{book_of}
 use Rattle.ecam_spec.specs.KeepsLimits.{IsSoundParameter}
 use Rattle.ecam_spec.specs.Word.{is_odd}
-use Rattle.ecam_spec.specs.Value.{BusWord, takes, has_sdi, reading, source_value}
+use Rattle.ecam_spec.specs.Value.{BusWord, takes, has_sdi, reading}
 use Rattle.ecam_spec.specs.History.{OneMore}
 use Rattle.book_model.specs.declared.draft.Draft.{Draft}
 use Rattle.book_model.specs.Sealed.{the_book, IsSealed}
@@ -24,10 +23,11 @@ use Rattle.param_table.specs.Places.{parameter_with, source_at, takes_at}
 use Rattle.param_table.specs.Rules.{IsRule, AreRules}
 use Rattle.param_table.specs.HeldValues.{given, entry, is_ending, set_back}
 use Rattle.param_table.specs.HeldState.{AreDue, Renews, WillLook}
-use Rattle.param_table.specs.TableState.{SourceStands, IsHeld, HeldFits, ParamsFit, ParamsStand, source_before, IsValueOf}
+use Rattle.param_table.specs.TableState.{SourceStands, IsHeld, ParamsFit, ParamsStand, IsValueOf}
 use Rattle.param_table.proofs.Sources.{not_even}
 use Rattle.param_table.proofs.Entering.{none_replicate}
 use Rattle.param_table.proofs.Said.{start_stands, moment_stands, set_back_stands, word_stands, given_is, source_before-below}
+use Rattle.param_table.proofs.Told.{word_told, moment_told}
 use Rattle.param_table.proofs.Steps.{will_look_at, still_given}
 
 -- the parameters of a book are sound
@@ -40,14 +40,16 @@ pub held_none : (params : List Parameter) (received : List (Option Received)) (n
 held_none params received n q blank = subst (λ o. IfSome o (IsHeld params q)) (sym (ap (λ l. get_or l q None) blank ∙ none_replicate n q)) tt
 
 -- before any word
-pub start : (b : Book) (words : ℕ → List BusWord) (p : Params) (n : ℕ) → ParamsFit b p → words 0 ≡ [] → p.held.received.items ≡ replicate n None → ParamsStand b words 0 p
-start b words p n fits none blank = record {
+pub start : (b : Book) (words : ℕ → List BusWord) (p : Params) (n : ℕ) → ParamsFit b p → words 0 ≡ [] → p.held.received.items ≡ replicate n None
+    → ((j : ℕ) → is_marked p.held.changed j ≡ false) → ParamsStand b words 0 p
+start b words p n fits none blank unmarked = record {
   fits = fits;
   sources = λ q s there.
       subst (SourceStands (parameter_with b.parameters q).kind (parameter_with b.parameters q).stale s words 0 p.clock) (sym (empty q))
       (start_stands (parameter_with b.parameters q).kind (parameter_with b.parameters q).stale s words p.clock none);
   due = λ q. rw (empty q) tt;
   unchanged = λ q s there off. ap (given p.clock) (empty q);
+  told = λ j on. absurd (false≢true (sym (unmarked j) ∙ on));
 } where
   empty : (q : ℕ) → get_or p.held.received.items q None ≡ None
   empty q = ap (λ l. get_or l q None) blank ∙ none_replicate n q
@@ -83,6 +85,7 @@ clock_back b words k old new fits full half same marks soon stands = record {
       given_is (parameter_with b.parameters q).kind (parameter_with b.parameters q).stale s words k new.clock (get_or new.held.received.items q None) (source q s there)
       ∙ sym (given_is (parameter_with b.parameters q).kind (parameter_with b.parameters q).stale s words k old.clock (get_or old.held.received.items q None) (stands.sources q s there))
       ∙ stands.unchanged q s there (ap (λ m. is_marked m (q / 3)) (sym marks) ∙ off);
+  told = λ j on. stands.told j (ap (λ m. is_marked m j) (sym marks) ∙ on);
 } where
   source : (q : ℕ) (s : Source) → source_at b.parameters q ≡ Some s
       → SourceStands (parameter_with b.parameters q).kind (parameter_with b.parameters q).stale s words k new.clock (get_or new.held.received.items q None)
@@ -103,8 +106,9 @@ will_look clock old new same dues due = record {
 pub moment : (b : Book) (words : ℕ → List BusWord) (k : ℕ) (old new : Params) → ParamsFit b new → words (suc k) ≡ []
     → new.clock ≡ suc old.clock → new.held.received.items ≡ old.held.received.items → AreDue new.clock new.held
     → ((q : ℕ) → is_marked new.held.changed (q / 3) ≡ false → is_ending new.clock (get_or old.held.received.items q None) ≡ false)
+    → ((p : ℕ) → ((q : ℕ) → q / 3 ≡ p → is_ending new.clock (get_or old.held.received.items q None) ≡ false) → is_marked new.held.changed p ≡ false)
     → ParamsStand b words k old → ParamsStand b words (suc k) new
-moment b words k old new fits none counts same due marks stands = record {
+moment b words k old new fits none counts same due marks others stands = record {
   fits = fits;
   sources = λ q s there.
       rw (counts, same) (moment_stands (parameter_with b.parameters q).kind (parameter_with b.parameters q).stale s words k old.clock (get_or old.held.received.items q None) none (stands.sources q s there));
@@ -114,6 +118,9 @@ moment b words k old new fits none counts same due marks stands = record {
       let still : is_ending (suc old.clock) received ≡ false = ap (λ t. is_ending t received) (sym counts) ∙ marks q off in
       rw (counts, same) (still_given old.clock received still
       ∙ given_is (parameter_with b.parameters q).kind (parameter_with b.parameters q).stale s words k old.clock received (stands.sources q s there));
+  told = λ p on.
+      moment_told b words k old.clock p old.held.received.items (is_marked new.held.changed p) none
+      (λ calm. others p (λ q row. ap (λ t. is_ending t (get_or old.held.received.items q None)) counts ∙ calm q row)) stands.fits.held.each stands.sources on;
 }
 
 -- what a place takes by a word, where its source does
@@ -137,8 +144,10 @@ pub word : (b : Book) (before after : ℕ → List BusWord) (k : ℕ) (w : BusWo
     → new.clock ≡ old.clock
     → ((q : ℕ) → get_or new.held.received.items q None ≡ cond (takes_at b.parameters w q) (entry old.clock w.bits (get_or old.rules.items q None)) (get_or old.held.received.items q None))
     → Renews old.clock old.held new.held
+    → ((p : ℕ) → ((q : ℕ) → q / 3 ≡ p → takes_at b.parameters w q ≡ false) → is_marked new.held.changed p ≡ is_marked old.held.changed p)
     → ParamsStand b before k old → ParamsStand b after k new
-word b before after k w old new fits on clock places renews stands = record {
+word b before after k w old new fits on clock places renews others stands = record {
+  told = λ p on_now. word_told b before after k w p (is_marked old.held.changed p) (is_marked new.held.changed p) on (others p) (stands.told p) on_now;
   fits = fits;
   sources = λ q s there.
       let kind = (parameter_with b.parameters q).kind in
@@ -163,7 +172,7 @@ pub even_word : (b : Book) (before after : ℕ → List BusWord) (k : ℕ) (w : 
     → ParamsStand b before k p → ParamsStand b after k p
 even_word b before after k w p on even stands =
     word b before after k w p p stands.fits on refl (λ q. sym (ap (λ t. cond t (entry p.clock w.bits (get_or p.rules.items q None)) (get_or p.held.received.items q None)) (none_takes (source_at b.parameters q))))
-    (record { marks = λ q off. (off, refl); due = λ due. due }) stands where
+    (record { marks = λ q off. (off, refl); due = λ due. due }) (λ p none. refl) stands where
       none_takes : (o : Option Source) → option_map_or (λ s. takes s w) o false ≡ false
       none_takes None = refl
       none_takes (Some s) = not_even s w even

@@ -1,6 +1,6 @@
 -- A word comes: the sources that listen to its bus and label are visited, from the last place down.
 use Rattle.std.proofs.Common.{◌≡◌, ℕ, suc, ◌+◌, ◌*◌, ◌<◌, ◌≤◌, Bool, true, false, ltb, ◌==◌, ◌&&◌, List, length, get_or, set, Option, Some, None, cond, refl, sym, ap, ◌∙◌, subst, arith, inl, inr}
-use Rattle.std.specs.Prelude.{IfSome}
+use Rattle.std.specs.Prelude.{IfSome, is_some}
 use Rattle.std.specs.Option.{option_map_or}
 use Rattle.std.proofs.lemmas.Bool.{cases_Bool, cases_lt, cases_order, and_parts, eqb-true, and_left, and_right}
 use Rattle.std.proofs.lemmas.Bool.Decides.{nat_tests}
@@ -178,3 +178,12 @@ module _ (params : List Parameter) (w : BusWord) (clock : ℕ) (rules : List (Op
           | inr not_so ↦ left (Some r) is (says ∙ not_so)
               (ap (λ b. cond b (Some (record { value = reading r.kind (source_of r.source) w.bits; end = clock + r.stale + 1 })) None) not_so)
         ]
+
+  -- a source that doesn't take it leaves nothing at its place
+  pub not_entered : takes_at params w h ≡ false → is_some (entry clock w.bits (get_or rules h None)) ≡ false
+  not_entered off = by (get_or rules h None) (kept.each h) where
+    by : (o : Option Rule) → IsRule params h o → is_some (entry clock w.bits o) ≡ false
+    by None none = refl
+    by (Some r) rule =
+        let says : takes_at params w h ≡ has_sdi r.source.sdi w.bits = at.taken odd ∙ ap (λ o. option_map_or (λ (s : Source). has_sdi s.sdi w.bits) o false) rule.source in
+        ap (λ b. is_some {T = Received} (cond b (Some (record { value = reading r.kind (source_of r.source) w.bits; end = clock + r.stale + 1 })) None)) (sym says ∙ off)

@@ -1,12 +1,14 @@
 -- What a table of parameters says of the words so far.
-use Rattle.std.specs.Prelude.{◌≡◌, ℕ, zero, suc, ◌+◌, ◌-◌, ◌*◌, ◌/◌, ◌≤◌, false, ℤ, pos, neg_ℤ, ◌≤ℤ◌, List, length, get_or, Option, Some, None, All, IfSome, option_map, is_some, true}
+use Rattle.std.specs.Prelude.{◌≡◌, ℕ, zero, suc, ◌+◌, ◌-◌, ◌*◌, ◌/◌, false, ℤ, pos, neg_ℤ, ◌≤ℤ◌, ◌⊎◌, List, length, get_or, Option, Some, None, All, IfSome, option_map, is_some, true}
 use Rattle.ecam_spec.specs.declared.limits.TheConstants.{NUMBER}
 use Rattle.ecam_spec.specs.declared.kinds.Kind.{Kind}
 use Rattle.ecam_spec.specs.declared.kinds.Kind.TheVariants.{Disc, Bnr, Bcd}
-use Rattle.ecam_spec.specs.Past.{last}
+use Rattle.std.specs.List.{slice_get}
+use Rattle.ecam_spec.specs.Past.{last, previous}
+use Rattle.ecam_spec.specs.Situation.{parameter_at}
 use Rattle.ecam_spec.specs.Book.{Source, Parameter, Book}
 use Rattle.ecam_spec.specs.KeepsLimits.{IsSoundParameter}
-use Rattle.ecam_spec.specs.Value.{BusWord, arrives, word_of, reading, source_value, value}
+use Rattle.ecam_spec.specs.Value.{BusWord, arrives, word_of, is_fresh, reading, source_value, value}
 use Rattle.wakes.specs.Marks.{is_marked, room}
 use Rattle.param_table.specs.Places.{parameter_with, source_at}
 use Rattle.param_table.specs.Listening.{IsIndex}
@@ -32,6 +34,13 @@ value_before p words (suc j) = value p words j
 abbrev pub source_before : Kind → ℕ → Source → (ℕ → List BusWord) → ℕ → Option ℤ
 source_before kind stale s words zero = None
 source_before kind stale s words (suc j) = source_value kind stale s words j
+
+-- A source of the parameter may give something else than in the moment before: it took a word, or its freshness ended.
+pub record MayDiffer (p : Parameter) (words : ℕ → List BusWord) (k : ℕ) : Type 0 where
+  pub place : ℕ
+  pub source : Source
+  pub there : slice_get p.sources place ≡ Some source
+  pub why : (arrives source words k ≡ true) ⊎ ((previous (is_fresh p.stale source words) k ≡ true) × (is_fresh p.stale source words k ≡ false))
 
 -- What the word says that a source took last is there, and for how many moments more it is fresh.
 pub record SourceStands (kind : Kind) (stale : ℕ) (s : Source) (words : ℕ → List BusWord) (k clock : ℕ) (received : Option Received) : Type 0 where
@@ -65,3 +74,4 @@ pub record ParamsStand (b : Book) (words : ℕ → List BusWord) (k : ℕ) (p : 
   pub due : AreDue p.clock p.held
   pub unchanged : (q : ℕ) (s : Source) → source_at b.parameters q ≡ Some s → is_marked p.held.changed (q / 3) ≡ false
       → given p.clock (get_or p.held.received.items q None) ≡ source_before (parameter_with b.parameters q).kind (parameter_with b.parameters q).stale s words k
+  pub told : (j : ℕ) → is_marked p.held.changed j ≡ true → MayDiffer (parameter_at b j) words k

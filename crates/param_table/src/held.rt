@@ -1,5 +1,5 @@
 // What the sources of a book hold, by place, and which parameters may have another value by it.
-ghost use Rattle.std.specs.Prelude.{◌≡◌, ℕ, ◌/◌, ◌<◌, ◌≤◌, ◌==◌, ◌&&◌, ◌||◌, false, length, slice_index, slice_index_or, slice_set, None, Some};
+ghost use Rattle.std.specs.Prelude.{◌≡◌, ◌≢◌, ℕ, ◌/◌, ◌<◌, ◌≤◌, ◌==◌, ◌&&◌, ◌||◌, false, length, slice_index, slice_index_or, slice_set, None, Some};
 ghost use Rattle.wakes.specs.Marks.{is_marked, room};
 ghost use Rattle.param_table.specs.HeldValues.{is_ending, next_look};
 ghost use Rattle.param_table.specs.HeldState.{AreDue, Renews, WillLook};
@@ -30,6 +30,8 @@ impl Held {
         ensures room { room self.new.changed ≡ room self.old.changed }
         ensures dues { length self.new.dues ≡ length self.old.dues }
         ensures renews { Renews clock self.old self.new }
+        ensures others { (p : ℕ) → p ≢ place / 3
+            → is_marked self.new.changed p ≡ is_marked self.old.changed p }
     {
         let before = self.received[place];
         self.received[place] = Some(received);
@@ -39,6 +41,16 @@ impl Held {
         if !ends_by(before, clock, received.end) {
             self.dues.set(place, received.end);
         }
+    }
+
+    /// A moment begins, in which nothing is other than before yet. Its cost is a write for each 64 parameters.
+    pub fn forget_changes(&mut self)
+        ensures received { self.new.received ≡ self.old.received }
+        ensures room { room self.new.changed ≡ room self.old.changed }
+        ensures dues { self.new.dues ≡ self.old.dues }
+        ensures none { (p : ℕ) → is_marked self.new.changed p ≡ false }
+    {
+        self.changed.clear();
     }
 
     /// Looks at the places whose words may be fresh no more, and marks the parameters where one ends to be.
@@ -52,6 +64,10 @@ impl Held {
         ensures marks { WillLook clock self.old → (q : ℕ)
             → is_marked self.new.changed (q / 3) ≡ false
             → is_ending clock (slice_index_or self.old.received.items q None) ≡ false }
+        ensures others { (p : ℕ) → is_marked self.old.changed p ≡ false
+            → ((q : ℕ) → q / 3 ≡ p
+            → is_ending clock (slice_index_or self.old.received.items q None) ≡ false)
+            → is_marked self.new.changed p ≡ false }
     {
         while let Some(place) = self.dues.first(u64::from(clock)) {
             self.look(clock, place);

@@ -5,7 +5,7 @@ ghost use Rattle.ecam_spec.specs.Book as plain;
 ghost use Rattle.ecam_spec.specs.Situation.{parameter_at};
 ghost use Rattle.ecam_spec.specs.History.{OneMore};
 ghost use Rattle.book_model.specs.Sealed.{the_book};
-ghost use Rattle.param_table.specs.TableState.{ParamsFit, ParamsStand, IsValueOf, value_before};
+ghost use Rattle.param_table.specs.TableState.{ParamsFit, ParamsStand, IsValueOf, MayDiffer, value_before};
 ghost use Rattle.param_table.specs.HeldValues.{first_given, set_back};
 
 use crate::held::{Held, look_soon};
@@ -122,7 +122,7 @@ impl Params {
             self.set_clock_back();
         }
         self.clock += 1;
-        self.held.changed.clear();
+        self.held.forget_changes();
         self.held.look_at_due(self.clock);
     }
 
@@ -151,6 +151,9 @@ impl Params {
             → (p : ℕ) → from ≤ p → p < unwrap_or result (length (the_book book.now).parameters)
             → value (parameter_at (the_book book.now) p) words k
             ≡ value_before (parameter_at (the_book book.now) p) words k }
+        ensures told { (words : ℕ → List BusWord) (k : ℕ)
+            → ParamsStand (the_book book.now) words k self.now
+            → IfSome result (λ p. MayDiffer (parameter_at (the_book book.now) p) words k) }
     {
         let param = self.held.changed.first_from(from)?;
         if param < book.params().len() {

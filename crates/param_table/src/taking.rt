@@ -1,8 +1,9 @@
 // A word comes to the sources that listen to it.
-ghost use Rattle.std.specs.Prelude.{◌≡◌, ℕ, ◌<◌, length, slice_index_or, None, IsTrue, All, if◌then◌else◌};
+ghost use Rattle.std.specs.Prelude.{◌≡◌, ℕ, ◌/◌, ◌<◌, false, is_some, length, slice_index_or, None, IsTrue, All, if◌then◌else◌};
 ghost use Rattle.ecam_spec.specs.Word.{is_odd};
 ghost use Rattle.ecam_spec.specs.KeepsLimits.{IsSoundParameter};
 ghost use Rattle.book_model.specs.Sealed.{the_book};
+ghost use Rattle.wakes.specs.Marks.{is_marked};
 ghost use Rattle.param_table.specs.Places.{takes_at};
 ghost use Rattle.param_table.specs.Listening.{IsIndex};
 ghost use Rattle.param_table.specs.Rules.{AreRules};
@@ -37,6 +38,9 @@ pub fn receive(
         then entry clock word.now (slice_index_or rules.now q None)
         else slice_index_or held.old.received.items q None) }
     ensures renews { Renews clock held.old held.new }
+    ensures others { (p : ℕ) → ((q : ℕ) → q / 3 ≡ p → takes_at (the_book _book.now).parameters
+        (record { bus = bus; bits = word.now }) q ≡ false)
+        → is_marked held.new.changed p ≡ is_marked held.old.changed p }
 {
     let mut next = index.last(bus, word.label());
     while let Some(place) = next {
@@ -63,6 +67,9 @@ fn visit(
     ensures received { held.new.received.items ≡ entered (entry clock word.now
         (slice_index_or rules.now place None)) place held.old.received.items }
     ensures renews { Renews clock held.old held.new }
+    ensures others { (p : ℕ) → (p ≡ place / 3 → is_some (entry clock word.now
+        (slice_index_or rules.now place None)) ≡ false)
+        → is_marked held.new.changed p ≡ is_marked held.old.changed p }
 {
     if let Some(received) = entry(rules[place], word, clock) {
         held.renew(clock, place, received);

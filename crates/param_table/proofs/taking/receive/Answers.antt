@@ -1,12 +1,12 @@
-use Rattle.std.proofs.Common.{◌≡◌, ◌*◌, ◌+◌, ◌<◌, true, length, get_or, Some, None, sym, ap, ◌∙◌, subst, arith}
-use Rattle.std.specs.Prelude.{IfSome}
+use Rattle.std.proofs.Common.{◌≡◌, ◌*◌, ◌/◌, refl, ◌+◌, ◌<◌, true, length, get_or, Some, None, sym, ap, ◌∙◌, subst, arith}
+use Rattle.std.specs.Prelude.{IfSome, is_some}
 use Rattle.ecam_spec.specs.Word.{label}
 use Rattle.ecam_spec.specs.Value.{BusWord}
 use Rattle.book_model.specs.Sealed.{the_book}
 use Rattle.param_table.specs.Places.{listens}
 use Rattle.param_table.specs.HeldValues.{entry, entered}
 use Rattle.param_table.proofs.Steps.{renews_none, renews_both}
-use Rattle.param_table.proofs.Visiting.{IsVisited, IsNext, visited_none, next_listens, visited_next, next_below}
+use Rattle.param_table.proofs.Visiting.{IsVisited, IsNext, visited_none, next_listens, visited_next, not_entered, next_below}
 use Rattle.param_table.proofs.taking.receive.Goals as goal
 use Rattle.param_table.proofs.taking.receive.Goals.{After-before-next}
 
@@ -20,6 +20,7 @@ loop-next-init c =
           (c.last-next.ensures ∙ ap (λ l. get_or c.args.index.now.last.items (256 * c.args.bus + l) None) c.label.ensures ∙ c.requires.index.last c.args.bus (label c.args.word.now) small);
       fits = c.requires.fits;
       renews = renews_none c.args.clock c.args.held.now;
+      others = λ p none. refl;
     }
 
 -- the place that is visited
@@ -57,4 +58,10 @@ loop-next-preserved c =
       visited = rw (next_is c, written) (visited_next params word c.args.clock c.args.rules.now c.args.index.now h c.args.held.now.received.items items c.requires.rules c.requires.odd (found c) (visited c) within);
       fits = c.visit.ensures.fits;
       renews = renews_both c.args.clock c.args.held.now c.loop-next.held c.visit.new.held c.loop-next.invariant.renews c.visit.ensures.renews;
+      others = λ p none.
+          c.visit.ensures.others p
+          (λ row. ap (λ i. is_some (entry c.args.clock c.args.word.now (get_or c.args.rules.now i None))) c.from-place.ensures
+          ∙ not_entered params word c.args.clock c.args.rules.now c.args.index.now h c.args.held.now.received.items items c.requires.rules c.requires.odd (found c) (visited c) within
+          (none h (sym (row ∙ ap (λ i. i / 3) c.from-place.ensures))))
+          ∙ c.loop-next.invariant.others p none;
     }

@@ -1,6 +1,8 @@
-use Rattle.std.proofs.Common.{suc, get_or, None}
+use Rattle.std.proofs.Common.{◌≡◌, ℕ, ◌/◌, false, suc, get_or, None}
 use Rattle.std.specs.Option.{option_map_or}
 use Rattle.book_model.specs.Sealed.{the_book}
+use Rattle.wakes.specs.Marks.{is_marked}
+use Rattle.param_table.specs.Places.{takes_at}
 use Rattle.param_table.specs.HeldValues.{entry}
 use Rattle.param_table.specs.HeldState.{Renews}
 use Rattle.param_table.specs.TableState.{HeldFits}
@@ -12,6 +14,8 @@ invariant-loop-next l = record {
   visited : IsVisited (the_book l._book).parameters (record { bus = l.bus; bits = l.word }) (λ q. entry l.clock l.word (get_or l.rules q None)) l.next l.initial.held.received.items l.held.received.items;
   fits : HeldFits (the_book l._book).parameters l.held;
   renews : Renews l.clock l.initial.held l.held;
+  others : (p : ℕ) → ((q : ℕ) → q / 3 ≡ p → takes_at (the_book l._book).parameters (record { bus = l.bus; bits = l.word }) q ≡ false)
+      → is_marked l.held.changed p ≡ is_marked l.initial.held.changed p;
 }
 
 abbrev pub decreases-loop-next : goal.decreases-loop-next

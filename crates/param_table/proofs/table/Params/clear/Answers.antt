@@ -21,4 +21,4 @@ returns-clause-stands c = λ b words fits none.
         each = λ q. held_none b.parameters new.held.received.items (vec_len was.held.received) q wiped;
       };
     } in
-    start b words new (vec_len was.held.received) kept none wiped
+    start b words new (vec_len was.held.received) kept none wiped c.clear.ensures.none

@@ -64,4 +64,4 @@ pub returns-clause-stands : goal.returns-clause-stands
 returns-clause-stands c = λ words none.
     start (the_book c.args.book.now) words
     (record { clock = 0; held = record { received = c.resize.new.self; changed = c.in_ok-changed.changed; dues = c.in_ok-dues.dues }; rules = c.in_ok-rules.rules; index = c.in_ok-index.index })
-    (3 * length c.params-params.result.now) (fits c) none (blank c)
+    (3 * length c.params-params.result.now) (fits c) none (blank c) c.in_ok-changed.ensures.none

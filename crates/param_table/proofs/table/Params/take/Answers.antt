@@ -14,7 +14,7 @@ returns-then-odd-clause-stands c = λ old new k on stands.
     let before = c.args.self.now in
     let after : Params = record { clock = before.clock; held = c.receive.new.held; rules = before.rules; index = before.index } in
     let fits : ParamsFit b after = record { sound = stands.fits.sound; index = stands.fits.index; rules = stands.fits.rules; held = c.receive.ensures.fits } in
-    word b old new k w before after fits on refl (rw (sym c.new-word.ensures, sym c.deref.ensures.value) c.receive.ensures.received) c.receive.ensures.renews stands
+    word b old new k w before after fits on refl (rw (sym c.new-word.ensures, sym c.deref.ensures.value) c.receive.ensures.received) c.receive.ensures.renews (rw (sym c.new-word.ensures) c.receive.ensures.others) stands
 
 pub returns-else-odd-clause-stands : goal.returns-else-odd-clause-stands
 returns-else-odd-clause-stands c = λ old new k on stands.
