@@ -1,9 +1,11 @@
 pub mod Moments
-pub mod Ages
 pub mod Chains
 pub mod Sources
 pub mod Entering
-pub mod Visiting
+pub mod Said
+pub mod Told
 pub mod Values
+pub mod Steps
+pub mod Visiting
 pub mod Tables
 pub mod Agree

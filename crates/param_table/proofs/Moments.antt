@@ -72,7 +72,7 @@ either false b m p = refl
 
 -- one more word comes
 module _ (s : Source) (old new : ℕ → List BusWord) (w : BusWord) where
-  arrives-push : (k : ℕ) → OneMore old new k w → arrives s new k ≡ (takes s w || arrives s old k)
+  pub arrives-push : (k : ℕ) → OneMore old new k w → arrives s new k ≡ (takes s w || arrives s old k)
   arrives-push k on = ap (list_any (takes s)) on.now ∙ any-push s (old k) w
 
   pub word_of-push : (k : ℕ) → OneMore old new k w → word_of s new k ≡ option_or (if_taken s w) (word_of s old k)

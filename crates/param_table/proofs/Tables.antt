@@ -1,89 +1,212 @@
 -- A table of a book as a whole, step by step.
-use Rattle.std.proofs.Common.{◌≡◌, ℕ, zero, suc, ◌-◌, ◌^◌, List, [], ◌∷◌, false, map, get_or, replicate, Option, Some, None, All, cond, refl, sym, ap, ◌∙◌, subst}
+use Rattle.std.proofs.Common.{◌≡◌, ℕ, zero, suc, ◌+◌, ◌-◌, ◌/◌, ◌^◌, ◌<◌, ◌≤◌, true, List, [], ◌∷◌, false, length, map, get_or, slice_index, set, replicate, Option, Some, None, All, cond, refl, sym, ap, ◌∙◌, subst, arith, inl, inr}
+use Rattle.std.specs.Prelude.{IfSome, MatchOption, is_some}
 use Rattle.std.specs.Option.{option_map_or}
-use Rattle.ecam_spec.specs.Book.{Source, Book}
+use Rattle.std.proofs.lemmas.Bool.{cases_Bool, and_parts, false≢true, cases_order}
+use Rattle.std.proofs.lemmas.List.{get_or-set_same, get_or-set_other, length-map}
+use Rattle.ecam_spec.specs.Book.{Source, Parameter, Book}
 use Rattle.ecam_spec.specs.Draft.{book_of}
 use Rattle.ecam_spec.specs.KeepsLimits.{IsSoundParameter}
 use Rattle.ecam_spec.specs.Word.{is_odd}
-use Rattle.ecam_spec.specs.Value.{BusWord, takes}
+use Rattle.ecam_spec.specs.Value.{BusWord, takes, has_sdi, reading}
+use Rattle.ecam_spec.specs.History.{OneMore}
 use Rattle.book_model.specs.declared.draft.Draft.{Draft}
 use Rattle.book_model.specs.Sealed.{the_book, IsSealed}
-use Rattle.param_table.specs.declared.table.Received.{Received}
+use Rattle.book_model.specs.View.{source_of}
+use Rattle.wakes.specs.Marks.{is_marked, room}
+use Rattle.param_table.specs.Listening.{IsIndex}
+use Rattle.param_table.specs.declared.received.Received.{Received}
+use Rattle.param_table.specs.declared.rules.Rule.{Rule}
+use Rattle.param_table.specs.declared.held.Held.{Held}
 use Rattle.param_table.specs.declared.table.Params.{Params}
 use Rattle.param_table.specs.Places.{parameter_with, source_at, takes_at}
-use Rattle.param_table.specs.TableState.{SourceStands, ParamsFit, ParamsStand}
-use Rattle.ecam_spec.specs.History.{OneMore}
-use Rattle.param_table.specs.HeldValues.{set_back}
-use Rattle.param_table.proofs.Sources.{sound_parameter, not_even}
+use Rattle.param_table.specs.Rules.{IsRule, AreRules}
+use Rattle.param_table.specs.HeldValues.{given, entry, is_ending, set_back}
+use Rattle.param_table.specs.HeldState.{AreDue, Renews, WillLook}
+use Rattle.param_table.specs.TableState.{SourceStands, IsHeld, ParamsFit, ParamsStand, IsValueOf}
+use Rattle.param_table.proofs.Sources.{not_even}
 use Rattle.param_table.proofs.Entering.{none_replicate}
-use Rattle.param_table.proofs.Ages.{start_stands, moment_stands, set_back_stands, word_stands}
+use Rattle.param_table.proofs.Said.{start_stands, moment_stands, set_back_stands, word_stands, given_is, source_before-below}
+use Rattle.param_table.proofs.Told.{word_told, moment_told}
+use Rattle.param_table.proofs.Steps.{will_look_at, still_given}
 
 -- the parameters of a book are sound
 pub book_sound : (d : Draft) → IsSealed d → All IsSoundParameter (the_book d).parameters
 unfolding book_of
 book_sound d sealed = sealed.sound.parameters
 
+-- nothing is held
+pub held_none : (params : List Parameter) (received : List (Option Received)) (n q : ℕ) → received ≡ replicate n None → IfSome (get_or received q None) (IsHeld params q)
+held_none params received n q blank = subst (λ o. IfSome o (IsHeld params q)) (sym (ap (λ l. get_or l q None) blank ∙ none_replicate n q)) tt
+
 -- before any word
-pub start : (b : Book) (words : ℕ → List BusWord) (p : Params) (n : ℕ) → ParamsFit b p → words 0 ≡ [] → p.received.items ≡ replicate n None → ParamsStand b words 0 p
-start b words p n fits none blank = record {
+pub start : (b : Book) (words : ℕ → List BusWord) (p : Params) (n : ℕ) → ParamsFit b p → words 0 ≡ [] → p.held.received.items ≡ replicate n None
+    → ((j : ℕ) → is_marked p.held.changed j ≡ false) → ParamsStand b words 0 p
+start b words p n fits none blank unmarked = record {
   fits = fits;
   sources = λ q s there.
-      subst (SourceStands (parameter_with b.parameters q).stale s words 0 p.clock) (sym (ap (λ l. get_or l q None) blank ∙ none_replicate n q))
-      (start_stands (parameter_with b.parameters q).stale s words p.clock none);
-}
-
--- the same words and the same clock
-pub same_stands : (b : Book) (words : ℕ → List BusWord) (k : ℕ) (old new : Params) → ParamsFit b new
-    → new.clock ≡ old.clock → new.received.items ≡ old.received.items → ParamsStand b words k old → ParamsStand b words k new
-same_stands b words k old new fits clock same stands = record {
-  fits = fits;
-  sources = λ q s there.
-      rw (clock, same) (stands.sources q s there);
-}
-
--- one more moment
-pub moment : (b : Book) (words : ℕ → List BusWord) (k : ℕ) (old new : Params) → ParamsFit b new → words (suc k) ≡ []
-    → new.clock ≡ suc old.clock → new.received.items ≡ old.received.items → ParamsStand b words k old → ParamsStand b words (suc k) new
-moment b words k old new fits none counts same stands = record {
-  fits = fits;
-  sources = λ q s there.
-      rw (counts, same) (moment_stands (parameter_with b.parameters q).stale s words k old.clock (get_or old.received.items q None) none (stands.sources q s there));
-}
+      subst (SourceStands (parameter_with b.parameters q).kind (parameter_with b.parameters q).stale s words 0 p.clock) (sym (empty q))
+      (start_stands (parameter_with b.parameters q).kind (parameter_with b.parameters q).stale s words p.clock none);
+  due = λ q. rw (empty q) tt;
+  unchanged = λ q s there off. ap (given p.clock) (empty q);
+  told = λ j on. absurd (false≢true (sym (unmarked j) ∙ on));
+} where
+  empty : (q : ℕ) → get_or p.held.received.items q None ≡ None
+  empty q = ap (λ l. get_or l q None) blank ∙ none_replicate n q
 
 get_or-set_back : (received : List (Option Received)) (q : ℕ) → get_or (map set_back received) q None ≡ set_back (get_or received q None)
 get_or-set_back [] q = refl
 get_or-set_back (r ∷ rs) zero = refl
 get_or-set_back (r ∷ rs) (suc q) = get_or-set_back rs q
 
+set_back_held : (params : List Parameter) (q : ℕ) (received : Option Received) → IfSome received (IsHeld params q) → IfSome (set_back received) (IsHeld params q)
+set_back_held params q None held = tt
+set_back_held params q (Some r) held = record { source = held.source; bound = held.bound }
+
+-- the places fit when the clock is set back
+pub set_back_fits : (params : List Parameter) (q : ℕ) (received new : List (Option Received)) → new ≡ map set_back received
+    → IfSome (get_or received q None) (IsHeld params q) → IfSome (get_or new q None) (IsHeld params q)
+set_back_fits params q received new same held =
+    subst (λ o. IfSome o (IsHeld params q)) (sym (ap (λ l. get_or l q None) same ∙ get_or-set_back received q)) (set_back_held params q (get_or received q None) held)
+
+due_soon : (clock : ℕ) (received : Option Received) (key : ℕ) → key ≡ 0 → IfSome received (λ r. clock < r.end → key ≤ r.end)
+due_soon clock None key soon = tt
+due_soon clock (Some r) key soon = λ fresh. omega (arith, soon)
+
 -- the clock is set back
 pub clock_back : (b : Book) (words : ℕ → List BusWord) (k : ℕ) (old new : Params) → ParamsFit b new → old.clock ≡ 2 ^ 32 - 1
-    → new.clock ≡ 2 ^ 31 - 1 → new.received.items ≡ map set_back old.received.items → ParamsStand b words k old → ParamsStand b words k new
-clock_back b words k old new fits full half same stands = record {
+    → new.clock ≡ 2 ^ 31 - 1 → new.held.received.items ≡ map set_back old.held.received.items → new.held.changed ≡ old.held.changed
+    → ((q : ℕ) → slice_index new.held.dues q ≡ 0) → ParamsStand b words k old → ParamsStand b words k new
+clock_back b words k old new fits full half same marks soon stands = record {
+  fits = fits;
+  sources = λ q s there. source q s there;
+  due = λ q. due_soon new.clock (get_or new.held.received.items q None) (slice_index new.held.dues q) (soon q);
+  unchanged = λ q s there off.
+      given_is (parameter_with b.parameters q).kind (parameter_with b.parameters q).stale s words k new.clock (get_or new.held.received.items q None) (source q s there)
+      ∙ sym (given_is (parameter_with b.parameters q).kind (parameter_with b.parameters q).stale s words k old.clock (get_or old.held.received.items q None) (stands.sources q s there))
+      ∙ stands.unchanged q s there (ap (λ m. is_marked m (q / 3)) (sym marks) ∙ off);
+  told = λ j on. stands.told j (ap (λ m. is_marked m j) (sym marks) ∙ on);
+} where
+  source : (q : ℕ) (s : Source) → source_at b.parameters q ≡ Some s
+      → SourceStands (parameter_with b.parameters q).kind (parameter_with b.parameters q).stale s words k new.clock (get_or new.held.received.items q None)
+  source q s there =
+      rw (half, same, get_or-set_back) (set_back_stands (parameter_with b.parameters q).kind (parameter_with b.parameters q).stale s words k (get_or old.held.received.items q None)
+      (subst (λ t. SourceStands (parameter_with b.parameters q).kind (parameter_with b.parameters q).stale s words k t (get_or old.held.received.items q None)) full (stands.sources q s there)))
+
+-- one more moment begins: each word is looked at whose freshness ends with it
+pub will_look : (clock : ℕ) (old new : Held) → new.received.items ≡ old.received.items → new.dues ≡ old.dues → AreDue clock old → WillLook (suc clock) new
+will_look clock old new same dues due = record {
+  due = λ q. rw (same, dues) (look q).0;
+  ending = λ q. rw (same, dues) (look q).1;
+} where
+  look : (q : ℕ) → IfSome (get_or old.received.items q None) (λ r. suc clock < r.end → slice_index old.dues q ≤ r.end)
+      × (is_ending (suc clock) (get_or old.received.items q None) ≡ true → slice_index old.dues q ≤ suc clock)
+  look q = will_look_at clock (get_or old.received.items q None) (slice_index old.dues q) (due q)
+
+pub moment : (b : Book) (words : ℕ → List BusWord) (k : ℕ) (old new : Params) → ParamsFit b new → words (suc k) ≡ []
+    → new.clock ≡ suc old.clock → new.held.received.items ≡ old.held.received.items → AreDue new.clock new.held
+    → ((q : ℕ) → is_marked new.held.changed (q / 3) ≡ false → is_ending new.clock (get_or old.held.received.items q None) ≡ false)
+    → ((p : ℕ) → ((q : ℕ) → q / 3 ≡ p → is_ending new.clock (get_or old.held.received.items q None) ≡ false) → is_marked new.held.changed p ≡ false)
+    → ParamsStand b words k old → ParamsStand b words (suc k) new
+moment b words k old new fits none counts same due marks others stands = record {
   fits = fits;
   sources = λ q s there.
-      let small = (sound_parameter b.parameters q s fits.sound there).stale_high in
-      rw (half, same, get_or-set_back) (set_back_stands (parameter_with b.parameters q).stale s words k (get_or old.received.items q None) small
-      (subst (λ t. SourceStands (parameter_with b.parameters q).stale s words k t (get_or old.received.items q None)) full (stands.sources q s there)));
+      rw (counts, same) (moment_stands (parameter_with b.parameters q).kind (parameter_with b.parameters q).stale s words k old.clock (get_or old.held.received.items q None) none (stands.sources q s there));
+  due = due;
+  unchanged = λ q s there off.
+      let received = get_or old.held.received.items q None in
+      let still : is_ending (suc old.clock) received ≡ false = ap (λ t. is_ending t received) (sym counts) ∙ marks q off in
+      rw (counts, same) (still_given old.clock received still
+      ∙ given_is (parameter_with b.parameters q).kind (parameter_with b.parameters q).stale s words k old.clock received (stands.sources q s there));
+  told = λ p on.
+      moment_told b words k old.clock p old.held.received.items (is_marked new.held.changed p) none
+      (λ calm. others p (λ q row. ap (λ t. is_ending t (get_or old.held.received.items q None)) counts ∙ calm q row)) stands.fits.held.each stands.sources on;
 }
+
+-- what a place takes by a word, where its source does
+entry_taken : (params : List Parameter) (q clock : ℕ) (w : BusWord) (s : Source) (rule : Option Rule) (o : Option Received) → IsRule params q rule → source_at params q ≡ Some s
+    → cond (takes s w) (entry clock w.bits rule) o
+    ≡ cond (takes s w) (Some (record { value = reading (parameter_with params q).kind s w.bits; end = clock + (parameter_with params q).stale + 1 })) o
+unfolding takes
+entry_taken params q clock w s None o none there = absurd (false≢true (sym (ap is_some none) ∙ ap is_some there))
+entry_taken params q clock w s (Some r) o rule there = elim (cases_Bool (takes s w)) [
+  | inl so ↦
+      let sdi : has_sdi s.sdi w.bits ≡ true = (and_parts _ (has_sdi s.sdi w.bits) so).1 in
+      let same : Some (source_of r.source) ≡ Some s = sym rule.source ∙ there in
+      let is : source_of r.source ≡ s = cc in
+      let has : has_sdi r.source.sdi w.bits ≡ true = ap (λ (t : Source). has_sdi t.sdi w.bits) is ∙ sdi in
+      rw (so, has, rule.kind, rule.stale, is) refl
+  | inr not_so ↦ rw not_so refl
+]
 
 -- a word comes, which is taken where a source takes it
 pub word : (b : Book) (before after : ℕ → List BusWord) (k : ℕ) (w : BusWord) (old new : Params) → ParamsFit b new → OneMore before after k w
     → new.clock ≡ old.clock
-    → ((q : ℕ) → get_or new.received.items q None ≡ cond (takes_at b.parameters w q) (Some (record { bits = w.bits; at = old.clock })) (get_or old.received.items q None))
+    → ((q : ℕ) → get_or new.held.received.items q None ≡ cond (takes_at b.parameters w q) (entry old.clock w.bits (get_or old.rules.items q None)) (get_or old.held.received.items q None))
+    → Renews old.clock old.held new.held
+    → ((p : ℕ) → ((q : ℕ) → q / 3 ≡ p → takes_at b.parameters w q ≡ false) → is_marked new.held.changed p ≡ is_marked old.held.changed p)
     → ParamsStand b before k old → ParamsStand b after k new
-word b before after k w old new fits on clock places stands = record {
+word b before after k w old new fits on clock places renews others stands = record {
+  told = λ p on_now. word_told b before after k w p (is_marked old.held.changed p) (is_marked new.held.changed p) on (others p) (stands.told p) on_now;
   fits = fits;
   sources = λ q s there.
-      let taken : get_or new.received.items q None ≡ cond (takes s w) (Some (record { bits = w.bits; at = old.clock })) (get_or old.received.items q None) =
-      places q ∙ ap (λ o. cond (option_map_or (λ t. takes t w) o false) (Some (record { bits = w.bits; at = old.clock })) (get_or old.received.items q None)) there in
-      rw (clock, taken) (word_stands (parameter_with b.parameters q).stale s before after k old.clock w (get_or old.received.items q None) on (stands.sources q s there));
+      let kind = (parameter_with b.parameters q).kind in
+      let stale = (parameter_with b.parameters q).stale in
+      let was = get_or old.held.received.items q None in
+      let rule = get_or old.rules.items q None in
+      let taken : get_or new.held.received.items q None ≡ cond (takes s w) (Some (record { value = reading kind s w.bits; end = old.clock + stale + 1 })) was =
+      places q ∙ ap (λ o. cond (option_map_or (λ t. takes t w) o false) (entry old.clock w.bits rule) was) there
+      ∙ entry_taken b.parameters q old.clock w s rule was (stands.fits.rules.each q) there in
+      rw (clock, taken) (word_stands kind stale s before after k old.clock w was on (stands.sources q s there));
+  due = rw clock (renews.due stands.due);
+  unchanged = λ q s there off.
+      let kind = (parameter_with b.parameters q).kind in
+      let stale = (parameter_with b.parameters q).stale in
+      let kept = renews.marks q off in
+      ap (λ t. given t (get_or new.held.received.items q None)) clock ∙ kept.1 ∙ stands.unchanged q s there kept.0
+      ∙ source_before-below before after k (λ i h. sym (on.before i h)) kind stale s;
 }
 
 -- a word of even parity comes, which no source takes
 pub even_word : (b : Book) (before after : ℕ → List BusWord) (k : ℕ) (w : BusWord) (p : Params) → OneMore before after k w → is_odd w.bits ≡ false
     → ParamsStand b before k p → ParamsStand b after k p
 even_word b before after k w p on even stands =
-    word b before after k w p p stands.fits on refl (λ q. sym (ap (λ t. cond t (Some (record { bits = w.bits; at = p.clock })) (get_or p.received.items q None)) (none_takes (source_at b.parameters q)))) stands where
+    word b before after k w p p stands.fits on refl (λ q. sym (ap (λ t. cond t (entry p.clock w.bits (get_or p.rules.items q None)) (get_or p.held.received.items q None)) (none_takes (source_at b.parameters q))))
+    (record { marks = λ q off. (off, refl); due = λ due. due }) (λ p none. refl) stands where
       none_takes : (o : Option Source) → option_map_or (λ s. takes s w) o false ≡ false
       none_takes None = refl
       none_takes (Some s) = not_even s w even
+
+-- the places fit after one took a word
+pub entered_fits : (params : List Parameter) (place : ℕ) (r : Received) (old new : List (Option Received)) → new ≡ set old place (Some r) → place < length old
+    → IsHeld params place r → ((q : ℕ) → IfSome (get_or old q None) (IsHeld params q)) → (q : ℕ) → IfSome (get_or new q None) (IsHeld params q)
+entered_fits params place r old new is within here each q = elim (cases_order q place) [
+  | inl same ↦
+      subst (λ i. IfSome (get_or new i None) (IsHeld params i)) (sym same)
+      (subst (λ o. IfSome o (IsHeld params place)) (sym (ap (λ l. get_or l place None) is ∙ get_or-set_same old place (Some r) None within)) here)
+  | inr (inl less) ↦ subst (λ o. IfSome o (IsHeld params q)) (sym (ap (λ l. get_or l q None) is ∙ get_or-set_other old place q (Some r) None (omega arith))) (each q)
+  | inr (inr more) ↦ subst (λ o. IfSome o (IsHeld params q)) (sym (ap (λ l. get_or l q None) is ∙ get_or-set_other old place q (Some r) None (omega arith))) (each q)
+]
+
+-- what a place holds by its rule
+pub entry_held : (params : List Parameter) (place : ℕ) (rule : Option Rule) (r : Received) → IsRule params place rule → MatchOption rule ⊥ (λ t. IfSome r.value (IsValueOf t.kind)) → IsHeld params place r
+entry_held params place None r is bound = absurd bound
+entry_held params place (Some t) r is bound = record {
+  source = ap is_some is.source;
+  bound = subst (λ kind. IfSome r.value (IsValueOf kind)) is.kind bound;
+}
+
+-- the table fits when the clock is set back
+pub back_fits : (b : Book) (old new : Params) → new.index ≡ old.index → new.rules ≡ old.rules → new.held.received.items ≡ map set_back old.held.received.items
+    → new.held.changed ≡ old.held.changed → length new.held.dues ≡ length old.held.dues → ParamsFit b old → ParamsFit b new
+back_fits b old new index rules same marks dues fits = record {
+  sound = fits.sound;
+  index = subst (IsIndex b.parameters) (sym index) fits.index;
+  rules = subst (λ rs. AreRules b.parameters rs.items) (sym rules) fits.rules;
+  held = record {
+    places = ap length same ∙ length-map old.held.received.items set_back ∙ fits.held.places;
+    room = ap room marks ∙ fits.held.room;
+    dues = dues ∙ fits.held.dues;
+    each = λ q. set_back_fits b.parameters q old.held.received.items new.held.received.items same (fits.held.each q);
+  };
+}

@@ -1,31 +1,35 @@
--- The value of a parameter, by its sources in order.
-use Rattle.std.proofs.Common.{◌≡◌, ℕ, suc, ◌+◌, ◌*◌, ◌/◌, ◌%◌, ◌<◌, ◌≤◌, List, [], ◌∷◌, length, map, get_or, Option, Some, None, refl, ap, ◌∙◌, subst, arith, add-zero}
-use Rattle.std.specs.Option.{option_or}
+-- The value of a parameter, by its sources in order, now and in the moment before.
+use Rattle.std.proofs.Common.{◌≡◌, ℕ, zero, suc, ◌+◌, ◌*◌, ◌/◌, ◌%◌, ◌<◌, ◌≤◌, false, List, [], ◌∷◌, length, map, get_or, Option, Some, None, ℤ, All, refl, sym, ap, ◌∙◌, subst, arith, add-zero}
+use Rattle.std.specs.Prelude.{is_some, IfSome}
+use Rattle.std.specs.Option.{option_or, option_and_then}
 use Rattle.std.specs.List.{slice_get}
-use Rattle.std.proofs.lemmas.Option.{slice_get_within}
-use Rattle.ecam_spec.specs.declared.kinds.Kind.{Kind}
-use Rattle.ecam_spec.specs.Book.{Source, Book}
+use Rattle.std.proofs.lemmas.Bool.{false≢true}
+use Rattle.std.proofs.lemmas.List.Elements.{All-get_or}
+use Rattle.ecam_spec.specs.KeepsLimits.{IsSoundParameter}
+use Rattle.ecam_spec.specs.Book.{Source, Parameter, Book}
 use Rattle.ecam_spec.specs.Situation.{no_parameter, parameter_at}
 use Rattle.ecam_spec.specs.Value.{BusWord, source_value, value}
 use Rattle.ecam_spec.specs.Places.{first_of}
-use Rattle.param_table.specs.declared.table.Received.{Received}
+use Rattle.wakes.specs.Marks.{is_marked}
+use Rattle.param_table.specs.declared.received.Received.{Received}
 use Rattle.param_table.specs.declared.table.Params.{Params}
 use Rattle.param_table.specs.Places.{source_at}
-use Rattle.param_table.specs.TableState.{SourceStands, ParamsStand}
-use Rattle.param_table.specs.HeldValues.{first_held}
-use Rattle.param_table.proofs.Ages.{held_is}
+use Rattle.param_table.specs.TableState.{ParamsStand, IsHeld, source_before, value_before}
+use Rattle.param_table.specs.HeldValues.{given, first_given}
+use Rattle.param_table.proofs.Said.{given_is}
 
--- sources that stand from a place on give what the definitions say
-firsts : (kind : Kind) (stale clock : ℕ) (received : List (Option Received)) (words : ℕ → List BusWord) (k : ℕ) (place : ℕ) (ss : List Source)
-    → ((j : ℕ) (s : Source) → slice_get ss j ≡ Some s → SourceStands stale s words k clock (get_or received (place + j) None))
-    → first_held kind stale clock received place ss ≡ first_of (map (λ s. source_value kind stale s words k) ss)
-firsts kind stale clock received words k place [] stand = refl
-firsts kind stale clock received words k place (s ∷ ss) stand =
-    let head : SourceStands stale s words k clock (get_or received place None) =
-    rw (add-zero place) at (stand 0 s refl) in
-    ap (λ o. option_or o (first_held kind stale clock received (suc place) ss)) (held_is kind stale s words k clock (get_or received place None) head)
-    ∙ ap (option_or (source_value kind stale s words k))
-    (firsts kind stale clock received words k (suc place) ss (λ j t there. subst (λ q. SourceStands stale t words k clock (get_or received q None)) (omega arith) (stand (suc j) t there)))
+or-none : (a : Option ℤ) → option_or a None ≡ a
+or-none None = refl
+or-none (Some x) = refl
+
+-- the first of at most three
+firsts : (f : Source → Option ℤ) (ss : List Source) → length ss ≤ 3
+    → option_or (option_and_then f (slice_get ss 0)) (option_or (option_and_then f (slice_get ss 1)) (option_and_then f (slice_get ss 2))) ≡ first_of (map f ss)
+firsts f [] few = refl
+firsts f (a ∷ []) few = refl
+firsts f (a ∷ b ∷ []) few = refl
+firsts f (a ∷ b ∷ c ∷ []) few = ap (λ o. option_or (f a) (option_or (f b) o)) (sym (or-none (f c)))
+firsts f (a ∷ b ∷ c ∷ d ∷ ss) few = absurd (omega arith)
 
 -- the place of source j of parameter p
 at_place : (b : Book) (p j : ℕ) → j < 3 → source_at b.parameters (3 * p + j) ≡ slice_get (parameter_at b p).sources j
@@ -34,13 +38,62 @@ at_place b p j small =
     let column : (3 * p + j) % 3 ≡ j = omega arith in
     ap (λ r. slice_get (get_or b.parameters r no_parameter).sources ((3 * p + j) % 3)) row ∙ ap (slice_get (parameter_at b p).sources) column
 
-pub value_is : (b : Book) (words : ℕ → List BusWord) (k : ℕ) (t : Params) (p : ℕ) → ParamsStand b words k t → length (parameter_at b p).sources ≤ 3
-    → first_held (parameter_at b p).kind (parameter_at b p).stale t.clock t.received.items (3 * p) (parameter_at b p).sources ≡ value (parameter_at b p) words k
-unfolding value
-value_is b words k t p stands few =
-    firsts (parameter_at b p).kind (parameter_at b p).stale t.clock t.received.items words k (3 * p) (parameter_at b p).sources
-    (λ j s there.
-    let small : j < 3 = omega (arith, slice_get_within (parameter_at b p).sources j s there) in
-    let row : (3 * p + j) / 3 ≡ p = omega arith in
-    subst (λ r. SourceStands (get_or b.parameters r no_parameter).stale s words k t.clock (get_or t.received.items (3 * p + j) None)) row
-    (stands.sources (3 * p + j) s (at_place b p j small ∙ there)))
+-- a place without a source gives nothing
+gives_none : (params : List Parameter) (q clock : ℕ) (received : Option Received) → source_at params q ≡ None → IfSome received (IsHeld params q) → given clock received ≡ None
+gives_none params q clock None none held = refl
+gives_none params q clock (Some r) none held = absurd (false≢true (sym (ap is_some none) ∙ held.source))
+
+module _ (b : Book) (words : ℕ → List BusWord) (k : ℕ) (t : Params) (p : ℕ) (stands : ParamsStand b words k t) where
+  -- what a place gives, by the source that may be there
+  place_gives : (f : Source → Option ℤ)
+      → ((q : ℕ) (s : Source) → q / 3 ≡ p → source_at b.parameters q ≡ Some s → given t.clock (get_or t.held.received.items q None) ≡ f s)
+      → (j : ℕ) → j < 3 → given t.clock (get_or t.held.received.items (3 * p + j) None) ≡ option_and_then f (slice_get (parameter_at b p).sources j)
+  place_gives f each j small = by (slice_get (parameter_at b p).sources j) refl where
+    by : (o : Option Source) → slice_get (parameter_at b p).sources j ≡ o → given t.clock (get_or t.held.received.items (3 * p + j) None) ≡ option_and_then f o
+    by None is = gives_none b.parameters (3 * p + j) t.clock (get_or t.held.received.items (3 * p + j) None) (at_place b p j small ∙ is) (stands.fits.held.each (3 * p + j))
+    by (Some s) is = each (3 * p + j) s (omega arith) (at_place b p j small ∙ is)
+
+  gives_first : (f : Source → Option ℤ)
+      → ((q : ℕ) (s : Source) → q / 3 ≡ p → source_at b.parameters q ≡ Some s → given t.clock (get_or t.held.received.items q None) ≡ f s)
+      → length (parameter_at b p).sources ≤ 3
+      → first_given t.clock t.held.received.items (3 * p) ≡ first_of (map f (parameter_at b p).sources)
+  gives_first f each few =
+      ap (λ q. option_or (given t.clock (get_or t.held.received.items q None)) (option_or (given t.clock (get_or t.held.received.items (3 * p + 1) None)) (given t.clock (get_or t.held.received.items (3 * p + 2) None)))) (sym (add-zero (3 * p)))
+      ∙ ap (λ o. option_or o (option_or (given t.clock (get_or t.held.received.items (3 * p + 1) None)) (given t.clock (get_or t.held.received.items (3 * p + 2) None)))) (place_gives f each 0 (omega arith))
+      ∙ ap (λ o. option_or (option_and_then f (slice_get (parameter_at b p).sources 0)) (option_or o (given t.clock (get_or t.held.received.items (3 * p + 2) None)))) (place_gives f each 1 (omega arith))
+      ∙ ap (λ o. option_or (option_and_then f (slice_get (parameter_at b p).sources 0)) (option_or (option_and_then f (slice_get (parameter_at b p).sources 1)) o)) (place_gives f each 2 (omega arith))
+      ∙ firsts f (parameter_at b p).sources few
+
+  pub value_is : length (parameter_at b p).sources ≤ 3 → first_given t.clock t.held.received.items (3 * p) ≡ value (parameter_at b p) words k
+  unfolding value
+  value_is few = gives_first (λ s. source_value (parameter_at b p).kind (parameter_at b p).stale s words k)
+      (λ q s row there.
+      subst (λ r. given t.clock (get_or t.held.received.items q None) ≡ source_value (get_or b.parameters r no_parameter).kind (get_or b.parameters r no_parameter).stale s words k) row
+      (given_is _ _ s words k t.clock (get_or t.held.received.items q None) (stands.sources q s there)))
+      few
+
+  none_first : (j : ℕ) (ss : List Source) → j ≡ 0 → first_of (map (λ s. source_before (parameter_at b p).kind (parameter_at b p).stale s words j) ss) ≡ None
+  none_first zero [] e = refl
+  none_first zero (s ∷ ss) e = none_first zero ss e
+  none_first (suc j) ss e = absurd (omega arith)
+
+  before_is : (j : ℕ) → first_of (map (λ s. source_before (parameter_at b p).kind (parameter_at b p).stale s words j) (parameter_at b p).sources) ≡ value_before (parameter_at b p) words j
+  unfolding value_before value
+  before_is zero = none_first zero (parameter_at b p).sources refl
+  before_is (suc j) = refl
+
+  -- a parameter that isn't marked has the value of the moment before
+  pub unchanged_is : length (parameter_at b p).sources ≤ 3 → is_marked t.held.changed p ≡ false
+      → value (parameter_at b p) words k ≡ value_before (parameter_at b p) words k
+  unchanged_is few unmarked =
+      sym (value_is few)
+      ∙ gives_first (λ s. source_before (parameter_at b p).kind (parameter_at b p).stale s words k)
+      (λ q s row there.
+      subst (λ r. given t.clock (get_or t.held.received.items q None) ≡ source_before (get_or b.parameters r no_parameter).kind (get_or b.parameters r no_parameter).stale s words k) row
+      (stands.unchanged q s there (ap (is_marked t.held.changed) row ∙ unmarked)))
+      few
+      ∙ before_is k
+
+-- a parameter of a sound book has at most three sources
+pub few_sources : (b : Book) (p : ℕ) → All IsSoundParameter b.parameters → p < length b.parameters → length (parameter_at b p).sources ≤ 3
+few_sources b p sound within = (All-get_or IsSoundParameter b.parameters p no_parameter within sound).source_count

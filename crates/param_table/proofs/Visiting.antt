@@ -1,25 +1,29 @@
 -- A word comes: the sources that listen to its bus and label are visited, from the last place down.
-use Rattle.std.proofs.Common.{◌≡◌, ℕ, suc, ◌*◌, ◌<◌, ◌≤◌, Bool, true, false, ltb, ◌==◌, ◌&&◌, List, length, get_or, set, Option, Some, None, cond, refl, sym, ap, ◌∙◌, subst, arith, inl, inr}
-use Rattle.std.specs.Prelude.{IfSome}
+use Rattle.std.proofs.Common.{◌≡◌, ℕ, suc, ◌+◌, ◌*◌, ◌<◌, ◌≤◌, Bool, true, false, ltb, ◌==◌, ◌&&◌, List, length, get_or, set, Option, Some, None, cond, refl, sym, ap, ◌∙◌, subst, arith, inl, inr}
+use Rattle.std.specs.Prelude.{IfSome, is_some}
 use Rattle.std.specs.Option.{option_map_or}
 use Rattle.std.proofs.lemmas.Bool.{cases_Bool, cases_lt, cases_order, and_parts, eqb-true, and_left, and_right}
 use Rattle.std.proofs.lemmas.Bool.Decides.{nat_tests}
 use Rattle.std.proofs.lemmas.List.{get_or-set_same, get_or-set_other, length-set}
 use Rattle.ecam_spec.specs.Book.{Source, Parameter}
 use Rattle.ecam_spec.specs.Word.{label, is_odd}
-use Rattle.ecam_spec.specs.Value.{BusWord, takes, has_sdi}
+use Rattle.ecam_spec.specs.Value.{BusWord, takes, has_sdi, reading}
+use Rattle.book_model.specs.View.{source_of}
 use Rattle.param_table.specs.Places.{source_at, passes, listens, takes_at, last_below}
 use Rattle.param_table.specs.Listening.{IsIndex}
 use Rattle.param_table.specs.declared.index.Index.{Index}
-use Rattle.param_table.specs.declared.table.Received.{Received}
+use Rattle.param_table.specs.declared.received.Received.{Received}
+use Rattle.param_table.specs.declared.rules.Rule.{Rule}
+use Rattle.param_table.specs.Rules.{IsRule, AreRules}
+use Rattle.param_table.specs.HeldValues.{entry, entered}
 use Rattle.param_table.proofs.Chains.{is_past, past_fails, found_passes}
 use Rattle.param_table.proofs.Sources.{no_source, source_there, place_within, takes_listens, takes_sdi}
 
 -- all places behind the next one are visited: those that take the word have it
-pub record IsVisited (params : List Parameter) (w : BusWord) (x : Option Received) (next : Option ℕ) (old new : List (Option Received)) : Type 0 where
+pub record IsVisited (params : List Parameter) (w : BusWord) (x : ℕ → Option Received) (next : Option ℕ) (old new : List (Option Received)) : Type 0 where
   pub size : length new ≡ length old
   pub listening : IfSome next (λ h. listens params w.bus (label w.bits) h ≡ true)
-  pub places : (q : ℕ) → get_or new q None ≡ cond (is_past next q && takes_at params w q) x (get_or old q None)
+  pub places : (q : ℕ) → get_or new q None ≡ cond (is_past next q && takes_at params w q) (x q) (get_or old q None)
 
 weaker : (p : ℕ → Bool) (n : ℕ) (o : Option ℕ) → IfSome o (λ h. (h < n) × (p h ≡ true)) → IfSome o (λ h. p h ≡ true)
 weaker p n None h = h
@@ -41,13 +45,13 @@ module _ (params : List Parameter) (w : BusWord) where
   ]
 
   -- before the first visit
-  pub visited_none : (x : Option Received) (old : List (Option Received)) (next : Option ℕ)
+  pub visited_none : (x : ℕ → Option Received) (old : List (Option Received)) (next : Option ℕ)
       → next ≡ last_below (listens params w.bus (label w.bits)) (3 * length params) → IsVisited params w x next old old
   visited_none x old next first = record {
     size = refl;
     listening = subst (λ o. IfSome o (λ h. listens params w.bus (label w.bits) h ≡ true)) (sym first)
         (weaker (listens params w.bus (label w.bits)) (3 * length params) (last_below (listens params w.bus (label w.bits)) (3 * length params)) (found_passes (listens params w.bus (label w.bits)) (3 * length params)));
-    places = λ q. sym (ap (λ b. cond b x (get_or old q None)) (ap (λ o. is_past o q && takes_at params w q) first ∙ none_taken q));
+    places = λ q. sym (ap (λ b. cond b (x q) (get_or old q None)) (ap (λ o. is_past o q && takes_at params w q) first ∙ none_taken q));
   } where
     none_taken : (q : ℕ) → (is_past (last_below (listens params w.bus (label w.bits)) (3 * length params)) q && takes_at params w q) ≡ false
     none_taken q = elim (cases_lt q (3 * length params)) [
@@ -79,42 +83,42 @@ module _ (params : List Parameter) (w : BusWord) where
             ∙ sym (ap (λ o. option_map_or (λ (t : Source). has_sdi t.sdi w.bits) o false) there.1);
       }
 
-  module _ (x : Option Received) (index : Index) (h : ℕ) (old new : List (Option Received))
+  module _ (x : ℕ → Option Received) (index : Index) (h : ℕ) (old new : List (Option Received))
       (visited : IsVisited params w x (Some h) old new) (at : IsNext index h) where
     next_is : IfSome (get_or index.before.items h None) (λ i. (i < h) × (listens params w.bus (label w.bits) i ≡ true))
     next_is = subst (λ o. IfSome o (λ i. (i < h) × (listens params w.bus (label w.bits) i ≡ true))) (sym at.chain) (found_passes (listens params w.bus (label w.bits)) h)
 
     -- a place other than h is as it was
-    others : (q : ℕ) → (q < h → get_or new q None ≡ cond (is_past (get_or index.before.items h None) q && takes_at params w q) x (get_or old q None))
-        × (h < q → get_or new q None ≡ cond (is_past (get_or index.before.items h None) q && takes_at params w q) x (get_or old q None))
+    others : (q : ℕ) → (q < h → get_or new q None ≡ cond (is_past (get_or index.before.items h None) q && takes_at params w q) (x q) (get_or old q None))
+        × (h < q → get_or new q None ≡ cond (is_past (get_or index.before.items h None) q && takes_at params w q) (x q) (get_or old q None))
     others q = (
       λ less.
           let to_come : ltb h q ≡ false = grind (arith, nat_tests) in
-          visited.places q ∙ ap (λ b. cond (b && takes_at params w q) x (get_or old q None)) to_come
-          ∙ sym (ap (λ b. cond b x (get_or old q None)) (ap (λ o. is_past o q && takes_at params w q) at.chain ∙ passed_by h q less)),
+          visited.places q ∙ ap (λ b. cond (b && takes_at params w q) (x q) (get_or old q None)) to_come
+          ∙ sym (ap (λ b. cond b (x q) (get_or old q None)) (ap (λ o. is_past o q && takes_at params w q) at.chain ∙ passed_by h q less)),
       λ more.
           let behind : ltb h q ≡ true = grind (arith, nat_tests) in
-          visited.places q ∙ ap (λ b. cond (b && takes_at params w q) x (get_or old q None)) behind
-          ∙ sym (ap (λ b. cond (b && takes_at params w q) x (get_or old q None)) (beyond (listens params w.bus (label w.bits)) h q (get_or index.before.items h None) next_is (omega arith))),
+          visited.places q ∙ ap (λ b. cond (b && takes_at params w q) (x q) (get_or old q None)) behind
+          ∙ sym (ap (λ b. cond (b && takes_at params w q) (x q) (get_or old q None)) (beyond (listens params w.bus (label w.bits)) h q (get_or index.before.items h None) next_is (omega arith))),
     )
 
     here : is_past (get_or index.before.items h None) h ≡ true
     here = beyond (listens params w.bus (label w.bits)) h h (get_or index.before.items h None) next_is (omega arith)
 
     -- a source that takes the word
-    pub visited_taken : h < length new → takes_at params w h ≡ true → IsVisited params w x (get_or index.before.items h None) old (set new h x)
+    pub visited_taken : h < length new → takes_at params w h ≡ true → IsVisited params w x (get_or index.before.items h None) old (set new h (x h))
     visited_taken within takes_it = record {
-      size = length-set new h x ∙ visited.size;
+      size = length-set new h (x h) ∙ visited.size;
       listening = weaker (listens params w.bus (label w.bits)) h (get_or index.before.items h None) next_is;
       places = λ q. elim (cases_order q h) [
         | inl same ↦
-            ap (λ i. get_or (set new h x) i None) same
-            ∙ get_or-set_same new h x None within
-            ∙ sym (ap (λ i. cond (is_past (get_or index.before.items h None) i && takes_at params w i) x (get_or old i None)) same
-            ∙ ap (λ b. cond (b && takes_at params w h) x (get_or old h None)) here
-            ∙ ap (λ b. cond b x (get_or old h None)) takes_it)
-        | inr (inl less) ↦ get_or-set_other new h q x None (omega arith) ∙ (others q).0 less
-        | inr (inr more) ↦ get_or-set_other new h q x None (omega arith) ∙ (others q).1 more
+            ap (λ i. get_or (set new h (x h)) i None) same
+            ∙ get_or-set_same new h (x h) None within
+            ∙ sym (ap (λ i. cond (is_past (get_or index.before.items h None) i && takes_at params w i) (x i) (get_or old i None)) same
+            ∙ ap (λ b. cond (b && takes_at params w h) (x h) (get_or old h None)) here
+            ∙ ap (λ b. cond b (x h) (get_or old h None)) takes_it)
+        | inr (inl less) ↦ get_or-set_other new h q (x h) None (omega arith) ∙ (others q).0 less
+        | inr (inr more) ↦ get_or-set_other new h q (x h) None (omega arith) ∙ (others q).1 more
       ];
     }
 
@@ -126,8 +130,8 @@ module _ (params : List Parameter) (w : BusWord) where
       places = λ q. elim (cases_order q h) [
         | inl same ↦
             let not_behind : ltb h q ≡ false = grind (arith, nat_tests) in
-            visited.places q ∙ ap (λ b. cond (b && takes_at params w q) x (get_or old q None)) not_behind
-            ∙ sym (ap (λ b. cond b x (get_or old q None)) (and_right (is_past (get_or index.before.items h None) q) (takes_at params w q) (ap (takes_at params w) same ∙ takes_not)))
+            visited.places q ∙ ap (λ b. cond (b && takes_at params w q) (x q) (get_or old q None)) not_behind
+            ∙ sym (ap (λ b. cond b (x q) (get_or old q None)) (and_right (is_past (get_or index.before.items h None) q) (takes_at params w q) (ap (takes_at params w) same ∙ takes_not)))
         | inr (inl less) ↦ (others q).0 less
         | inr (inr more) ↦ (others q).1 more
       ];
@@ -139,3 +143,47 @@ module _ (params : List Parameter) (w : BusWord) where
       below : (o : Option ℕ) → IfSome o (λ i. (i < h) × (listens params w.bus (label w.bits) i ≡ true)) → option_map_or suc o 0 ≤ h
       below None f = omega arith
       below (Some i) f = omega arith
+
+-- a place is visited: it takes the word where its source names the word's SDI, or none
+module _ (params : List Parameter) (w : BusWord) (clock : ℕ) (rules : List (Option Rule)) (index : Index) (h : ℕ) (old new : List (Option Received))
+    (kept : AreRules params rules) (odd : is_odd w.bits ≡ true) (at : IsNext params w index h)
+    (visited : IsVisited params w (λ q. entry clock w.bits (get_or rules q None)) (Some h) old new) (within : h < length new) where
+  abbrev entries : ℕ → Option Received
+  entries q = entry clock w.bits (get_or rules q None)
+
+  pub visited_next : IsVisited params w entries (get_or index.before.items h None) old (entered (entry clock w.bits (get_or rules h None)) h new)
+  visited_next = by (get_or rules h None) refl (kept.each h) where
+    left : (o : Option Rule) → get_or rules h None ≡ o → takes_at params w h ≡ false → entry clock w.bits o ≡ None
+        → IsVisited params w entries (get_or index.before.items h None) old (entered (entry clock w.bits (get_or rules h None)) h new)
+    left o is off none =
+        subst (λ e. IsVisited params w entries (get_or index.before.items h None) old (entered e h new)) (sym (ap (entry clock w.bits) is ∙ none))
+        (visited_left params w entries index h old new visited at off)
+
+    taken : (o : Option Rule) (e : Received) → get_or rules h None ≡ o → takes_at params w h ≡ true → entry clock w.bits o ≡ Some e
+        → IsVisited params w entries (get_or index.before.items h None) old (entered (entry clock w.bits (get_or rules h None)) h new)
+    taken o e is on some =
+        let here : entries h ≡ Some e = ap (entry clock w.bits) is ∙ some in
+        subst (λ v. IsVisited params w entries (get_or index.before.items h None) old (entered v h new)) (sym here)
+        (subst (λ v. IsVisited params w entries (get_or index.before.items h None) old (set new h v)) here
+        (visited_taken params w entries index h old new visited at within on))
+
+    by : (o : Option Rule) → get_or rules h None ≡ o → IsRule params h o
+        → IsVisited params w entries (get_or index.before.items h None) old (entered (entry clock w.bits (get_or rules h None)) h new)
+    by None is none = left None is (at.taken odd ∙ ap (λ o. option_map_or (λ (s : Source). has_sdi s.sdi w.bits) o false) none) refl
+    by (Some r) is rule =
+        let says : takes_at params w h ≡ has_sdi r.source.sdi w.bits = at.taken odd ∙ ap (λ o. option_map_or (λ (s : Source). has_sdi s.sdi w.bits) o false) rule.source in
+        elim (cases_Bool (has_sdi r.source.sdi w.bits)) [
+          | inl so ↦ taken (Some r) (record { value = reading r.kind (source_of r.source) w.bits; end = clock + r.stale + 1 }) is (says ∙ so)
+              (ap (λ b. cond b (Some (record { value = reading r.kind (source_of r.source) w.bits; end = clock + r.stale + 1 })) None) so)
+          | inr not_so ↦ left (Some r) is (says ∙ not_so)
+              (ap (λ b. cond b (Some (record { value = reading r.kind (source_of r.source) w.bits; end = clock + r.stale + 1 })) None) not_so)
+        ]
+
+  -- a source that doesn't take it leaves nothing at its place
+  pub not_entered : takes_at params w h ≡ false → is_some (entry clock w.bits (get_or rules h None)) ≡ false
+  not_entered off = by (get_or rules h None) (kept.each h) where
+    by : (o : Option Rule) → IsRule params h o → is_some (entry clock w.bits o) ≡ false
+    by None none = refl
+    by (Some r) rule =
+        let says : takes_at params w h ≡ has_sdi r.source.sdi w.bits = at.taken odd ∙ ap (λ o. option_map_or (λ (s : Source). has_sdi s.sdi w.bits) o false) rule.source in
+        ap (λ b. is_some {T = Received} (cond b (Some (record { value = reading r.kind (source_of r.source) w.bits; end = clock + r.stale + 1 })) None)) (sym says ∙ off)

@@ -1,4 +1,6 @@
 pub mod Places
 pub mod Listening
-pub mod TableState
+pub mod Rules
 pub mod HeldValues
+pub mod HeldState
+pub mod TableState

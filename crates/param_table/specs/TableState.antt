@@ -1,36 +1,77 @@
 -- What a table of parameters says of the words so far.
-use Rattle.std.specs.Prelude.{◌≡◌, ℕ, suc, ◌-◌, ◌*◌, ◌≤◌, min, ℤ, pos, neg_ℤ, ◌≤ℤ◌, List, length, get_or, Option, Some, None, All, IfSome, option_map}
+use Rattle.std.specs.Prelude.{◌≡◌, ℕ, zero, suc, ◌+◌, ◌-◌, ◌*◌, ◌/◌, false, ℤ, pos, neg_ℤ, ◌≤ℤ◌, ◌⊎◌, List, length, get_or, Option, Some, None, All, IfSome, option_map, is_some, true}
 use Rattle.ecam_spec.specs.declared.limits.TheConstants.{NUMBER}
 use Rattle.ecam_spec.specs.declared.kinds.Kind.{Kind}
 use Rattle.ecam_spec.specs.declared.kinds.Kind.TheVariants.{Disc, Bnr, Bcd}
-use Rattle.ecam_spec.specs.Past.{last}
-use Rattle.ecam_spec.specs.Book.{Source, Book}
+use Rattle.std.specs.List.{slice_get}
+use Rattle.ecam_spec.specs.Past.{last, previous}
+use Rattle.ecam_spec.specs.Situation.{parameter_at}
+use Rattle.ecam_spec.specs.Book.{Source, Parameter, Book}
 use Rattle.ecam_spec.specs.KeepsLimits.{IsSoundParameter}
-use Rattle.ecam_spec.specs.Value.{BusWord, arrives, word_of}
+use Rattle.ecam_spec.specs.Value.{BusWord, arrives, word_of, is_fresh, reading, source_value, value}
+use Rattle.wakes.specs.Marks.{is_marked, room}
 use Rattle.param_table.specs.Places.{parameter_with, source_at}
 use Rattle.param_table.specs.Listening.{IsIndex}
-use Rattle.param_table.specs.declared.table.Received.{Received}
+use Rattle.param_table.specs.Rules.{AreRules}
+use Rattle.param_table.specs.HeldValues.{given}
+use Rattle.param_table.specs.HeldState.{AreDue}
+use Rattle.param_table.specs.declared.received.Received.{Received}
+use Rattle.param_table.specs.declared.held.Held.{Held}
 use Rattle.param_table.specs.declared.table.Params.{Params}
-
--- The word that a source took last is there, with the number of Ticks since it, which ends at `stale` + 1.
-pub record SourceStands (stale : ℕ) (s : Source) (words : ℕ → List BusWord) (k clock : ℕ) (received : Option Received) : Type 0 where
-  pub word : option_map (λ r. r.bits) received ≡ word_of s words k
-  pub age : option_map (λ r. min (clock - r.at) (suc stale)) received ≡ option_map (λ m. min (k - m) (suc stale)) (last (arrives s words) k)
-  pub past : IfSome received (λ r. r.at ≤ clock)
-
--- the table was made for the book: it has the places of the book's sources, and finds them by bus and label
-pub record ParamsFit (b : Book) (p : Params) : Type 0 where
-  pub sound : All IsSoundParameter b.parameters
-  pub places : length p.received.items ≡ 3 * length b.parameters
-  pub index : IsIndex b.parameters p.index
-
--- the table stands for the words of the moments up to k, which hasn't ended
-pub record ParamsStand (b : Book) (words : ℕ → List BusWord) (k : ℕ) (p : Params) : Type 0 where
-  pub fits : ParamsFit b p
-  pub sources : (q : ℕ) (s : Source) → source_at b.parameters q ≡ Some s → SourceStands (parameter_with b.parameters q).stale s words k p.clock (get_or p.received.items q None)
 
 -- the values that a parameter can have
 abbrev pub IsValueOf : Kind → ℤ → Type 0
 IsValueOf Disc v = (pos 0 ≤ℤ v) × (v ≤ℤ pos 1)
 IsValueOf Bnr v = (neg_ℤ (pos NUMBER) ≤ℤ v) × (v ≤ℤ pos NUMBER)
 IsValueOf Bcd v = (neg_ℤ (pos NUMBER) ≤ℤ v) × (v ≤ℤ pos NUMBER)
+
+-- the value of a parameter in the moment before, and none before moment 0
+unfoldable pub value_before : Parameter → (ℕ → List BusWord) → ℕ → Option ℤ
+value_before p words zero = None
+value_before p words (suc j) = value p words j
+
+-- what a source gave in the moment before
+abbrev pub source_before : Kind → ℕ → Source → (ℕ → List BusWord) → ℕ → Option ℤ
+source_before kind stale s words zero = None
+source_before kind stale s words (suc j) = source_value kind stale s words j
+
+-- A source of the parameter may give something else than in the moment before: it took a word, or its freshness ended.
+pub record MayDiffer (p : Parameter) (words : ℕ → List BusWord) (k : ℕ) : Type 0 where
+  pub place : ℕ
+  pub source : Source
+  pub there : slice_get p.sources place ≡ Some source
+  pub why : (arrives source words k ≡ true) ⊎ ((previous (is_fresh p.stale source words) k ≡ true) × (is_fresh p.stale source words k ≡ false))
+
+-- What the word says that a source took last is there, and for how many moments more it is fresh.
+pub record SourceStands (kind : Kind) (stale : ℕ) (s : Source) (words : ℕ → List BusWord) (k clock : ℕ) (received : Option Received) : Type 0 where
+  pub says : option_map (λ r. r.value) received ≡ option_map (reading kind s) (word_of s words k)
+  pub left : option_map (λ r. r.end - clock) received ≡ option_map (λ m. m + stale + 1 - k) (last (arrives s words) k)
+
+-- only a place with a source holds something, and no more than its parameter can have
+pub record IsHeld (params : List Parameter) (place : ℕ) (r : Received) : Type 0 where
+  pub source : is_some (source_at params place) ≡ true
+  pub bound : IfSome r.value (IsValueOf (parameter_with params place).kind)
+
+-- the places are those of the parameters' sources
+pub record HeldFits (params : List Parameter) (h : Held) : Type 0 where
+  pub places : length h.received.items ≡ 3 * length params
+  pub room : room h.changed ≡ 64 * (length params / 64 + 1)
+  pub dues : length h.dues ≡ 3 * length params
+  pub each : (q : ℕ) → IfSome (get_or h.received.items q None) (IsHeld params q)
+
+-- the table was made for the book: it has the places of the book's sources, and finds them by bus and label
+pub record ParamsFit (b : Book) (p : Params) : Type 0 where
+  pub sound : All IsSoundParameter b.parameters
+  pub index : IsIndex b.parameters p.index
+  pub rules : AreRules b.parameters p.rules.items
+  pub held : HeldFits b.parameters p.held
+
+-- the table stands for the words of the moments up to k, which hasn't ended
+pub record ParamsStand (b : Book) (words : ℕ → List BusWord) (k : ℕ) (p : Params) : Type 0 where
+  pub fits : ParamsFit b p
+  pub sources : (q : ℕ) (s : Source) → source_at b.parameters q ≡ Some s
+      → SourceStands (parameter_with b.parameters q).kind (parameter_with b.parameters q).stale s words k p.clock (get_or p.held.received.items q None)
+  pub due : AreDue p.clock p.held
+  pub unchanged : (q : ℕ) (s : Source) → source_at b.parameters q ≡ Some s → is_marked p.held.changed (q / 3) ≡ false
+      → given p.clock (get_or p.held.received.items q None) ≡ source_before (parameter_with b.parameters q).kind (parameter_with b.parameters q).stale s words k
+  pub told : (j : ℕ) → is_marked p.held.changed j ≡ true → MayDiffer (parameter_at b j) words k

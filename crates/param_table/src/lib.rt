@@ -1,9 +1,13 @@
 //! The values of a book's parameters: what the words on the buses said last, and whether it is fresh.
 #![tactic(auto)]
 
+mod held;
 mod index;
 mod place;
+mod received;
+mod rules;
 mod table;
+mod taking;
 mod words;
 
 pub use table::Params;

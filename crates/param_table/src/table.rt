@@ -1,42 +1,32 @@
 // The values of parameters.
-ghost use Rattle.std.specs.Prelude.{◌≡◌, ℕ, suc, ◌+◌, ◌-◌, ◌*◌, ◌<◌, ◌≤◌, ◌^◌, List, [], length, map, slice_index_or, Option, None, Some, IfOk, IfSome, IsTrue, if◌then◌else◌, ⊤};
+ghost use Rattle.std.specs.Prelude.{◌≡◌, ℕ, suc, ◌+◌, ◌-◌, ◌*◌, ◌<◌, ◌≤◌, ◌^◌, List, [], length, map, slice_index, unwrap_or, IfOk, IfSome};
 ghost use Rattle.ecam_spec.specs.Value.{BusWord, value};
-ghost use Rattle.ecam_spec.specs.Word.{is_odd};
 ghost use Rattle.ecam_spec.specs.Book as plain;
 ghost use Rattle.ecam_spec.specs.Situation.{parameter_at};
-ghost use Rattle.book_model.specs.Sealed.{the_book};
-ghost use Rattle.book_model.specs.View.{source_of, parameter_of};
-ghost use Rattle.ecam_spec.specs.KeepsLimits.{IsSoundParameter, IsSoundSource};
-ghost use Rattle.param_table.specs.Places.{takes_at};
-ghost use Rattle.param_table.specs.Listening.{IsIndex};
-ghost use Rattle.param_table.specs.TableState.{ParamsFit, ParamsStand, IsValueOf};
 ghost use Rattle.ecam_spec.specs.History.{OneMore};
-ghost use Rattle.param_table.specs.HeldValues.{held_value, first_held, set_back};
+ghost use Rattle.book_model.specs.Sealed.{the_book};
+ghost use Rattle.param_table.specs.TableState.{ParamsFit, ParamsStand, IsValueOf, MayDiffer, value_before};
+ghost use Rattle.param_table.specs.HeldValues.{first_given, set_back};
 
+use crate::held::{Held, look_soon};
 use crate::index::Index;
-use crate::words::{has_sdi, reading};
+use crate::received::{HALF, given, set_back};
+use crate::rules::{Rule, rules_of};
+use crate::taking::receive;
 use arinc_words::Word;
-use book_model::{Book, Param, WordSource};
+use book_model::Book;
 use std::alloc::{AllocError, Global};
+use wakes::{Marked, Wakes};
 
-/// How far the clock is set back at its end.
-const HALF: u32 = 0x8000_0000;
-
-/// The last word that a source took, and what the clock showed when it came.
-#[derive(Clone, Copy)]
-struct Received {
-    bits: u32,
-    at: u32,
-}
-
-/// The words that the sources of a book's parameters took last, and how many Ticks ago. Memory is taken in `new`
-/// alone, and nothing grows with the history.
+/// What the words say that the sources of a book's parameters took last, how long they are fresh, and which parameters
+/// may have another value than in the moment before. Memory is taken in `new` alone, and nothing grows with the history.
 #[derive(Drop)]
 pub struct Params {
     // Counts Ticks. At its end it is set back.
     clock: u32,
-    // Three places for each parameter, one for each of its sources.
-    received: Vec<Option<Received>>,
+    held: Held,
+    // How the words of each source are read, by place.
+    rules: Vec<Option<Rule>>,
     index: Index,
 }
 
@@ -49,16 +39,24 @@ impl Params {
     {
         let params = book.params();
         let index = Index::new(alloc, params)?;
+        let rules = rules_of(alloc, params)?;
         let mut received = Vec::new(alloc);
         received.resize(3 * params.len(), None)?;
+        let changed = Marked::new(alloc, params.len())?;
+        let dues = Wakes::new(alloc, 3 * params.len())?;
         Ok(Params {
             clock: 0,
-            received,
+            held: Held {
+                received,
+                changed,
+                dues,
+            },
+            rules,
             index,
         })
     }
 
-    /// Forgets all words and moments. Its cost is one write a source.
+    /// Forgets all words and moments. Its cost is three writes a source.
     pub fn clear(&mut self)
         ensures fits { (b : plain.Book) → ParamsFit b self.old → ParamsFit b self.new }
         ensures stands { (b : plain.Book) (words : ℕ → List BusWord) → ParamsFit b self.old
@@ -66,10 +64,13 @@ impl Params {
             → ParamsStand b words 0 self.new }
     {
         self.clock = 0;
-        self.received.fill(None);
+        self.held.received.fill(None);
+        self.held.changed.clear();
+        self.held.dues.clear();
     }
 
-    /// Takes over the words and the moments of another table of the same book. Its cost is one write a source.
+    /// Takes over the words and the moments of another table of the same book. Its cost is one write a source, and a few
+    /// more for each whose word is to be looked at.
     pub fn copy_from(&mut self, other: &Params)
         requires { (b : plain.Book) × ParamsFit b self.old × ParamsFit b other.now }
         ensures fits { (b : plain.Book) → ParamsFit b self.old → ParamsFit b other.now
@@ -78,7 +79,9 @@ impl Params {
             → ParamsStand b words k other.now → ParamsStand b words k self.new }
     {
         self.clock = other.clock;
-        self.received.copy_from_slice(&other.received);
+        self.held.received.copy_from_slice(&other.held.received);
+        self.held.changed.copy_from(&other.held.changed);
+        self.held.dues.copy_from(&other.held.dues);
     }
 
     /// A word comes on a bus in the moment that hasn't ended. Its cost is one look-up by bus and label, and a
@@ -93,22 +96,21 @@ impl Params {
     {
         let word = Word::new(bits);
         if word.odd() {
-            let received = Received {
-                bits,
-                at: self.clock,
-            };
             receive(
-                &mut self.received,
+                &mut self.held,
                 &self.index,
-                book.params(),
+                &self.rules,
+                book,
+                self.clock,
                 bus,
-                received,
+                &word,
             );
         }
     }
 
-    /// The moment ends. A clock counts it, and the age of a word is told by what it showed when the word came: so a
-    /// Tick costs nothing for any source, fresh or stale, but one in 2^31, which costs a write a source.
+    /// The moment ends. What is fresh is told by the clock, so that a Tick costs a look at the sources whose freshness
+    /// may end with it, no more looks in all than words, and a write for each 64 parameters; but one in 2^31 costs a few
+    /// writes a source.
     pub fn tick(&mut self, _book: &Book)
         requires { ParamsFit (the_book _book.now) self.old }
         ensures fits { ParamsFit (the_book _book.now) self.new }
@@ -120,6 +122,8 @@ impl Params {
             self.set_clock_back();
         }
         self.clock += 1;
+        self.held.forget_changes();
+        self.held.look_at_due(self.clock);
     }
 
     /// The value of a parameter in the moment that hasn't ended, by the words so far: `None` exactly where no
@@ -132,91 +136,67 @@ impl Params {
             → result ≡ value (parameter_at (the_book book.now) param) words k }
         ensures bound { IfSome result (IsValueOf (parameter_at (the_book book.now) param).kind) }
     {
-        self.first_value(&book.params()[param], 3 * param)
+        let _ = book;
+        self.first_value(3 * param)
     }
 
-    // The value of the first source that gives one, where the parameter's sources stand from this place on.
-    fn first_value(&self, parameter: &Param, place: usize) -> Option<i64>
-        requires sound { IsSoundParameter (parameter_of parameter.now) }
-        requires places { place + 3 ≤ length self.now.received.items }
-        ensures value { result ≡ first_held parameter.now.kind parameter.now.stale self.now.clock
-            self.now.received.items place (map source_of parameter.now.sources.items) }
-        ensures bound { IfSome result (IsValueOf parameter.now.kind) }
+    /// The first parameter from `from` on that may have another value than in the moment before, before which none had
+    /// one: a source of it took a word that says something else, or its freshness ended. Its cost is a look for each 64
+    /// parameters that it goes over.
+    pub fn changed(&self, book: &Book, from: usize) -> Option<usize>
+        requires { ParamsFit (the_book book.now) self.now }
+        ensures within { IfSome result (λ p. (from ≤ p) × (p < length book.now.params.items)) }
+        ensures same { (words : ℕ → List BusWord) (k : ℕ)
+            → ParamsStand (the_book book.now) words k self.now
+            → (p : ℕ) → from ≤ p → p < unwrap_or result (length (the_book book.now).parameters)
+            → value (parameter_at (the_book book.now) p) words k
+            ≡ value_before (parameter_at (the_book book.now) p) words k }
+        ensures told { (words : ℕ → List BusWord) (k : ℕ)
+            → ParamsStand (the_book book.now) words k self.now
+            → IfSome result (λ p. MayDiffer (parameter_at (the_book book.now) p) words k) }
     {
-        for (i, source) in parameter.sources.iter().enumerate() {
-            let value = self.source_value(parameter, source, place + i);
-            if value.is_some() {
-                return value;
-            }
+        let param = self.held.changed.first_from(from)?;
+        if param < book.params().len() {
+            Some(param)
+        } else {
+            None
         }
-        None
     }
 
-    // Sets the clock back by half of what it can show, with the times of the words. One from before that half is
-    // stale by far, since a word stays fresh for 600 moments at most.
+    // What the first of the sources from this place on gives that gives something.
+    fn first_value(&self, place: usize) -> Option<i64>
+        requires { place + 3 ≤ length self.now.held.received.items }
+        ensures { result ≡ first_given self.now.clock self.now.held.received.items place }
+    {
+        let first = given(self.held.received[place], self.clock);
+        if first.is_some() {
+            return first;
+        }
+        let second = given(self.held.received[place + 1], self.clock);
+        if second.is_some() {
+            return second;
+        }
+        given(self.held.received[place + 2], self.clock)
+    }
+
+    // Sets the clock back by half of what it can show, with the times of the words. Each place is looked at soon.
     fn set_clock_back(&mut self)
-        requires { self.old.clock ≡ 2 ^ 32 - 1 }
+        requires clock { self.old.clock ≡ 2 ^ 32 - 1 }
+        requires count { length self.old.held.dues ≡ length self.old.held.received.items }
         ensures clock { self.new.clock ≡ 2 ^ 31 - 1 }
         ensures index { self.new.index ≡ self.old.index }
-        ensures received { self.new.received.items ≡ map set_back self.old.received.items }
+        ensures rules { self.new.rules ≡ self.old.rules }
+        ensures changed { self.new.held.changed ≡ self.old.held.changed }
+        ensures received { self.new.held.received.items
+            ≡ map set_back self.old.held.received.items }
+        ensures count { length self.new.held.dues ≡ length self.old.held.dues }
+        ensures soon { (q : ℕ) → slice_index self.new.held.dues q ≡ 0 }
     {
         self.clock -= HALF;
-        for received in self.received.iter_mut() {
+        for received in self.held.received.iter_mut() {
             *received = set_back(*received);
         }
-    }
-
-    // The value of one source.
-    fn source_value(&self, parameter: &Param, source: &WordSource, place: usize) -> Option<i64>
-        requires sound { IsSoundSource (source_of source.now) }
-        requires place { place < length self.now.received.items }
-        ensures value { result ≡ held_value parameter.now.kind parameter.now.stale
-            (source_of source.now) self.now.clock
-            (slice_index_or self.now.received.items place None) }
-        ensures bound { IfSome result (IsValueOf parameter.now.kind) }
-    {
-        let received = self.received[place]?;
-        if self.clock.saturating_sub(received.at) > parameter.stale {
-            return None;
-        }
-        reading(parameter.kind, source, &Word::new(received.bits))
-    }
-}
-
-// The same word, where the clock is set back.
-fn set_back(received: Option<Received>) -> Option<Received>
-    ensures { result ≡ set_back received }
-{
-    let received = received?;
-    Some(Received {
-        bits: received.bits,
-        at: received.at.saturating_sub(HALF),
-    })
-}
-
-// A word of odd parity comes: each source that listens to its bus and label, and names its SDI or none, takes it.
-fn receive(
-    table: &mut Vec<Option<Received>>,
-    index: &Index,
-    params: &[Param],
-    bus: u8,
-    received: Received,
-)
-    requires odd { IsTrue (is_odd received.bits) }
-    requires index { IsIndex (map parameter_of params.now) index.now }
-    requires length { length table.old.items ≡ 3 * length params.now }
-    ensures length { length table.new.items ≡ length table.old.items }
-    ensures received { (q : ℕ) → slice_index_or table.new.items q None
-        ≡ (if takes_at (map parameter_of params.now) (record { bus = bus; bits = received.bits }) q
-        then Some received else slice_index_or table.old.items q None) }
-{
-    let word = Word::new(received.bits);
-    let mut next = index.last(bus, word.label());
-    while let Some(place) = next {
-        let place = usize::from(place);
-        if has_sdi(params, place, &word) {
-            table[place] = Some(received);
-        }
-        next = index.before(place);
+        let count = self.held.received.len();
+        look_soon(&mut self.held.dues, count);
     }
 }

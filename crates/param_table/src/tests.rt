@@ -110,7 +110,10 @@ fn words_give_values(rt: HostRuntime) -> Result<(), Fail> {
     table.take(&book, 0, 0x0000041d);
     assert_eq!(rt; table.value(&book, 0), Some(-12345));
     assert_eq!(rt; table.value(&book, 1), Some(1));
+    assert_eq!(rt; table.changed(&book, 0), Some(0));
+    assert_eq!(rt; table.changed(&book, 1), Some(1));
     table.tick(&book);
+    assert_eq!(rt; table.changed(&book, 0), None);
     // A number with another SDI, one with the source's own, and a discrete of even parity.
     table.take(&book, 0, 0x848d161e);
     assert_eq!(rt; table.value(&book, 0), Some(-12345));

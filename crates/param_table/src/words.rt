@@ -1,15 +1,12 @@
 // What words say to sources.
-ghost use Rattle.std.specs.Prelude.{◌≡◌, map, IfSome};
-ghost use Rattle.std.specs.Option.{option_map_or};
+ghost use Rattle.std.specs.Prelude.{◌≡◌, IfSome};
 ghost use Rattle.ecam_spec.specs.KeepsLimits.{IsSoundSource};
 ghost use Rattle.ecam_spec.specs.Value.{reading, has_sdi};
-ghost use Rattle.book_model.specs.View.{source_of, parameter_of};
-ghost use Rattle.param_table.specs.Places.{source_at, passes};
+ghost use Rattle.book_model.specs.View.{source_of};
 ghost use Rattle.param_table.specs.TableState.{IsValueOf};
 
-use crate::place::source_at;
 use arinc_words::Word;
-use book_model::{Kind, Param, WordSource};
+use book_model::{Kind, WordSource};
 
 /// What a word says to a source of a parameter of this kind.
 #[tactic(auto, unfolding(ecam_spec::specs::Value::reading))]
@@ -25,15 +22,12 @@ pub fn reading(kind: Kind, source: &WordSource, word: &Word) -> Option<i64>
     }
 }
 
-/// Whether the source at a place names no SDI, or the word's.
-pub fn has_sdi(params: &[Param], place: usize, word: &Word) -> bool
-    ensures { result ≡ passes (λ s. has_sdi s.sdi word.now) (map parameter_of params.now) place }
+/// Whether a source names no SDI, or the word's.
+pub fn has_sdi(source: &WordSource, word: &Word) -> bool
+    ensures { result ≡ has_sdi source.now.sdi word.now }
 {
-    match source_at(params, place) {
-        None => false,
-        Some(source) => match source.sdi {
-            None => true,
-            Some(sdi) => word.sdi() == sdi,
-        },
+    match source.sdi {
+        None => true,
+        Some(sdi) => word.sdi() == sdi,
     }
 }

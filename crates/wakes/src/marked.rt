@@ -1,5 +1,5 @@
 // A set of numbers that is gone through in their order.
-ghost use Rattle.std.specs.Prelude.{◌≡◌, ℕ, ◌*◌, ◌/◌, ◌<◌, ◌≤◌, ◌^◌, ◌==◌, ◌||◌, ◌&&◌, not, true, false, List, length, IfOk};
+ghost use Rattle.std.specs.Prelude.{◌≡◌, ℕ, ◌+◌, ◌*◌, ◌/◌, ◌<◌, ◌≤◌, ◌^◌, ◌==◌, ◌||◌, ◌&&◌, not, true, false, List, length, IfOk};
 ghost use Rattle.std.specs.Int.{bit_at};
 ghost use Rattle.wakes.specs.Marks.{is_marked, room, Finds};
 
@@ -26,6 +26,7 @@ impl Marked {
     pub fn new(alloc: Global, count: usize) -> Result<Marked, AllocError>
         requires { count < 2 ^ 32 }
         ensures room { IfOk result (λ s. count ≤ room s) }
+        ensures size { IfOk result (λ s. room s ≡ 64 * (count / 64 + 1)) }
         ensures none { IfOk result (λ s. (i : ℕ) → is_marked s i ≡ false) }
     {
         Ok(Marked {
@@ -39,6 +40,14 @@ impl Marked {
         ensures none { (i : ℕ) → is_marked self.new i ≡ false }
     {
         self.words.fill(0);
+    }
+
+    /// Takes over the numbers of another set of the same room. Its cost is one write for each 64 numbers.
+    pub fn copy_from(&mut self, other: &Marked)
+        requires { room self.old ≡ room other.now }
+        ensures { self.new ≡ other.now }
+    {
+        self.words.copy_from_slice(&other.words);
     }
 
     /// Puts a number in. Its cost is one write.

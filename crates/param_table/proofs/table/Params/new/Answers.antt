@@ -1,15 +1,17 @@
-use Rattle.std.proofs.Common.{◌≡◌, ℕ, zero, suc, ◌*◌, ◌-◌, [], ◌++◌, take, length, map, replicate, None, All, refl, sym, ap, ◌∙◌, subst, arith}
+use Rattle.std.proofs.Common.{◌≡◌, ℕ, zero, suc, ◌+◌, ◌*◌, ◌-◌, ◌/◌, [], ◌++◌, take, length, map, replicate, None, All, refl, sym, ap, ◌∙◌, subst, arith}
 use Rattle.std.proofs.lemmas.List.{length-replicate, length-map}
+use Rattle.wakes.specs.Tournament.{never}
 use Rattle.book_model.specs.View.{parameter_of}
 use Rattle.book_model.specs.Sealed.{the_book}
 use Rattle.ecam_spec.specs.KeepsLimits.{IsSoundParameter}
 use Rattle.param_table.specs.Listening.{IsIndex}
+use Rattle.param_table.specs.Rules.{AreRules}
 use Rattle.param_table.specs.TableState.{ParamsFit}
 use Rattle.book_model.proofs.BookLists.{book-parameters}
 use Rattle.book_model.proofs.BookLimits.{sizes}
-use Rattle.param_table.proofs.Tables.{start, book_sound}
+use Rattle.param_table.proofs.Tables.{start, book_sound, held_none}
 use Rattle.param_table.proofs.table.Params.new.Goals as goal
-use Rattle.param_table.proofs.table.Params.new.Goals.{In_ok-resize}
+use Rattle.param_table.proofs.table.Params.new.Goals.{In_ok-dues}
 
 pub new-requires-clause-few : goal.new-requires-clause-few
 new-requires-clause-few c = rw c.params-params.ensures.value (sizes c.args.book.now c.params-params.ensures.sealed).params
@@ -19,27 +21,47 @@ new-requires-clause-sound c =
     let sound : All IsSoundParameter (map parameter_of c.args.book.now.params.items) = subst (All IsSoundParameter) (book-parameters c.args.book.now) (book_sound c.args.book.now c.params-params.ensures.sealed) in
     rw c.params-params.ensures.value sound
 
+pub new-requires-2 : goal.new-requires-2
+new-requires-2 c = omega (arith, (sizes c.args.book.now c.params-params.ensures.sealed).params, ap length c.params-params.ensures.value)
+
+pub new-requires-3 : goal.new-requires-3
+new-requires-3 c = omega (arith, (sizes c.args.book.now c.params-params.ensures.sealed).params, ap length c.params-params.ensures.value)
+
 filled : {X : Type 0} (n : ℕ) (x : X) → take n [] ++ replicate (n - 0) x ≡ replicate n x
 filled zero x = refl
 filled (suc n) x = let same : suc n - 0 ≡ suc n = omega arith in ap (λ k. replicate k x) same
 
 -- nothing has come yet
-blank : (c : In_ok-resize) → c.resize.new.self.items ≡ replicate (3 * length c.params-params.result.now) None
+blank : (c : In_ok-dues) → c.resize.new.self.items ≡ replicate (3 * length c.params-params.result.now) None
 blank c = c.in_ok-resize.ensures.items ∙ rw (c.new-received.ensures.items, c.new-received.ensures.len) (filled (3 * length c.params-params.result.now) None)
 
-fits : (c : In_ok-resize) → ParamsFit (the_book c.args.book.now) (record { clock = 0; received = c.resize.new.self; index = c.in_ok-index.index })
+-- the parameters that were read are the book's
+read : (c : In_ok-dues) → map parameter_of c.params-params.result.now ≡ (the_book c.args.book.now).parameters
+read c = ap (map parameter_of) c.params-params.ensures.value ∙ sym (book-parameters c.args.book.now)
+
+many : (c : In_ok-dues) → length c.params-params.result.now ≡ length (the_book c.args.book.now).parameters
+many c = sym (length-map c.params-params.result.now parameter_of) ∙ ap length (read c)
+
+fits : (c : In_ok-dues)
+    → ParamsFit (the_book c.args.book.now)
+    (record { clock = 0; held = record { received = c.resize.new.self; changed = c.in_ok-changed.changed; dues = c.in_ok-dues.dues }; rules = c.in_ok-rules.rules; index = c.in_ok-index.index })
 fits c = record {
   sound = book_sound c.args.book.now c.params-params.ensures.sealed;
-  places =
-      ap length (blank c) ∙ length-replicate (3 * length c.params-params.result.now) None
-      ∙ ap (λ ps. 3 * length ps) c.params-params.ensures.value
-      ∙ ap (λ n. 3 * n) (sym (length-map c.args.book.now.params.items parameter_of))
-      ∙ ap (λ ps. 3 * length ps) (sym (book-parameters c.args.book.now));
-  index = subst (λ ps. IsIndex ps c.in_ok-index.index) (ap (map parameter_of) c.params-params.ensures.value ∙ sym (book-parameters c.args.book.now)) c.in_ok-index.ensures;
+  index = subst (λ ps. IsIndex ps c.in_ok-index.index) (read c) c.in_ok-index.ensures;
+  rules = subst (λ ps. AreRules ps c.in_ok-rules.rules.items) (read c) c.in_ok-rules.ensures;
+  held = record {
+    places = ap length (blank c) ∙ length-replicate (3 * length c.params-params.result.now) None ∙ ap (λ n. 3 * n) (many c);
+    room = c.in_ok-changed.ensures.size ∙ ap (λ n. 64 * (n / 64 + 1)) (many c);
+    dues = ap length c.in_ok-dues.ensures ∙ length-replicate (3 * length c.params-params.result.now) never ∙ ap (λ n. 3 * n) (many c);
+    each = λ q. held_none (the_book c.args.book.now).parameters c.resize.new.self.items (3 * length c.params-params.result.now) q (blank c);
+  };
 }
 
 pub returns-clause-fits : goal.returns-clause-fits
 returns-clause-fits c = fits c
 
 pub returns-clause-stands : goal.returns-clause-stands
-returns-clause-stands c = λ words none. start (the_book c.args.book.now) words (record { clock = 0; received = c.resize.new.self; index = c.in_ok-index.index }) (3 * length c.params-params.result.now) (fits c) none (blank c)
+returns-clause-stands c = λ words none.
+    start (the_book c.args.book.now) words
+    (record { clock = 0; held = record { received = c.resize.new.self; changed = c.in_ok-changed.changed; dues = c.in_ok-dues.dues }; rules = c.in_ok-rules.rules; index = c.in_ok-index.index })
+    (3 * length c.params-params.result.now) (fits c) none (blank c) c.in_ok-changed.ensures.none

@@ -1,0 +1,77 @@
+// A word comes to the sources that listen to it.
+ghost use Rattle.std.specs.Prelude.{◌≡◌, ℕ, ◌/◌, ◌<◌, false, is_some, length, slice_index_or, None, IsTrue, All, if◌then◌else◌};
+ghost use Rattle.ecam_spec.specs.Word.{is_odd};
+ghost use Rattle.ecam_spec.specs.KeepsLimits.{IsSoundParameter};
+ghost use Rattle.book_model.specs.Sealed.{the_book};
+ghost use Rattle.wakes.specs.Marks.{is_marked};
+ghost use Rattle.param_table.specs.Places.{takes_at};
+ghost use Rattle.param_table.specs.Listening.{IsIndex};
+ghost use Rattle.param_table.specs.Rules.{AreRules};
+ghost use Rattle.param_table.specs.HeldValues.{entry, entered};
+ghost use Rattle.param_table.specs.HeldState.{Renews};
+ghost use Rattle.param_table.specs.TableState.{HeldFits};
+
+use crate::held::Held;
+use crate::index::Index;
+use crate::rules::{Rule, entry};
+use arinc_words::Word;
+use book_model::Book;
+
+/// A word of odd parity comes: each source that listens to its bus and label, and names its SDI or none, takes it.
+pub fn receive(
+    held: &mut Held,
+    index: &Index,
+    rules: &[Option<Rule>],
+    _book: &Book,
+    clock: u32,
+    bus: u8,
+    word: &Word,
+)
+    requires odd { IsTrue (is_odd word.now) }
+    requires sound { All IsSoundParameter (the_book _book.now).parameters }
+    requires index { IsIndex (the_book _book.now).parameters index.now }
+    requires rules { AreRules (the_book _book.now).parameters rules.now }
+    requires fits { HeldFits (the_book _book.now).parameters held.old }
+    ensures fits { HeldFits (the_book _book.now).parameters held.new }
+    ensures received { (q : ℕ) → slice_index_or held.new.received.items q None
+        ≡ (if takes_at (the_book _book.now).parameters (record { bus = bus; bits = word.now }) q
+        then entry clock word.now (slice_index_or rules.now q None)
+        else slice_index_or held.old.received.items q None) }
+    ensures renews { Renews clock held.old held.new }
+    ensures others { (p : ℕ) → ((q : ℕ) → q / 3 ≡ p → takes_at (the_book _book.now).parameters
+        (record { bus = bus; bits = word.now }) q ≡ false)
+        → is_marked held.new.changed p ≡ is_marked held.old.changed p }
+{
+    let mut next = index.last(bus, word.label());
+    while let Some(place) = next {
+        let place = usize::from(place);
+        visit(held, rules, _book, clock, place, word);
+        next = index.before(place);
+    }
+}
+
+// A word comes to which the source at a place listens.
+fn visit(
+    held: &mut Held,
+    rules: &[Option<Rule>],
+    _book: &Book,
+    clock: u32,
+    place: usize,
+    word: &Word,
+)
+    requires sound { All IsSoundParameter (the_book _book.now).parameters }
+    requires rules { AreRules (the_book _book.now).parameters rules.now }
+    requires place { place < length rules.now }
+    requires fits { HeldFits (the_book _book.now).parameters held.old }
+    ensures fits { HeldFits (the_book _book.now).parameters held.new }
+    ensures received { held.new.received.items ≡ entered (entry clock word.now
+        (slice_index_or rules.now place None)) place held.old.received.items }
+    ensures renews { Renews clock held.old held.new }
+    ensures others { (p : ℕ) → (p ≡ place / 3 → is_some (entry clock word.now
+        (slice_index_or rules.now place None)) ≡ false)
+        → is_marked held.new.changed p ≡ is_marked held.old.changed p }
+{
+    if let Some(received) = entry(rules[place], word, clock) {
+        held.renew(clock, place, received);
+    }
+}
