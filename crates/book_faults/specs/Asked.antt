@@ -50,24 +50,22 @@ module _ (asked : Asked) where
   place_in_list most breaks value =
       option_or (whole (list_fails 0 most value)) (first_item (λ i d. any_asked asked (λ rule. breaks rule d)) (members_of value))
 
+  -- a table with these keys does, where `breaks` tells of what a key holds
+  abbrev pub table_fails : {S : Type 0} → (Rule → S → Data → Bool) → List (Key S) → Members → Bool
+  table_fails breaks keys table = any_asked asked (λ rule. table_breaks (breaks rule) rule keys table)
+
 module _ (names : Names) (asked : Asked) where
-  -- a value of a leaf does, and a table with keys that hold such values
+  -- a value of a leaf does
   abbrev pub leaf_fails : Leaf → Data → Bool
   leaf_fails leaf value = any_asked asked (λ rule. leaf_breaks names rule leaf value)
-
-  abbrev pub leaf_table_fails : List (Key Leaf) → Members → Bool
-  leaf_table_fails keys table = any_asked asked (λ rule. table_breaks (leaf_breaks names rule) rule keys table)
 
   -- a table inside an item
   abbrev pub inner_fails : Inner → Data → Bool
   inner_fails inner value = any_asked asked (λ rule. inner_breaks names rule inner value)
 
-  -- what a key of an item holds, and a table with such keys
+  -- what a key of an item holds
   abbrev pub shape_fails : Shape → Data → Bool
   shape_fails shape value = any_asked asked (λ rule. shape_breaks names rule shape value)
-
-  abbrev pub shape_table_fails : List (Key Shape) → Members → Bool
-  shape_table_fails keys table = any_asked asked (λ rule. table_breaks (shape_breaks names rule) rule keys table)
 
   -- an item, or the table of the flight phase
   abbrev pub item_fails : Item → Data → Bool

@@ -2,6 +2,7 @@
 use Rattle.std.specs.Prelude.{ℕ, not, List, [], ◌∷◌, map, codes, Option}
 use Rattle.std.specs.Option.{option_or}
 use Rattle.toml.specs.Data.{Members, get_member}
+use Rattle.ecam_spec.specs.declared.limits.TheConstants.{SYSTEMS, SYSTEM_TEXT, PAGES, PARAMETERS, ALERTS, MEMOS}
 use Rattle.ecam_spec.specs.declared.kinds.Section.{Section}
 use Rattle.ecam_spec.specs.declared.kinds.Section.TheVariants as section
 use Rattle.ecam_spec.specs.declared.kinds.BookFault.{BookFault}
@@ -37,7 +38,7 @@ after_names =
 module _ (top : Members) where
   -- where the systems break a rule that is asked for
   abbrev pub system_fault : ℕ → Asked → Option BookFault
-  system_fault code asked = at_section top code section.System (codes "systems") (place_in_list asked 64 (λ rule. leaf_breaks (names_of top) rule (leaves.Text 16)))
+  system_fault code asked = at_section top code section.System (codes "systems") (place_in_list asked SYSTEMS (λ rule. leaf_breaks (names_of top) rule (leaves.Text SYSTEM_TEXT)))
 
   -- where a section of items does
   abbrev pub items_fault : ℕ → Asked → Section → Text → ℕ → Item → Option BookFault
@@ -54,11 +55,11 @@ module _ (top : Members) where
   unfoldable pub asked_fault : ℕ → Asked → Option BookFault
   asked_fault code asked = first_of (
       system_fault code asked
-      ∷ items_fault code asked section.Page (codes "page") 16 items.Page
-      ∷ items_fault code asked section.Param (codes "param") 1024 items.Param
+      ∷ items_fault code asked section.Page (codes "page") PAGES items.Page
+      ∷ items_fault code asked section.Param (codes "param") PARAMETERS items.Param
       ∷ phase_fault code asked
-      ∷ items_fault code asked section.Alert (codes "alert") 1024 items.Alert
-      ∷ items_fault code asked section.Memo (codes "memo") 128 items.Memo
+      ∷ items_fault code asked section.Alert (codes "alert") ALERTS items.Alert
+      ∷ items_fault code asked section.Memo (codes "memo") MEMOS items.Memo
       ∷ [])
 
   -- the first of these codes whose rule is broken

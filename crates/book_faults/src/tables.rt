@@ -9,7 +9,7 @@ ghost use Rattle.book_spec.specs.Schema as schema;
 ghost use Rattle.book_spec.specs.Rules.{leaf_breaks};
 ghost use Rattle.book_spec.specs.TableRules.{if_there, shape_breaks};
 ghost use Rattle.book_spec.specs.TableRules as spec;
-ghost use Rattle.book_faults.specs.Asked.{any_asked, keys_fail, list_fails, leaf_table_fails, inner_fails, shape_fails, shape_table_fails, item_fails};
+ghost use Rattle.book_faults.specs.Asked.{any_asked, keys_fail, list_fails, table_fails, inner_fails, item_fails};
 ghost use Rattle.book_tables.specs.Catalogue.{names_in};
 ghost use Rattle.book_faults.specs.Keys.{keys_of, key_of, key_names};
 ghost use Rattle.book_tables.specs.Reading.{views};
@@ -74,56 +74,93 @@ fn keys_break<S>(asked: Asked, keys: &[Key<S>], table: &Table) -> bool
     }
 }
 
-fn leaf_at_breaks(
+/// What a key holds: a value without tables, or tables.
+trait Held: Copy {
+    ghost use Rattle.std.specs.Prelude.{Bool};
+    ghost use Rattle.toml.specs.Data.{Data};
+    ghost use Rattle.book_spec.specs.Rules.{Names};
+    ghost use Rattle.book_spec.specs.declared.schema.Rule.{Rule};
+
+    /// Whether a value that it is to hold breaks a rule.
+    ghost fails: { Names → Rule → Self → Data → Bool };
+
+    /// Whether a value that it is to hold breaks a rule that is asked for.
+    fn breaks(
+        self,
+        alloc: Global,
+        asked: Asked,
+        names: &Catalogue<'_>,
+        value: &Value,
+    ) -> Result<bool, AllocError>
+        ensures { IfOk result (λ b. b ≡ any_asked asked
+            (λ rule. fails (names_in names.now) rule self (view value.now))) };
+}
+
+fn value_at_breaks<S: Held>(
     alloc: Global,
     asked: Asked,
     names: &Catalogue<'_>,
-    key: &Key<Leaf>,
+    key: &Key<S>,
     table: &Table,
 ) -> Result<bool, AllocError>
     ensures { IfOk result (λ b. b ≡ any_asked asked
-        (λ rule. if_there (leaf_breaks (names_in names.now) rule key.now.holds)
+        (λ rule. if_there (S.fails (names_in names.now) rule key.now.holds)
         (get_member key.now.name.now (table_view table.now)))) }
 {
     match find(table, key.name) {
-        Some(value) => leaf_breaks(alloc, asked, names, key.holds, value),
+        Some(value) => key.holds.breaks(alloc, asked, names, value),
         None => Ok(false),
     }
 }
 
-fn leaves_break(
+fn values_break<S: Held>(
     alloc: Global,
     asked: Asked,
     names: &Catalogue<'_>,
-    keys: &[Key<Leaf>],
+    keys: &[Key<S>],
     table: &Table,
 ) -> Result<bool, AllocError>
     ensures { IfOk result (λ b. b ≡ list_any (λ k. any_asked asked
-        (λ rule. if_there (leaf_breaks (names_in names.now) rule k.holds)
+        (λ rule. if_there (S.fails (names_in names.now) rule k.holds)
         (get_member k.name (table_view table.now)))) (keys_of keys.now)) }
 {
     for key in keys {
-        if leaf_at_breaks(alloc, asked, names, key, table)? {
+        if value_at_breaks(alloc, asked, names, key, table)? {
             return Ok(true);
         }
     }
     Ok(false)
 }
 
-fn inner_table_breaks(
+/// Whether a table with these keys breaks a rule that is asked for.
+fn table_breaks<S: Held>(
     alloc: Global,
     asked: Asked,
     names: &Catalogue<'_>,
-    keys: &[Key<Leaf>],
+    keys: &[Key<S>],
     table: &Table,
 ) -> Result<bool, AllocError>
-    ensures { IfOk result (λ b. b ≡ leaf_table_fails (names_in names.now) asked (keys_of keys.now)
-        (table_view table.now)) }
+    ensures { IfOk result (λ b. b ≡ table_fails asked (S.fails (names_in names.now))
+        (keys_of keys.now) (table_view table.now)) }
 {
     if keys_break(asked, keys, table) {
         return Ok(true);
     }
-    leaves_break(alloc, asked, names, keys, table)
+    values_break(alloc, asked, names, keys, table)
+}
+
+impl Held for Leaf {
+    ghost fails = { leaf_breaks };
+
+    fn breaks(
+        self,
+        alloc: Global,
+        asked: Asked,
+        names: &Catalogue<'_>,
+        value: &Value,
+    ) -> Result<bool, AllocError> {
+        leaf_breaks(alloc, asked, names, self, value)
+    }
 }
 
 #[tactic(auto, unfolding(book_spec::specs::Schema::inner_keys, book_spec::specs::Schema::row_keys))]
@@ -133,13 +170,13 @@ fn row_breaks(
     names: &Catalogue<'_>,
     table: &Table,
 ) -> Result<bool, AllocError>
-    ensures { IfOk result (λ b. b ≡ leaf_table_fails (names_in names.now) asked
+    ensures { IfOk result (λ b. b ≡ table_fails asked (leaf_breaks (names_in names.now))
         (schema.inner_keys Inner.Row (table_view table.now)) (table_view table.now)) }
 {
     if find(table, "show").is_some() {
-        inner_table_breaks(alloc, asked, names, &value_row_keys(), table)
+        table_breaks(alloc, asked, names, &value_row_keys(), table)
     } else {
-        inner_table_breaks(alloc, asked, names, &text_row_keys(), table)
+        table_breaks(alloc, asked, names, &text_row_keys(), table)
     }
 }
 
@@ -150,14 +187,14 @@ fn source_breaks(
     kind: Option<Kind>,
     table: &Table,
 ) -> Result<bool, AllocError>
-    ensures { IfOk result (λ b. b ≡ leaf_table_fails (names_in names.now) asked
+    ensures { IfOk result (λ b. b ≡ table_fails asked (leaf_breaks (names_in names.now))
         (schema.source_keys kind) (table_view table.now)) }
 {
     match kind {
-        Some(Kind::Disc) => inner_table_breaks(alloc, asked, names, &disc_keys(), table),
-        Some(Kind::Bnr) => inner_table_breaks(alloc, asked, names, &bnr_keys(), table),
-        Some(Kind::Bcd) => inner_table_breaks(alloc, asked, names, &bcd_keys(), table),
-        None => inner_table_breaks(alloc, asked, names, &any_source_keys(), table),
+        Some(Kind::Disc) => table_breaks(alloc, asked, names, &disc_keys(), table),
+        Some(Kind::Bnr) => table_breaks(alloc, asked, names, &bnr_keys(), table),
+        Some(Kind::Bcd) => table_breaks(alloc, asked, names, &bcd_keys(), table),
+        None => table_breaks(alloc, asked, names, &any_source_keys(), table),
     }
 }
 
@@ -169,14 +206,14 @@ fn keyed_inner_breaks(
     inner: Inner,
     table: &Table,
 ) -> Result<bool, AllocError>
-    ensures { IfOk result (λ b. b ≡ leaf_table_fails (names_in names.now) asked
+    ensures { IfOk result (λ b. b ≡ table_fails asked (leaf_breaks (names_in names.now))
         (schema.inner_keys inner (table_view table.now)) (table_view table.now)) }
 {
     match inner {
         Inner::Row => row_breaks(alloc, asked, names, table),
         Inner::Source(kind) => source_breaks(alloc, asked, names, kind, table),
-        Inner::Line => inner_table_breaks(alloc, asked, names, &line_keys(), table),
-        Inner::Status => inner_table_breaks(alloc, asked, names, &status_keys(), table),
+        Inner::Line => table_breaks(alloc, asked, names, &line_keys(), table),
+        Inner::Status => table_breaks(alloc, asked, names, &status_keys(), table),
     }
 }
 
@@ -238,78 +275,27 @@ pub(crate) fn list_breaks(asked: Asked, low: usize, high: usize, value: &Value) 
     }
 }
 
-/// Whether what a key of an item holds breaks a rule that is asked for.
-#[tactic(auto, unfolding(book_spec::specs::TableRules::shape_breaks))]
-fn shape_breaks(
-    alloc: Global,
-    asked: Asked,
-    names: &Catalogue<'_>,
-    shape: Shape,
-    value: &Value,
-) -> Result<bool, AllocError>
-    ensures { IfOk result (λ b. b ≡ shape_fails (names_in names.now) asked shape (view value.now)) }
-{
-    match shape {
-        Shape::Leaf(leaf) => leaf_breaks(alloc, asked, names, leaf, value),
-        Shape::Tables(inner, low, high) => {
-            if list_breaks(asked, low, high, value) {
-                return Ok(true);
+impl Held for Shape {
+    ghost fails = { shape_breaks };
+
+    #[tactic(auto, unfolding(book_spec::specs::TableRules::shape_breaks))]
+    fn breaks(
+        self,
+        alloc: Global,
+        asked: Asked,
+        names: &Catalogue<'_>,
+        value: &Value,
+    ) -> Result<bool, AllocError> {
+        match self {
+            Shape::Leaf(leaf) => leaf_breaks(alloc, asked, names, leaf, value),
+            Shape::Tables(inner, low, high) => {
+                if list_breaks(asked, low, high, value) {
+                    return Ok(true);
+                }
+                any_inner_breaks(alloc, asked, names, inner, members_of(value))
             }
-            any_inner_breaks(alloc, asked, names, inner, members_of(value))
         }
     }
-}
-
-fn shape_at_breaks(
-    alloc: Global,
-    asked: Asked,
-    names: &Catalogue<'_>,
-    key: &Key<Shape>,
-    table: &Table,
-) -> Result<bool, AllocError>
-    ensures { IfOk result (λ b. b ≡ any_asked asked
-        (λ rule. if_there (shape_breaks (names_in names.now) rule key.now.holds)
-        (get_member key.now.name.now (table_view table.now)))) }
-{
-    match find(table, key.name) {
-        Some(value) => shape_breaks(alloc, asked, names, key.holds, value),
-        None => Ok(false),
-    }
-}
-
-fn shapes_break(
-    alloc: Global,
-    asked: Asked,
-    names: &Catalogue<'_>,
-    keys: &[Key<Shape>],
-    table: &Table,
-) -> Result<bool, AllocError>
-    ensures { IfOk result (λ b. b ≡ list_any (λ k. any_asked asked
-        (λ rule. if_there (shape_breaks (names_in names.now) rule k.holds)
-        (get_member k.name (table_view table.now)))) (keys_of keys.now)) }
-{
-    for key in keys {
-        if shape_at_breaks(alloc, asked, names, key, table)? {
-            return Ok(true);
-        }
-    }
-    Ok(false)
-}
-
-fn item_table_breaks(
-    alloc: Global,
-    asked: Asked,
-    names: &Catalogue<'_>,
-    keys: &[Key<Shape>],
-    table: &Table,
-) -> Result<bool, AllocError>
-    ensures { IfOk result (λ b. b ≡ shape_table_fails (names_in names.now) asked (keys_of keys.now)
-        (table_view table.now)) }
-{
-    if keys_break(asked, keys, table) {
-        return Ok(true);
-    }
-    shapes_break(alloc, asked, names, keys, table)
 }
 
 #[tactic(auto, unfolding(book_spec::specs::Schema::item_keys))]
@@ -320,15 +306,15 @@ fn keyed_item_breaks(
     item: Item,
     table: &Table,
 ) -> Result<bool, AllocError>
-    ensures { IfOk result (λ b. b ≡ shape_table_fails (names_in names.now) asked
+    ensures { IfOk result (λ b. b ≡ table_fails asked (shape_breaks (names_in names.now))
         (schema.item_keys item (table_view table.now)) (table_view table.now)) }
 {
     match item {
-        Item::Page => item_table_breaks(alloc, asked, names, &page_keys(), table),
-        Item::Param => item_table_breaks(alloc, asked, names, &param_keys(kind_at(table)), table),
-        Item::Phase => item_table_breaks(alloc, asked, names, &phase_keys(), table),
-        Item::Alert => item_table_breaks(alloc, asked, names, &alert_keys(), table),
-        Item::Memo => item_table_breaks(alloc, asked, names, &memo_keys(), table),
+        Item::Page => table_breaks(alloc, asked, names, &page_keys(), table),
+        Item::Param => table_breaks(alloc, asked, names, &param_keys(kind_at(table)), table),
+        Item::Phase => table_breaks(alloc, asked, names, &phase_keys(), table),
+        Item::Alert => table_breaks(alloc, asked, names, &alert_keys(), table),
+        Item::Memo => table_breaks(alloc, asked, names, &memo_keys(), table),
     }
 }
 

@@ -2,6 +2,7 @@
 ghost use Rattle.std.specs.Prelude.{◌≡◌, ◌≤◌, codes, bit_or, option_map, unwrap_or, true, IfSome};
 ghost use Rattle.toml.specs.Data.{no_members};
 ghost use Rattle.toml.specs.View.{view, table_view};
+ghost use Rattle.ecam_spec.specs.declared.limits.TheConstants.{TEXT};
 ghost use Rattle.ecam_spec.specs.TermNumber.{one_phase};
 ghost use Rattle.book_spec.specs.Fields.{label_at};
 ghost use Rattle.book_spec.specs.Schema.{colour_words, sound_words, section_words, zone_words, kind_at};
@@ -41,7 +42,7 @@ pub(crate) fn name_or_none(table: &Table) -> Name
 
 /// The text of at most `most` bytes at a key, or the empty one.
 pub(crate) fn text_or_none(table: &Table, most: usize, key: &str) -> Text
-    requires { most ≤ 36 }
+    requires { most ≤ TEXT }
     ensures { result.bytes ≡ defaults.text_or_none most key.now (table_view table.now) }
 {
     match text_at(table, most, key) {

@@ -1,6 +1,7 @@
 // The pages of a book, and their rows.
 ghost use Rattle.std.specs.Prelude.{◌≡◌, ◌≤◌, map, codes, option_map, IfOk};
 ghost use Rattle.toml.specs.View.{view, table_view};
+ghost use Rattle.ecam_spec.specs.declared.limits.TheConstants.{TEXT};
 ghost use Rattle.ecam_spec.specs.KeepsLimits.{row_text_limit};
 ghost use Rattle.book_model.specs.View.{bytes_of, row_of, page_of};
 ghost use Rattle.book_spec.specs.Fields.{text_at};
@@ -37,7 +38,7 @@ fn shown(names: &Catalogue<'_>, table: &Table) -> Option<u32>
 
 fn row_text(show: Option<u32>) -> usize
     ensures value { result ≡ row_text_limit show }
-    ensures within { result ≤ 36 }
+    ensures within { result ≤ TEXT }
 {
     match show {
         Some(_) => VALUE_TEXT,

@@ -68,6 +68,7 @@ fn four(a: u8, b: u8, c: u8, d: u8) -> u64
 }
 
 // The bits of eight hexadecimal digits, highest first.
+#[inline(always)]
 fn bits(a: u8, b: u8, c: u8, d: u8, e: u8, f: u8, g: u8, h: u8) -> Option<u32>
     ensures { result ≡ bits_of (a ∷ b ∷ c ∷ d ∷ e ∷ f ∷ g ∷ h ∷ []) }
 {

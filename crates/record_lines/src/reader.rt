@@ -137,6 +137,9 @@ impl LineReader {
         if let Some(answer) = self.settled() {
             return answer;
         }
+        if let Some(event) = self.common() {
+            return Ok(event);
+        }
         'pieces: loop {
             if let Some(answer) = self.found() {
                 return answer;
@@ -188,22 +191,22 @@ impl LineReader {
         ensures gone { IfNone result (self.new.stage ≡ Stage.Lines → self.new.pending ≡ []) }
     {
         match self.stage {
-            Stage::Lines => match self.common() {
-                Some(event) => Some(Ok(event)),
-                None => self.read_line(),
-            },
+            Stage::Lines => self.read_line(),
             _ => None,
         }
     }
 
     // The event of a line of the common forms that lies whole in the piece, and goes past it; else nothing is changed.
     fn common(&mut self) -> Option<Event>
-        requires { self.old.stage ≡ Stage.Lines }
+        ensures lines { IfSome result (λ _. self.old.stage ≡ Stage.Lines) }
         ensures given { IfSome result (λ e. Gives self.old self.new (Ok e)) }
         ensures other { IfSome result (λ e. is_end_event e ≡ false) }
         ensures whole { IfSome result (λ _. reads_next self.old ≡ false) }
         ensures same { IfNone result (self.new ≡ self.old) }
     {
+        let Stage::Lines = self.stage else {
+            return None;
+        };
         if !self.line.is_empty() {
             return None;
         }

@@ -1,6 +1,7 @@
 -- The line is the piece's first, and no part of it came before.
 use Rattle.std.proofs.Common.{◌≡◌, ◌++◌, ◌+◌, ◌≤◌, [], ap, sym, ◌∙◌, subst, arith, length, take, drop, Some, length-drop, length-take}
 use Rattle.ecam_spec.specs.RecordLine.{event_of}
+use Rattle.record_lines.specs.declared.outcome.Stage.TheVariants.{Lines}
 use Rattle.record_lines.specs.Line.{IsCommon}
 use Rattle.record_lines.specs.contracts.reader.LineReader.{the_view}
 use Rattle.record_lines.proofs.Went.{inside, empty_from}
@@ -15,6 +16,9 @@ none c = sym (ap (λ r. r.line) c.self.view_is) ∙ empty_from c.self.inside.lin
 
 found : (c : After-self-1) → IsCommon c.args.self.now.pending (c.in-Some.event, c.in-Some.at)
 found c = subst (λ l. IsCommon l (c.in-Some.event, c.in-Some.at)) (c.bytes.ensures.all ∙ ap (λ r. r.pending) c.self.view_is) c.in-Some.ensures
+
+lines : (c : After-self-1) → c.args.self.now.stage ≡ Lines
+lines c = sym (ap (λ r. r.stage) c.self.view_is) ∙ c.in-Lines.is
 
 says : (c : After-self-1) → event_of (c.args.self.now.line ++ take c.in-Some.at c.args.self.now.pending) ≡ Some c.in-Some.event
 says c = ap (λ l. event_of (l ++ take c.in-Some.at c.args.self.now.pending)) (none c) ∙ (found c).event
@@ -32,12 +36,12 @@ returns-clause-given c =
       over_is = ap (λ r. r.over) is;
     } in
     let fits : length old.line + c.in-Some.at ≤ 32 = omega (arith, ap length (none c), (found c).few) in
-    line_gives c.in-Some.at old new c.in-Some.event (found c).feed fits (says c) past c.requires (ap (λ r. r.stage) is ∙ c.requires) (found c).other
+    line_gives c.in-Some.at old new c.in-Some.event (found c).feed fits (says c) past (lines c) (ap (λ r. r.stage) is ∙ lines c) (found c).other
 
 pub returns-clause-whole : goal.returns-clause-whole
 returns-clause-whole c =
     let old = c.args.self.now in
-    needs-line old c.requires c.in-Some.at (found c).feed
+    needs-line old (lines c) c.in-Some.at (found c).feed
     (is_end-event (old.line ++ take c.in-Some.at old.pending) c.in-Some.event (says c) ∙ (found c).other)
 
 pub invariant_of-self : goal.invariant_of-self

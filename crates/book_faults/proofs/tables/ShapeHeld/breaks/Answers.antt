@@ -4,7 +4,7 @@ use Rattle.toml.specs.View.{view}
 use Rattle.book_faults.specs.Asked.{list_fails, inner_fails, shape_fails}
 use Rattle.book_tables.specs.Catalogue.{names_in}
 use Rattle.book_faults.proofs.EveryRule.{list_or_members, of_both}
-use Rattle.book_faults.proofs.tables.shape_breaks.Goals as goal
+use Rattle.book_faults.proofs.tables.ShapeHeld.breaks.Goals as goal
 
 pub returns-else-list_breaks : goal.returns-else-list_breaks
 returns-else-list_breaks c =
