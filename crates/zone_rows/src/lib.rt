@@ -6,8 +6,6 @@
 mod fill;
 pub mod laws;
 mod row;
-#[cfg(test)]
-mod tests;
 
 pub use fill::{blank_rest, put_next};
 pub use row::set_row;

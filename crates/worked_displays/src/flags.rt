@@ -1,6 +1,6 @@
 // The flags in each of their sixteen combinations, and the lamps with each sound.
-use super::{LeftCount, fill_flags, fill_lamps};
 use ecam_kinds::{Colour, Picture, ROWS, Sound};
+use warning_display::{LeftCount, fill_flags, fill_lamps};
 
 #[test]
 fn flags_stand_in_their_order(rt: HostRuntime) {

@@ -1,6 +1,6 @@
 // A zone of three rows, filled twice: which rows stand, and which are told as changed.
-use super::{blank_rest, put_next, set_row};
 use ecam_kinds::{Colour, Picture, ROWS};
+use zone_rows::{blank_rest, put_next, set_row};
 
 // Fills the zone of three rows from the eighth on with these texts in amber.
 fn fill(picture: &mut Picture, changed: &mut [bool; ROWS], texts: &[&[u8]]) -> usize {

@@ -1,17 +1,21 @@
-// The keys of a small book, moment by moment, and a page of it by its values. What is expected follows from the rules
-// by hand.
+// The keys of a small book, moment by moment. What is expected follows from the rules by hand.
 ghost use Rattle.std.specs.Prelude.{◌<◌, ◌≤◌, ◌+◌, ◌^◌, length, IfSome};
 ghost use Rattle.book_model.specs.Sealed.{the_book};
-ghost use Rattle.system_display.specs.Pages.{IsShort};
 ghost use Rattle.system_display.specs.Selecting.{SelectorFits};
 
-mod book;
-
-use crate::{Choice, Selector, fill_page};
-use book::draft;
+use super::book_of;
 use book_model::Book;
-use ecam_kinds::{Colour, Key, Keys, Picture, ROWS};
+use ecam_kinds::{Key, Keys};
 use std::test::Fail;
+use system_display::{Choice, Selector};
+
+// Three pages, a caution and a warning.
+const BOOK: &str = "version = 1\nsystems = [\"HYD\"]\n\
+[[page]]\nname = \"p1\"\ntitle = \"P1\"\n\
+[[page]]\nname = \"p2\"\ntitle = \"P2\"\n\
+[[page]]\nname = \"p3\"\ntitle = \"P3\"\n\
+[[alert]]\nname = \"caution\"\ntitle = \"CAUTION\"\nsystem = \"HYD\"\nlevel = 2\nwhen = \"true\"\n\
+[[alert]]\nname = \"warning\"\ntitle = \"WARNING\"\nsystem = \"HYD\"\nlevel = 3\nwhen = \"true\"\n";
 
 // The stroke that a letter stands for: STS, CLR, EMER CANC of the caution, of the warning and of nothing, ALL down and
 // up, and the first five pages, of which the book has three.
@@ -112,8 +116,7 @@ fn right_rows(book: &Book, rows: &[(&[u8], u8, &[u8], bool)]) -> usize
 
 #[test]
 fn keys_select(rt: HostRuntime) -> Result<(), Fail> {
-    let alloc = rt.alloc();
-    let book = Book::build(alloc, draft(alloc)?)?;
+    let book = book_of(rt.alloc(), BOOK)?;
     let rows: [(&[u8], u8, &[u8], bool); 42] = [
         (b"", 1, b"--", false),
         // STS shows one page further with each press, and after CLR the first
@@ -171,155 +174,5 @@ fn keys_select(rt: HostRuntime) -> Result<(), Fail> {
     let before = Selector::new();
     assert!(rt; before.choice() == Choice::Auto && !before.changed());
     assert_eq!(rt; right_rows(&book, &rows), 42);
-    Ok(())
-}
-
-// A value of at most eight places.
-fn short(value: Option<i64>) -> Option<i64>
-    ensures { IfSome result IsShort }
-{
-    match value {
-        Some(z) if -1000000 <= z && z <= 1000000 => Some(z),
-        _ => None,
-    }
-}
-
-// Shows a page of the book, if it has it, with these values of its two parameters.
-fn show(
-    book: &Book,
-    page: Option<usize>,
-    values: (Option<i64>, Option<i64>),
-    picture: &mut Picture,
-    changed: &mut [bool; ROWS],
-) {
-    let values = [short(values.0), short(values.1)];
-    let page = match page {
-        Some(page) if page < book.pages().len() => Some(page),
-        _ => None,
-    };
-    if book.params().len() == 2 {
-        fill_page(book, page, &values, picture, changed);
-    }
-}
-
-// Whether a row of the system display, from 0, has this colour and this text.
-fn is_row(picture: &Picture, place: usize, colour: Colour, text: &[u8]) -> bool {
-    place < 18
-        && picture.rows[15 + place].colour == colour
-        && picture.rows[15 + place].text.as_slice() == text
-}
-
-// Which of the first six rows of the system display changed, as letters.
-fn are_changed(changed: &[bool; ROWS], letters: &[u8]) -> bool {
-    letters.len() == 6 && (0..6usize).all(|i| changed[15 + i] == (letters[i] == b'*'))
-}
-
-#[test]
-fn a_page_shows_its_values(rt: HostRuntime) -> Result<(), Fail> {
-    let alloc = rt.alloc();
-    let book = Book::build(alloc, draft(alloc)?)?;
-    // A number and a discrete, S02 to S04, and which of the rows S01 to S06 changed.
-    let rows: [(Option<i64>, Option<i64>, &[u8], &[u8], &[u8], &[u8]); 8] = [
-        (
-            Some(3000),
-            Some(1),
-            b"GREEN PRESS                 3000 PSI",
-            b"PUMP                          ON",
-            b"QTY                         3000",
-            b"*****-",
-        ),
-        (
-            Some(0),
-            Some(0),
-            b"GREEN PRESS                    0 PSI",
-            b"PUMP                         OFF",
-            b"QTY                            0",
-            b"-***--",
-        ),
-        (
-            None,
-            None,
-            b"GREEN PRESS                   XX PSI",
-            b"PUMP                          XX",
-            b"QTY                           XX",
-            b"-***--",
-        ),
-        (
-            Some(-1000000),
-            Some(1),
-            b"GREEN PRESS             -1000000 PSI",
-            b"PUMP                          ON",
-            b"QTY                     -1000000",
-            b"-***--",
-        ),
-        (
-            Some(1000000),
-            Some(1),
-            b"GREEN PRESS              1000000 PSI",
-            b"PUMP                          ON",
-            b"QTY                      1000000",
-            b"-*-*--",
-        ),
-        (
-            Some(12345),
-            Some(1),
-            b"GREEN PRESS                12345 PSI",
-            b"PUMP                          ON",
-            b"QTY                        12345",
-            b"-*-*--",
-        ),
-        (
-            Some(-12345),
-            Some(1),
-            b"GREEN PRESS               -12345 PSI",
-            b"PUMP                          ON",
-            b"QTY                       -12345",
-            b"-*-*--",
-        ),
-        (
-            Some(-12345),
-            Some(1),
-            b"GREEN PRESS               -12345 PSI",
-            b"PUMP                          ON",
-            b"QTY                       -12345",
-            b"------",
-        ),
-    ];
-    let mut picture = Picture::blank();
-    for (row, (number, bit, first, second, third, told)) in rows.iter().enumerate() {
-        let colour = if number.is_some() {
-            Colour::Green
-        } else {
-            Colour::Amber
-        };
-        let mut changed = [false; ROWS];
-        show(&book, Some(0), (*number, *bit), &mut picture, &mut changed);
-        assert!(rt; is_row(&picture, 0, Colour::White, b"HYD"), "row {row}");
-        assert!(rt; is_row(&picture, 1, colour, first), "row {row}");
-        assert!(rt; is_row(&picture, 2, colour, second), "row {row}");
-        assert!(rt; is_row(&picture, 3, colour, third), "row {row}");
-        assert!(rt; is_row(&picture, 4, Colour::Cyan, b"RESERVE"), "row {row}");
-        assert!(rt; are_changed(&changed, told), "row {row}");
-    }
-    Ok(())
-}
-
-#[test]
-fn pages_follow_one_another(rt: HostRuntime) -> Result<(), Fail> {
-    let alloc = rt.alloc();
-    let book = Book::build(alloc, draft(alloc)?)?;
-    let mut picture = Picture::blank();
-    let mut changed = [false; ROWS];
-    show(&book, Some(0), (None, None), &mut picture, &mut changed);
-    // A page without rows leaves its title alone. What was told as changed stays told.
-    show(&book, Some(1), (None, None), &mut picture, &mut changed);
-    assert!(rt; is_row(&picture, 0, Colour::White, b"P2"));
-    assert!(rt; is_row(&picture, 1, Colour::Blank, b""));
-    assert!(rt; are_changed(&changed, b"*****-"));
-    // Without a page nothing is left.
-    let mut changed = [false; ROWS];
-    show(&book, None, (None, None), &mut picture, &mut changed);
-    assert!(rt; is_row(&picture, 0, Colour::Blank, b""));
-    assert!(rt; are_changed(&changed, b"*-----"));
     Ok(())
 }
