@@ -12,12 +12,12 @@ ghost use Rattle.status_page.specs.StatusOf.{rows_at, status_of};
 use crate::active::{Places, gather};
 use crate::cancelled::put_cancelled;
 use crate::count::count_rows;
-use crate::place::{DISPLAY, Place, ROOM};
+use crate::place::{Place, ROOM};
 use crate::sections::put_section;
 use book_model::Book;
 use ecam_kinds::{Colour, Picture, ROWS, Row};
 use ecam_spec::limits;
-use zone_rows::{blank_rest, put_next};
+use zone_rows::{DISPLAY, blank_rest, put_next};
 
 // The rows of a page.
 const PAGE: u32 = limits::DISPLAY_ROWS as u32;
