@@ -6,5 +6,5 @@ use Rattle.worked_displays.proofs.status_pages.the_key_goes_round.Given as goal
 abbrev pub invariant-loop-row : goal.invariant-loop-row
 invariant-loop-row g l = record {
   fits : SelectorFits (the_book l.book) l.selector;
-  moments : l.selector.moments ≡ l.row;
+  moments : l.selector.moments ≡ l.row-counter;
 }
