@@ -1,8 +1,6 @@
 -- Rows passed over or put, one after another.
-use Rattle.std.proofs.Common.{◌≡◌, ℕ, ◌+◌, ◌-◌, ◌<◌, ◌≤◌, Bool, true, List, [], ◌∷◌, ◌++◌, length, take, drop, slice_get, Some, cond, refl, sym, ◌∙◌, ap, subst, arith}
-use Rattle.std.proofs.lemmas.List.{append-nil, length-append, drop-append-le, drop_all}
-use Rattle.std.proofs.lemmas.List.{take_more}
-use Rattle.std.proofs.lemmas.Option.{slice_get_within, get_or_from_slice_get}
+use Rattle.std.proofs.Common.{◌≡◌, ℕ, ◌+◌, ◌-◌, ◌<◌, ◌≤◌, Bool, true, List, [], ◌∷◌, ◌++◌, length, drop, cond, sym, ◌∙◌, subst, arith}
+use Rattle.std.proofs.lemmas.List.{append_assoc, append-nil, length-append, drop-append-le, drop_all}
 use Rattle.ecam_spec.specs.Book.{Text}
 use Rattle.ecam_spec.specs.declared.kinds.Colour.{Colour}
 use Rattle.ecam_spec.specs.Picture.{Row, row}
@@ -11,10 +9,6 @@ use Rattle.zone_rows.specs.Mended.{IsFilled, Appends}
 use Rattle.zone_rows.proofs.Filling.{fill-none}
 use Rattle.status_page.specs.declared.place.Place.{Place}
 use Rattle.status_page.specs.Behind.{IsFilledBehind, AppendsBehind}
-
-append_assoc : (xs ys zs : List Row) → (xs ++ ys) ++ zs ≡ xs ++ (ys ++ zs)
-append_assoc [] ys zs = refl
-append_assoc (x ∷ xs) ys zs = ap (λ rs. x ∷ rs) (append_assoc xs ys zs)
 
 -- nothing more comes
 pub behind-none : (p : Place) (t : TrackedRows) → AppendsBehind [] p p t t
@@ -61,9 +55,3 @@ behind-start from t = record {
   behind = subst (λ rows. IsFilled 15 18 rows 0 t t) (sym (drop_all from [] (omega arith))) (fill-none 15 18 t);
   skip = let none : from ≡ from - 0 = omega arith in none;
 }
-
--- one member more of a list
-pub taken : {X : Type 0} (xs : List X) (i : ℕ) (x : X) → slice_get xs i ≡ Some x → take (i + 1) xs ≡ take i xs ++ x ∷ []
-taken xs i x here =
-    take_more xs i x (slice_get_within xs i x here)
-    ∙ ap (λ y. take i xs ++ y ∷ []) (get_or_from_slice_get xs i x x here)

@@ -1,10 +1,9 @@
 -- The cancelled cautions, one alert more.
-use Rattle.std.proofs.Common.{◌≡◌, ℕ, ◌+◌, Bool, true, false, ◌||◌, List, [], ◌∷◌, ◌++◌, length, cond, ltb, refl, sym, ◌∙◌, ap, subst, arith}
-use Rattle.std.specs.Prelude.{codes, ◌&&◌}
+use Rattle.std.proofs.Common.{◌≡◌, ℕ, ◌+◌, ◌<◌, Bool, true, false, ◌||◌, List, [], ◌∷◌, ◌++◌, map, length, take, get_or, cond, ltb, refl, sym, ◌∙◌, ap, subst, arith}
+use Rattle.std.specs.Prelude.{codes, filter}
 use Rattle.std.proofs.lemmas.List.{append-nil, map-append, length-map}
 use Rattle.std.proofs.lemmas.Bool.{lt-ltb}
 use Rattle.ecam_spec.specs.declared.kinds.Colour.TheVariants.{White, Amber}
-use Rattle.ecam_spec.specs.Places.{below}
 use Rattle.ecam_spec.specs.Book.{Text, Alert, Book}
 use Rattle.ecam_spec.specs.Situation.{alert_at}
 use Rattle.ecam_spec.specs.Picture.{Row, row}
@@ -12,9 +11,8 @@ use Rattle.ecam_spec.specs.StatusPage.{cancelled_rows}
 use Rattle.zone_rows.specs.Tracked.{TrackedRows}
 use Rattle.status_page.specs.declared.place.Place.{Place}
 use Rattle.status_page.specs.Behind.{AppendsBehind}
-use Rattle.status_page.specs.StatusOf.{cancelleds}
 use Rattle.status_page.proofs.Behind.{behind-both}
-use Rattle.status_page.proofs.Numbers.{cancelleds-more}
+use Rattle.status_page.proofs.AtPlaces.{passing-more}
 
 -- there is one
 abbrev pub is_some : List Alert → Bool
@@ -57,22 +55,29 @@ pub no-cancelled : cancelled_rows [] ≡ []
 unfolding cancelled_rows
 no-cancelled = refl
 
--- one alert more, as the loop over alerts meets it
-pub cancelled-on : (b : Book) (active cancelled : ℕ → Bool) (i : ℕ) (listed titled : Bool) (title : Text) → listed ≡ (active i && cancelled i)
-    → titled ≡ is_some (cancelleds b active cancelled (below i)) → (alert_at b i).title ≡ title → (p q r : Place) (x y z : TrackedRows)
-    → AppendsBehind (cancelled_rows (cancelleds b active cancelled (below i))) p q x y
-    → AppendsBehind (cond listed (cond titled (row Amber title ∷ []) (heading ∷ row Amber title ∷ [])) []) q r y z
-    → AppendsBehind (cancelled_rows (cancelleds b active cancelled (below (i + 1)))) p r x z
-cancelled-on b active cancelled i listed titled title told some same p q r x y z before next =
-    let before_i = cancelleds b active cancelled (below i) in
-    let rows : title_rows listed titled (alert_at b i) ≡ title_rows (active i && cancelled i) (is_some before_i) (alert_at b i) = ap (λ l. title_rows l titled (alert_at b i)) told ∙ ap (λ t. title_rows (active i && cancelled i) t (alert_at b i)) some in
-    let all : cancelled_rows before_i ++ title_rows listed titled (alert_at b i) ≡ cancelled_rows (cancelleds b active cancelled (below (i + 1)))
-    = ap (λ rs. cancelled_rows before_i ++ rs) rows ∙ sym (cancelled-more before_i (alert_at b i) (active i && cancelled i)) ∙ ap cancelled_rows (sym (cancelleds-more b active cancelled i)) in
-    let put : AppendsBehind (title_rows listed titled (alert_at b i)) q r y z = subst (λ t. AppendsBehind (cond listed (cond titled (row Amber t ∷ []) (heading ∷ row Amber t ∷ [])) []) q r y z) (sym same) next in
-    subst (λ rs. AppendsBehind rs p r x z) all (behind-both (cancelled_rows before_i) (title_rows listed titled (alert_at b i)) p q r x y z before put)
+-- one alert more, as the loop over places meets it
+module _ (b : Book) (places : List ℕ) (i : ℕ) (within : i < length places) (cancelled : ℕ → Bool) (listed titled : Bool) where
+  abbrev these : List Alert
+  these = map (alert_at b) (filter cancelled (take i places))
 
-pub some-on : (b : Book) (active cancelled : ℕ → Bool) (i : ℕ) (listed titled either : Bool) → listed ≡ (active i && cancelled i)
-    → titled ≡ is_some (cancelleds b active cancelled (below i)) → either ≡ (titled || listed) → either ≡ is_some (cancelleds b active cancelled (below (i + 1)))
-some-on b active cancelled i listed titled either told some is =
-    is ∙ ap (λ t. t || listed) some ∙ ap (λ l. is_some (cancelleds b active cancelled (below i)) || l) told
-    ∙ sym (some-more (cancelleds b active cancelled (below i)) (alert_at b i) (active i && cancelled i)) ∙ ap is_some (sym (cancelleds-more b active cancelled i))
+  abbrev one : Alert
+  one = alert_at b (get_or places i 0)
+
+  pub cancelled-on : (title : Text) → listed ≡ cancelled (get_or places i 0) → titled ≡ is_some (map (alert_at b) (filter cancelled (take i places)))
+      → (alert_at b (get_or places i 0)).title ≡ title → (p q r : Place) (x y z : TrackedRows)
+      → AppendsBehind (cancelled_rows (map (alert_at b) (filter cancelled (take i places)))) p q x y
+      → AppendsBehind (cond listed (cond titled (row Amber title ∷ []) (heading ∷ row Amber title ∷ [])) []) q r y z
+      → AppendsBehind (cancelled_rows (map (alert_at b) (filter cancelled (take (i + 1) places)))) p r x z
+  cancelled-on title told some same p q r x y z before next =
+      let rows : title_rows listed titled one ≡ title_rows (cancelled (get_or places i 0)) (is_some these) one
+      = ap (λ l. title_rows l titled one) told ∙ ap (λ t. title_rows (cancelled (get_or places i 0)) t one) some in
+      let all : cancelled_rows these ++ title_rows listed titled one ≡ cancelled_rows (map (alert_at b) (filter cancelled (take (i + 1) places)))
+      = ap (λ rs. cancelled_rows these ++ rs) rows ∙ sym (cancelled-more these one (cancelled (get_or places i 0))) ∙ ap cancelled_rows (sym (passing-more b places i within cancelled)) in
+      let put : AppendsBehind (title_rows listed titled one) q r y z = subst (λ t. AppendsBehind (cond listed (cond titled (row Amber t ∷ []) (heading ∷ row Amber t ∷ [])) []) q r y z) (sym same) next in
+      subst (λ rs. AppendsBehind rs p r x z) all (behind-both (cancelled_rows these) (title_rows listed titled one) p q r x y z before put)
+
+  pub some-on : (either : Bool) → listed ≡ cancelled (get_or places i 0) → titled ≡ is_some (map (alert_at b) (filter cancelled (take i places)))
+      → either ≡ (titled || listed) → either ≡ is_some (map (alert_at b) (filter cancelled (take (i + 1) places)))
+  some-on either told some is =
+      is ∙ ap (λ t. t || listed) some ∙ ap (λ l. is_some these || l) told
+      ∙ sym (some-more these one (cancelled (get_or places i 0))) ∙ ap is_some (sym (passing-more b places i within cancelled))

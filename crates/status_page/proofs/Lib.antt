@@ -1,5 +1,5 @@
 pub mod Behind
-pub mod Numbers
+pub mod AtPlaces
 pub mod SectionRows
 pub mod CancelledRows
 pub mod Counting

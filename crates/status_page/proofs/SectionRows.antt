@@ -1,13 +1,12 @@
 -- The lines of a section, one alert more; and that each line of an alert stands in exactly one of the five sections.
-use Rattle.std.proofs.Common.{◌≡◌, ℕ, zero, suc, ◌+◌, ◌<◌, Bool, true, false, List, [], ◌∷◌, ◌++◌, map, length, take, slice_get, Some, cond, eqb, refl, sym, ◌∙◌, ap, subst, arith}
+use Rattle.std.proofs.Common.{◌≡◌, ℕ, zero, suc, ◌+◌, ◌<◌, Bool, true, false, List, [], ◌∷◌, ◌++◌, map, length, take, get_or, cond, eqb, refl, sym, ◌∙◌, ap, subst, arith}
 use Rattle.std.specs.Prelude.{filter, All, ◌==◌}
 use Rattle.std.specs.List.{flat_map}
-use Rattle.std.proofs.lemmas.List.{append-nil, map-append, length-append, length-map}
+use Rattle.std.proofs.lemmas.List.{append-nil, map-append, length-append, length-map, take_more}
 use Rattle.std.proofs.lemmas.List.Elements.{filter-append}
 use Rattle.std.proofs.lemmas.Grind.{flat_map-append}
 use Rattle.ecam_spec.specs.declared.kinds.Colour.{Colour}
 use Rattle.ecam_spec.specs.declared.kinds.Colour.TheVariants.{Cyan, White, Green, Amber}
-use Rattle.ecam_spec.specs.Places.{below}
 use Rattle.ecam_spec.specs.Book.{Alert, StatusLine, Book}
 use Rattle.ecam_spec.specs.Situation.{alert_at}
 use Rattle.ecam_spec.specs.Picture.{Row, row}
@@ -15,20 +14,17 @@ use Rattle.ecam_spec.specs.StatusPage.{sections, section_rows}
 use Rattle.zone_rows.specs.Tracked.{TrackedRows}
 use Rattle.status_page.specs.declared.place.Place.{Place}
 use Rattle.status_page.specs.Behind.{AppendsBehind}
-use Rattle.status_page.specs.StatusOf.{actives}
-use Rattle.status_page.proofs.Behind.{behind-both, taken}
-use Rattle.status_page.proofs.Numbers.{actives-more}
+use Rattle.status_page.proofs.Behind.{behind-both}
+use Rattle.status_page.proofs.AtPlaces.{alerts-more}
 
 -- the lines of one alert in a section
 abbrev pub own_rows : ℕ × Colour → List StatusLine → List Row
 own_rows s lines = map (λ (l : StatusLine). row s.1 l.text) (filter (λ (l : StatusLine). l.section == s.0) lines)
 
-pub section-more : (s : ℕ × Colour) (alerts : List Alert) (a : Alert) (p : Bool) → section_rows (alerts ++ cond p (a ∷ []) []) s ≡ section_rows alerts s ++ cond p (own_rows s a.status) []
+pub section-more : (s : ℕ × Colour) (alerts : List Alert) (a : Alert) → section_rows (alerts ++ a ∷ []) s ≡ section_rows alerts s ++ own_rows s a.status
 unfolding section_rows
-section-more s alerts a true =
+section-more s alerts a =
     flat_map-append (λ (x : Alert). own_rows s x.status) alerts (a ∷ []) ∙ ap (λ rs. flat_map (λ (x : Alert). own_rows s x.status) alerts ++ rs) (append-nil (own_rows s a.status))
-section-more s alerts a false =
-    ap (λ xs. flat_map (λ (x : Alert). own_rows s x.status) xs) (append-nil alerts) ∙ sym (append-nil (flat_map (λ (x : Alert). own_rows s x.status) alerts))
 
 pub section-none : (s : ℕ × Colour) → section_rows [] s ≡ []
 unfolding section_rows
@@ -81,7 +77,7 @@ own-length s lines = length-map (filter (λ (l : StatusLine). l.section == s.0) 
 
 section-longer : (s : ℕ × Colour) (alerts : List Alert) (a : Alert) → length (section_rows (alerts ++ a ∷ []) s) ≡ length (section_rows alerts s) + in_section s.0 a.status
 section-longer s alerts a =
-    ap length (section-more s alerts a true) ∙ length-append (section_rows alerts s) (own_rows s a.status) ∙ ap (λ n. length (section_rows alerts s) + n) (own-length s a.status)
+    ap length (section-more s alerts a) ∙ length-append (section_rows alerts s) (own_rows s a.status) ∙ ap (λ n. length (section_rows alerts s) + n) (own-length s a.status)
 
 -- an alert more has all its lines in them
 pub count-more : (alerts : List Alert) (a : Alert) → All (λ (l : StatusLine). l.section < 5) a.status → section_count (alerts ++ a ∷ []) ≡ section_count alerts + length a.status
@@ -98,17 +94,13 @@ pub count-none : section_count [] ≡ 0
 unfolding sections section_rows
 count-none = refl
 
-pub count-if : (alerts : List Alert) (a : Alert) (p : Bool) → All (λ (l : StatusLine). l.section < 5) a.status →
-    section_count (alerts ++ cond p (a ∷ []) []) ≡ section_count alerts + cond p (length a.status) 0
-count-if alerts a true each = count-more alerts a each
-count-if alerts a false each = ap section_count (append-nil alerts) ∙ (let e : section_count alerts ≡ section_count alerts + 0 = omega arith in e)
-
 -- one line more of an alert's
-pub own-on : (s : ℕ × Colour) (lines : List StatusLine) (i : ℕ) (l : StatusLine) → slice_get lines i ≡ Some l → (p q r : Place) (x y z : TrackedRows)
+pub own-on : (s : ℕ × Colour) (lines : List StatusLine) (i : ℕ) (l : StatusLine) → i < length lines → l ≡ get_or lines i l → (p q r : Place) (x y z : TrackedRows)
     → AppendsBehind (own_rows s (take i lines)) p q x y → AppendsBehind (cond (l.section == s.0) (row s.1 l.text ∷ []) []) q r y z → AppendsBehind (own_rows s (take (i + 1) lines)) p r x z
-own-on s lines i l here p q r x y z before next =
+own-on s lines i l within here p q r x y z before next =
+    let taken : take (i + 1) lines ≡ take i lines ++ l ∷ [] = take_more lines i l within ∙ ap (λ k. take i lines ++ k ∷ []) (sym here) in
     let all : own_rows s (take i lines) ++ cond (l.section == s.0) (row s.1 l.text ∷ []) [] ≡ own_rows s (take (i + 1) lines)
-    = sym (ap (own_rows s) (taken lines i l here)
+    = sym (ap (own_rows s) taken
     ∙ ap (map (λ (k : StatusLine). row s.1 k.text)) (filter-append (λ (k : StatusLine). k.section == s.0) (take i lines) (l ∷ []))
     ∙ map-append (λ (k : StatusLine). row s.1 k.text) (filter (λ (k : StatusLine). k.section == s.0) (take i lines)) (cond (l.section == s.0) (l ∷ []) [])
     ∙ ap (λ rs. own_rows s (take i lines) ++ rs) (one-line (l.section == s.0))) in
@@ -119,11 +111,11 @@ own-on s lines i l here p q r x y z before next =
     one-line false = refl
 
 -- one alert more of a section
-pub section-on : (b : Book) (active : ℕ → Bool) (i : ℕ) (s : ℕ × Colour) (flag : Bool) (lines : List StatusLine) → flag ≡ active i → (alert_at b i).status ≡ lines → (p q r : Place) (x y z : TrackedRows)
-    → AppendsBehind (section_rows (actives b active (below i)) s) p q x y → AppendsBehind (cond flag (own_rows s lines) []) q r y z → AppendsBehind (section_rows (actives b active (below (i + 1))) s) p r x z
-section-on b active i s flag lines told same p q r x y z before next =
-    let put : AppendsBehind (cond (active i) (own_rows s (alert_at b i).status) []) q r y z
-    = subst (λ f. AppendsBehind (cond f (own_rows s (alert_at b i).status) []) q r y z) told (subst (λ ls. AppendsBehind (cond flag (own_rows s ls) []) q r y z) (sym same) next) in
-    let all : section_rows (actives b active (below i)) s ++ cond (active i) (own_rows s (alert_at b i).status) [] ≡ section_rows (actives b active (below (i + 1))) s
-    = sym (section-more s (actives b active (below i)) (alert_at b i) (active i)) ∙ ap (λ xs. section_rows xs s) (sym (actives-more b active i)) in
-    subst (λ rs. AppendsBehind rs p r x z) all (behind-both (section_rows (actives b active (below i)) s) (cond (active i) (own_rows s (alert_at b i).status) []) p q r x y z before put)
+pub section-on : (b : Book) (places : List ℕ) (i : ℕ) → i < length places → (s : ℕ × Colour) (lines : List StatusLine) → (alert_at b (get_or places i 0)).status ≡ lines
+    → (p q r : Place) (x y z : TrackedRows) → AppendsBehind (section_rows (map (alert_at b) (take i places)) s) p q x y → AppendsBehind (own_rows s lines) q r y z
+    → AppendsBehind (section_rows (map (alert_at b) (take (i + 1) places)) s) p r x z
+section-on b places i within s lines same p q r x y z before next =
+    let all : section_rows (map (alert_at b) (take i places)) s ++ own_rows s lines ≡ section_rows (map (alert_at b) (take (i + 1) places)) s
+    = ap (λ ls. section_rows (map (alert_at b) (take i places)) s ++ own_rows s ls) (sym same)
+    ∙ sym (section-more s (map (alert_at b) (take i places)) (alert_at b (get_or places i 0))) ∙ ap (λ xs. section_rows xs s) (sym (alerts-more b places i within)) in
+    subst (λ rs. AppendsBehind rs p r x z) all (behind-both (section_rows (map (alert_at b) (take i places)) s) (own_rows s lines) p q r x y z before next)

@@ -1,47 +1,44 @@
 // The cancelled cautions on the status page.
-ghost use Rattle.std.specs.Prelude.{◌≡◌, ◌||◌, ℕ, Bool, [], ◌∷◌, length, codes, if◌then◌else◌};
+ghost use Rattle.std.specs.Prelude.{◌≡◌, ◌<◌, ◌||◌, [], ◌∷◌, map, filter, length, codes, All, if◌then◌else◌};
 ghost use Rattle.ecam_spec.specs.declared.kinds.Colour.TheVariants.{White, Amber};
 ghost use Rattle.ecam_spec.specs.Picture as spec;
 ghost use Rattle.ecam_spec.specs.StatusPage as page;
-ghost use Rattle.ecam_spec.specs.Screen.{alert_numbers};
+ghost use Rattle.ecam_spec.specs.Situation.{alert_at};
 ghost use Rattle.book_model.specs.Sealed.{the_book};
+ghost use Rattle.book_model.specs.Told.{flagged};
 ghost use Rattle.zone_rows.specs.Tracked.{tracked, IsWhole};
 ghost use Rattle.status_page.specs.Behind.{AppendsBehind};
-ghost use Rattle.book_model.specs.Told.{TellsBelow};
-ghost use Rattle.status_page.specs.StatusOf.{cancelleds};
 
-use crate::count::is_listed;
 use crate::place::{Place, put_row};
 use book_model::{Book, Text};
 use ecam_kinds::{Colour, Row};
 
-/// Puts the titles of the active alerts that are cancelled in the book's order, under their heading. Costs a look at
-/// each alert.
+/// Puts the titles of those alerts at some places that are cancelled, in the order of the places, under their
+/// heading. Costs a look at each of these alerts.
 pub(crate) fn put_cancelled(
     rows: &mut [Row],
     changed: &mut [bool],
     place: Place,
     book: &Book,
-    active: &[bool],
+    places: &[u16],
     cancelled: &[bool],
 ) -> Place
     requires whole { IsWhole (tracked rows.old changed.old) }
-    requires active { length active.now ≡ length book.now.alerts.items }
+    requires within { All (λ a. a < length book.now.alerts.items) places.now }
     requires cancelled { length cancelled.now ≡ length book.now.alerts.items }
     ensures whole { IsWhole (tracked rows.new changed.new) }
-    ensures rows { (is_active is_cancelled : ℕ → Bool)
-        → TellsBelow (length book.now.alerts.items) active.now is_active
-        → TellsBelow (length book.now.alerts.items) cancelled.now is_cancelled
-        → AppendsBehind (page.cancelled_rows (cancelleds (the_book book.now) is_active is_cancelled
-        (alert_numbers (the_book book.now)))) place result
+    ensures rows { let alerts = map (alert_at (the_book book.now))
+        (filter (flagged cancelled.now) places.now) in
+        AppendsBehind (page.cancelled_rows alerts) place result
         (tracked rows.old changed.old) (tracked rows.new changed.new) }
 {
     let alerts = book.alerts();
     let mut place = place;
     let mut titled = false;
-    for i in 0..alerts.len() {
-        let listed = is_listed(active[i], cancelled[i]);
-        place = put_title(rows, changed, place, &alerts[i].title, listed, titled);
+    for i in 0..places.len() {
+        let alert = places[i] as usize;
+        let listed = cancelled[alert];
+        place = put_title(rows, changed, place, &alerts[alert].title, listed, titled);
         titled = is_either(titled, listed);
     }
     place

@@ -1,25 +1,31 @@
 // The eighteen rows of one status page.
-ghost use Rattle.std.specs.Prelude.{◌≡◌, ℕ, Bool, length};
+ghost use Rattle.std.specs.Prelude.{◌≡◌, ◌≤◌, ◌<◌, ℕ, Bool, length, All};
+ghost use Rattle.ecam_spec.specs.declared.limits.TheConstants.{ALERTS};
 ghost use Rattle.ecam_spec.specs.StatusPage.{status_page};
 ghost use Rattle.book_model.specs.Sealed.{the_book};
 ghost use Rattle.zone_rows.specs.Tracked.{tracked, IsWhole};
 ghost use Rattle.zone_rows.specs.Mended.{Mends};
 ghost use Rattle.status_page.specs.Behind.{AppendsBehind};
-ghost use Rattle.book_model.specs.Told.{TellsBelow};
-ghost use Rattle.status_page.specs.StatusOf.{status_of};
+ghost use Rattle.book_model.specs.Told.{TellsBelow, flagged};
+ghost use Rattle.status_page.specs.StatusOf.{rows_at, status_of};
 
+use crate::active::{Places, gather};
 use crate::cancelled::put_cancelled;
-use crate::count::status_rows;
-use crate::place::{DISPLAY, Place, ROOM};
+use crate::count::count_rows;
+use crate::place::{Place, ROOM};
 use crate::sections::put_section;
 use book_model::Book;
 use ecam_kinds::{Colour, Picture, ROWS, Row};
-use zone_rows::{blank_rest, put_next};
+use ecam_spec::limits;
+use zone_rows::{DISPLAY, blank_rest, put_next};
+
+// The rows of a page.
+const PAGE: u32 = limits::DISPLAY_ROWS as u32;
 
 /// Fills S01 to S18 with the rows of status page `page`, counted from 0 and round: the lines of the active alerts by
 /// sections, limitations, approach, procedure, information and inop, then the cancelled cautions; NORMAL where there
-/// are none. `active` and `cancelled` have a flag for each alert of the book. Costs a look at each alert for each section
-/// and for the cancelled ones, and the rows that differ from what stands.
+/// are none. `active` and `cancelled` have a flag for each alert of the book. Costs a look at each flag of `active`, at
+/// each active alert for its count, each section and the cancelled ones, and the rows that differ from what stands.
 pub fn fill_status(
     book: &Book,
     active: &[bool],
@@ -37,39 +43,47 @@ pub fn fill_status(
         → Mends 15 (status_page page (status_of (the_book book.now) is_active is_cancelled))
         (tracked picture.old.rows changed.old) (tracked picture.new.rows changed.new) }
 {
-    fill_zone(&mut picture.rows, changed, book, active, cancelled, page);
+    let mut places = Places::new();
+    gather(&mut places, book, active);
+    fill_zone(
+        &mut picture.rows,
+        changed,
+        book,
+        places.as_slice(),
+        cancelled,
+        page,
+    );
 }
 
 fn fill_zone(
     rows: &mut [Row],
     changed: &mut [bool],
     book: &Book,
-    active: &[bool],
+    places: &[u16],
     cancelled: &[bool],
     page: u32,
 )
     requires whole { IsWhole (tracked rows.old changed.old) }
-    requires active { length active.now ≡ length book.now.alerts.items }
+    requires few { length places.now ≤ ALERTS }
+    requires within { All (λ a. a < length book.now.alerts.items) places.now }
     requires cancelled { length cancelled.now ≡ length book.now.alerts.items }
     ensures whole { IsWhole (tracked rows.new changed.new) }
-    ensures rows { (is_active is_cancelled : ℕ → Bool)
-        → TellsBelow (length book.now.alerts.items) active.now is_active
-        → TellsBelow (length book.now.alerts.items) cancelled.now is_cancelled
-        → Mends 15 (status_page page (status_of (the_book book.now) is_active is_cancelled))
+    ensures rows { Mends 15 (status_page page
+        (rows_at (the_book book.now) places.now (flagged cancelled.now)))
         (tracked rows.old changed.old) (tracked rows.new changed.new) }
 {
-    let many = status_rows(book, active, cancelled);
+    let many = count_rows(book, places, cancelled);
     if many == 0 {
         let count = put_next(rows, changed, DISPLAY, ROOM, 0, Colour::Green, b"NORMAL");
         blank_rest(rows, changed, DISPLAY, ROOM, count);
         return;
     }
-    let pages = (many + 17) / 18;
+    let pages = (many + (PAGE - 1)) / PAGE;
     let first = Place {
-        skip: 18 * (page % pages) as usize,
+        skip: (PAGE * (page % pages)) as usize,
         count: 0,
     };
-    let last = put_all(rows, changed, first, book, active, cancelled);
+    let last = put_all(rows, changed, first, book, places, cancelled);
     blank_rest(rows, changed, DISPLAY, ROOM, last.count);
 }
 
@@ -79,23 +93,21 @@ fn put_all(
     changed: &mut [bool],
     place: Place,
     book: &Book,
-    active: &[bool],
+    places: &[u16],
     cancelled: &[bool],
 ) -> Place
     requires whole { IsWhole (tracked rows.old changed.old) }
-    requires active { length active.now ≡ length book.now.alerts.items }
+    requires within { All (λ a. a < length book.now.alerts.items) places.now }
     requires cancelled { length cancelled.now ≡ length book.now.alerts.items }
     ensures whole { IsWhole (tracked rows.new changed.new) }
-    ensures rows { (is_active is_cancelled : ℕ → Bool)
-        → TellsBelow (length book.now.alerts.items) active.now is_active
-        → TellsBelow (length book.now.alerts.items) cancelled.now is_cancelled
-        → AppendsBehind (status_of (the_book book.now) is_active is_cancelled) place result
+    ensures rows { AppendsBehind
+        (rows_at (the_book book.now) places.now (flagged cancelled.now)) place result
         (tracked rows.old changed.old) (tracked rows.new changed.new) }
 {
-    let limitations = put_section(rows, changed, place, book, active, 0, Colour::Cyan);
-    let approach = put_section(rows, changed, limitations, book, active, 1, Colour::White);
-    let procedure = put_section(rows, changed, approach, book, active, 2, Colour::Cyan);
-    let information = put_section(rows, changed, procedure, book, active, 3, Colour::Green);
-    let inop = put_section(rows, changed, information, book, active, 4, Colour::Amber);
-    put_cancelled(rows, changed, inop, book, active, cancelled)
+    let limitations = put_section(rows, changed, place, book, places, 0, Colour::Cyan);
+    let approach = put_section(rows, changed, limitations, book, places, 1, Colour::White);
+    let procedure = put_section(rows, changed, approach, book, places, 2, Colour::Cyan);
+    let information = put_section(rows, changed, procedure, book, places, 3, Colour::Green);
+    let inop = put_section(rows, changed, information, book, places, 4, Colour::Amber);
+    put_cancelled(rows, changed, inop, book, places, cancelled)
 }

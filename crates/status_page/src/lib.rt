@@ -2,6 +2,7 @@
 //! filled in place.
 #![tactic(auto)]
 
+mod active;
 mod cancelled;
 mod count;
 mod fill;

@@ -6,10 +6,7 @@ ghost use Rattle.status_page.specs.Behind.{AppendsBehind};
 
 use ecam_kinds::{Colour, ROW_TEXT, Row};
 use ecam_spec::limits;
-use zone_rows::put_next;
-
-/// The first row of the system display, S01.
-pub(crate) const DISPLAY: usize = 15;
+use zone_rows::{DISPLAY, put_next};
 
 /// How many rows the system display has.
 pub(crate) const ROOM: usize = limits::DISPLAY_ROWS;

@@ -3,17 +3,17 @@ use Rattle.std.proofs.Common.{◌≡◌, ℕ, suc, ◌+◌, min, Bool, true, fal
 use Rattle.std.specs.Option.{option_or}
 use Rattle.ecam_spec.specs.declared.kinds.Choice.TheVariants.{Page, Status}
 use Rattle.ecam_spec.specs.Runs.{status_ahead}
-use Rattle.ecam_spec.specs.Selection.{Panel, Selecting, each_page, one_page, the_status, the_clear, the_cancel, selecting_one, selecting, page_in_turn}
+use Rattle.ecam_spec.specs.Selection.{Panel, Selecting, each_page, one_page, the_status, the_clear, the_cancel, selecting_one, selecting, page_in_turn, last_number}
 use Rattle.ecam_spec.proofs.SelectionSteps.{after, ahead_step, chosen, choice_step}
 use Rattle.system_display.specs.declared.selection.Selection.{Selection}
 use Rattle.system_display.specs.Selecting.{page_of_all, IsSelection}
 
 -- a selection by what the moment selects
 selection-by : (p : Panel) (k : ℕ) (s : Option Selecting) (new : Selection) → selecting p k ≡ s
-    → new.choice ≡ chosen p k s → new.next_status ≡ min 4294967295 (after p s (status_ahead p k)) → IsSelection p (suc k) new
+    → new.choice ≡ chosen p k s → new.next_status ≡ min last_number (after p s (status_ahead p k)) → IsSelection p (suc k) new
 selection-by p k s new e choice number = record {
   choice = choice ∙ sym (choice_step p k s e);
-  next_status = number ∙ ap (min 4294967295) (sym (ahead_step p k s e));
+  next_status = number ∙ ap (min last_number) (sym (ahead_step p k s e));
 }
 
 module _ (p : Panel) (k : ℕ) where
@@ -51,10 +51,10 @@ module _ (p : Panel) (k : ℕ) where
     by-keys a b c sts clr cancels = none ∙ (rw (sts, clr, cancels) refl)
 
     pub status-shown : (old new : Selection) → IsSelection p k old → p.sts k ≡ true
-        → new.choice ≡ Status old.next_status → new.next_status ≡ min 4294967295 (old.next_status + 1) → IsSelection p (suc k) new
+        → new.choice ≡ Status old.next_status → new.next_status ≡ min last_number (old.next_status + 1) → IsSelection p (suc k) new
     status-shown old new is sts choice number =
         selection-by p k (Some the_status) new (by-keys true (p.clr k) (p.cancels k) sts refl refl)
-        (choice ∙ ap Status is.next_status) (number ∙ ap (λ n. min 4294967295 (n + 1)) is.next_status ∙ (let h : min 4294967295 (min 4294967295 (status_ahead p k) + 1) ≡ min 4294967295 (status_ahead p k + 1) = omega arith in h))
+        (choice ∙ ap Status is.next_status) (number ∙ ap (λ n. min last_number (n + 1)) is.next_status ∙ (let h : min last_number (min last_number (status_ahead p k) + 1) ≡ min last_number (status_ahead p k + 1) = omega arith in h))
 
     pub cleared : (new : Selection) → p.sts k ≡ false → p.clr k ≡ true → IsSelection p 0 new → IsSelection p (suc k) new
     cleared new sts clr is =

@@ -1,6 +1,6 @@
 -- What the rows of a page show of a book and its values.
 use Rattle.std.specs.Prelude.{◌≡◌, ℕ, ◌<◌, ◌≤◌, ℤ, pos, neg_ℤ, ◌≤ℤ◌, List, [], ◌∷◌, map, length, slice_index_or, Option, Some, None, All, IfSome}
-use Rattle.ecam_spec.specs.declared.limits.TheConstants.{VALUE_ROW_TEXT, NUMBER}
+use Rattle.ecam_spec.specs.declared.limits.TheConstants.{VALUE_ROW_TEXT, UNIT, NUMBER}
 use Rattle.ecam_spec.specs.declared.kinds.Colour.TheVariants.{White}
 use Rattle.ecam_spec.specs.Book as plain
 use Rattle.ecam_spec.specs.Situation.{parameter_at}
@@ -26,7 +26,7 @@ AreShort values = All (λ v. IfSome v IsShort) values
 -- a row's text and unit leave room for a value
 pub record LeavesRoom (r : PageRow) : Type 0 where
   pub text : length r.text.bytes ≤ VALUE_ROW_TEXT
-  pub unit : IfSome r.unit (λ u. length u.bytes ≤ 6)
+  pub unit : IfSome r.unit (λ u. length u.bytes ≤ UNIT)
 
 -- the rows of these lines of a page
 abbrev pub lines_of : Display → List plain.PageRow → List Row

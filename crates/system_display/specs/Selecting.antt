@@ -4,7 +4,7 @@ use Rattle.ecam_spec.specs.declared.kinds.Choice.{Choice}
 use Rattle.ecam_spec.specs.declared.kinds.Choice.TheVariants.{Auto, Page, Status}
 use Rattle.ecam_spec.specs.Past.{Signal, start_of}
 use Rattle.ecam_spec.specs.Book.{Book}
-use Rattle.ecam_spec.specs.Selection.{Panel, page_in_turn, choice}
+use Rattle.ecam_spec.specs.Selection.{Panel, page_in_turn, choice, last_number}
 use Rattle.ecam_spec.specs.Runs.{choice_before, status_ahead}
 use Rattle.system_display.specs.declared.selection.Selection.{Selection}
 use Rattle.system_display.specs.declared.selector.Selector.{Selector}
@@ -28,7 +28,7 @@ IsKept p (suc k) = choice p k ≡ choice_before p k
 -- this is the selection after the first k moments
 pub record IsSelection (p : Panel) (k : ℕ) (s : Selection) : Type 0 where
   pub choice : s.choice ≡ choice_before p k
-  pub next_status : s.next_status ≡ min 4294967295 (status_ahead p k)
+  pub next_status : s.next_status ≡ min last_number (status_ahead p k)
 
 -- the page that ALL shows in moment k, where it shows one
 abbrev pub page_of_all : Panel → ℕ → Option ℕ

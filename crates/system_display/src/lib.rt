@@ -7,8 +7,6 @@ mod page;
 mod row_text;
 mod selection;
 mod selector;
-#[cfg(test)]
-mod tests;
 
 pub use ecam_spec::Choice;
 pub use page::fill_page;

@@ -13,10 +13,7 @@ use crate::row_text::{RowText, write_row};
 use book_model::{Book, Page, PageRow};
 use ecam_kinds::{Colour, Picture, ROWS, Row};
 use ecam_spec::limits;
-use zone_rows::{blank_rest, put_next};
-
-/// Where the rows of the system display begin in a picture.
-const FIRST: usize = 15;
+use zone_rows::{DISPLAY, blank_rest, put_next};
 
 /// How many rows the system display has.
 const ROOM: usize = limits::DISPLAY_ROWS;
@@ -60,10 +57,10 @@ fn fill_zone(
         (tracked rows.old changed.old) (tracked rows.new changed.new) }
 {
     match page {
-        None => blank_rest(rows, changed, FIRST, ROOM, 0),
+        None => blank_rest(rows, changed, DISPLAY, ROOM, 0),
         Some(page) => {
             let count = put_page(rows, changed, book, &book.pages()[page], values);
-            blank_rest(rows, changed, FIRST, ROOM, count);
+            blank_rest(rows, changed, DISPLAY, ROOM, count);
         }
     }
 }
@@ -82,13 +79,13 @@ fn put_page(
     requires short { AreShort values.now }
     ensures whole { IsWhole (tracked rows.new changed.new) }
     ensures put { (d : Display) → Displays (the_book book.now) values.now d
-        → IsFilled FIRST ROOM (rows_on d (Some (page_of page.now))) result
+        → IsFilled DISPLAY ROOM (rows_on d (Some (page_of page.now))) result
         (tracked rows.old changed.old) (tracked rows.new changed.new) }
 {
     let count = put_next(
         rows,
         changed,
-        FIRST,
+        DISPLAY,
         ROOM,
         0,
         Colour::White,
@@ -112,14 +109,14 @@ fn put_lines(
     requires short { AreShort values.now }
     ensures whole { IsWhole (tracked rows.new changed.new) }
     ensures put { (d : Display) → Displays (the_book book.now) values.now d
-        → Appends FIRST ROOM (lines_of d (map row_of lines.now)) before result
+        → Appends DISPLAY ROOM (lines_of d (map row_of lines.now)) before result
         (tracked rows.old changed.old) (tracked rows.new changed.new) }
 {
     let mut text = RowText::new();
     let mut count = before;
     for line in lines {
         let colour = write_row(&mut text, book, line, values);
-        count = put_next(rows, changed, FIRST, ROOM, count, colour, text.as_slice());
+        count = put_next(rows, changed, DISPLAY, ROOM, count, colour, text.as_slice());
     }
     count
 }

@@ -109,11 +109,12 @@ fn put(out: &mut RowText, bytes: &[u8])
     let _ = out.try_extend_from_slice(bytes);
 }
 
+// Puts so many blanks, in one copy.
 fn put_blanks(out: &mut RowText, count: usize)
-    requires { length out.old.items + count ≤ ROW_TEXT }
+    requires few { count ≤ TEXT_PLACES }
+    requires room { length out.old.items + count ≤ ROW_TEXT }
     ensures { out.new.items ≡ out.old.items ++ replicate count 32 }
 {
-    for _ in 0..count {
-        put(out, b" ");
-    }
+    let blanks = b"                        ".as_slice();
+    put(out, &blanks[..count]);
 }

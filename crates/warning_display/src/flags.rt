@@ -11,10 +11,7 @@ use crate::left::LeftCount;
 use arrayvec::ArrayVec;
 use ecam_kinds::{Colour, Picture, ROW_TEXT, ROWS, Row};
 use itoa::Buffer;
-use zone_rows::set_row;
-
-// Where the flags stand.
-const FLAGS: usize = 14;
+use zone_rows::{FLAGS, set_row};
 
 fn put(text: &mut ArrayVec<u8, ROW_TEXT>, bytes: &[u8])
     requires { length text.old.items + length bytes.now ≤ ROW_TEXT }

@@ -6,14 +6,14 @@ ghost use Rattle.zone_rows.specs.Tracked.{tracked, IsWhole};
 ghost use Rattle.zone_rows.specs.Mended.{Mends};
 
 use ecam_kinds::{Colour, Picture, ROW_TEXT, ROWS, Row, Sound};
-use zone_rows::set_row;
+use zone_rows::{LAMPS, set_row};
 
 // Where MW, MC and AU stand.
-const WARN: usize = 33;
+const WARN: usize = LAMPS;
 
-const CAUT: usize = 34;
+const CAUT: usize = LAMPS + 1;
 
-const AURAL: usize = 35;
+const AURAL: usize = LAMPS + 2;
 
 fn set_lamp(
     rows: &mut [Row],

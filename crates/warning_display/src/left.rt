@@ -15,10 +15,10 @@ ghost use Rattle.warning_display.specs.LeftRows.{alert_block, in_order, rows_in,
 
 use crate::counted::ZONE;
 use crate::memos::put_memos;
-use crate::procedure::{LEFT, part, put_alert};
+use crate::procedure::{part, put_alert};
 use book_model::{Book, Memo};
 use ecam_kinds::{Colour, Picture, ROWS, Row};
-use zone_rows::{blank_rest, put_next};
+use zone_rows::{LEFT, blank_rest, put_next};
 
 /// What doesn't fit into the seven rows of the left zone: how many titles stand beyond them, and whether any row
 /// does.

@@ -12,8 +12,6 @@ mod left;
 mod memos;
 mod procedure;
 mod right;
-#[cfg(test)]
-mod tests;
 
 pub use flags::fill_flags;
 pub use lamps::fill_lamps;

@@ -11,10 +11,7 @@ ghost use Rattle.warning_display.specs.LeftRows.{line_row, line_rows, block};
 use crate::counted::ZONE;
 use book_model::{Alert, Line};
 use ecam_kinds::{Colour, Level, Row};
-use zone_rows::put_next;
-
-/// The first row of the left zone.
-pub(crate) const LEFT: usize = 0;
+use zone_rows::{LEFT, put_next};
 
 fn title_colour(level: Level) -> Colour
     ensures { result ≡ zone.title_colour level }

@@ -15,13 +15,10 @@ use arrayvec::ArrayVec;
 use book_model::{Book, Text};
 use ecam_kinds::{Colour, Picture, ROW_TEXT, ROWS, Row};
 use ecam_spec::limits;
-use zone_rows::blank_rest;
+use zone_rows::{RIGHT, blank_rest};
 
 // The most systems that a book has.
 const SYSTEMS: usize = limits::SYSTEMS;
-
-// The first row of the right zone.
-const RIGHT: usize = 7;
 
 fn mark(marks: &mut [bool], system: usize, starred: bool)
     requires { system < length marks.old }

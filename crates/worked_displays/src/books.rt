@@ -1,4 +1,7 @@
 // A book from its text, and rows compared with what is printed of them.
+ghost use Rattle.std.specs.Prelude.{IfSome};
+ghost use Rattle.system_display.specs.Pages.{IsShort};
+
 use book_checker::seal;
 use book_model::{Book, LoadError};
 use book_reader::read_book;
@@ -82,4 +85,14 @@ pub(crate) fn are_told(changed: &[bool; ROWS], from: usize, letters: &[u8]) -> b
         }
     }
     true
+}
+
+/// A value from -1000000 to 1000000; any other is as none.
+pub(crate) fn short(value: Option<i64>) -> Option<i64>
+    ensures { IfSome result IsShort }
+{
+    match value {
+        Some(z) if -1000000 <= z && z <= 1000000 => Some(z),
+        _ => None,
+    }
 }

@@ -1,9 +1,6 @@
 // A failure from its first moment to its recall: a system whose reservoir runs low, the pressure that falls with it, the line
 // that is done, CLR, STS and RCL; and a value that is gone.
-ghost use Rattle.std.specs.Prelude.{IfSome};
-ghost use Rattle.system_display.specs.Pages.{IsShort};
-
-use super::{book_of, is_display, is_printed, is_zone};
+use super::{book_of, is_printed, is_zone, short};
 use ecam_kinds::{Picture, ROWS};
 use status_page::{fill_status, status_rows};
 use std::test::Fail;
@@ -156,16 +153,6 @@ const MOMENTS: [Moment; 9] = [
         b"-----*",
     ),
 ];
-
-// A value of at most eight places.
-fn short(value: Option<i64>) -> Option<i64>
-    ensures { IfSome result IsShort }
-{
-    match value {
-        Some(z) if -1000000 <= z && z <= 1000000 => Some(z),
-        _ => None,
-    }
-}
 
 // Which of L1, L2, R1, FL, S01 and S02 are told as changed, at the asterisks.
 fn are_told(changed: &[bool; ROWS], letters: &[u8]) -> bool {

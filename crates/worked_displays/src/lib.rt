@@ -7,11 +7,19 @@ mod books;
 #[cfg(test)]
 mod failure;
 #[cfg(test)]
+mod flags;
+#[cfg(test)]
+mod keys;
+#[cfg(test)]
+mod mending;
+#[cfg(test)]
 mod pages;
 #[cfg(test)]
 mod status_pages;
 #[cfg(test)]
+mod values;
+#[cfg(test)]
 mod zones;
 
 #[cfg(test)]
-use books::{are_told, book_of, flags_of, is_display, is_printed, is_zone};
+use books::{are_told, book_of, flags_of, is_display, is_printed, is_zone, short};

@@ -1,8 +1,14 @@
 // Status pages of no rows, of 17, 18, 19, 37 and more rows, of cancelled cautions, and page numbers beyond the last.
+ghost use Rattle.std.specs.Prelude.{◌≡◌, ◌+◌, ◌<◌, ◌^◌, length, IfSome};
+ghost use Rattle.book_model.specs.Sealed.{the_book};
+ghost use Rattle.system_display.specs.Selecting.{SelectorFits, CanGoOn};
+
 use super::{book_of, flags_of, is_display};
-use ecam_kinds::{Picture, ROWS};
+use book_model::Book;
+use ecam_kinds::{Key, Keys, Picture, ROWS};
 use status_page::{fill_status, status_rows};
 use std::test::Fail;
+use system_display::{Choice, Selector};
 
 // Nine alerts: four with eight status lines and five with one, over the five sections in turn.
 const BOOK: &str = "version = 1\nsystems = [\"HYD\", \"ELEC\"]\n\
@@ -156,6 +162,79 @@ fn status_pages_show_their_rows(rt: HostRuntime) -> Result<(), Fail> {
         let mut again = [false; ROWS];
         fill_status(&book, &active, &cancelled, *page, &mut picture, &mut again);
         assert!(rt; again == [false; ROWS], "page {row}");
+    }
+    Ok(())
+}
+
+// With nineteen rows, and so two pages: STS, EMER CANC of a caution, or CLR, by its letter, and the rows that stand then.
+// At CLR no status page is shown, and what stood is left.
+const STRUCK: [(u8, &[u8]); 9] = [
+    (b'S', FIRST_OF_TWO),
+    (b'S', b"A S40"),
+    (b'S', FIRST_OF_TWO),
+    (b'S', b"A S40"),
+    (b'E', FIRST_OF_TWO),
+    (b'S', b"A S40"),
+    (b'S', FIRST_OF_TWO),
+    (b'C', FIRST_OF_TWO),
+    (b'S', FIRST_OF_TWO),
+];
+
+const FIRST_OF_TWO: &[u8] =
+    b"C S00/C S05/C S14/C S50/W S01/W S06/W S10/W S15/W S60/C S02/C S07/C S11/\
+C S16/G S03/G S12/G S17/A S04/A S13";
+
+// The first alert of a book.
+fn first_of(book: &Book) -> Option<u32>
+    ensures { IfSome result (λ a. a < length book.now.alerts.items) }
+{
+    if book.alerts().is_empty() {
+        None
+    } else {
+        Some(0)
+    }
+}
+
+// One moment, in which a key is pressed: the number of the status page, where one is shown then.
+fn strike(selector: &mut Selector, book: &Book, letter: u8) -> Option<u32>
+    requires goes_on { CanGoOn selector.old }
+    requires fits { SelectorFits (the_book book.now) selector.old }
+    ensures fits { SelectorFits (the_book book.now) selector.new }
+    ensures moments { selector.new.moments ≡ selector.old.moments + 1 }
+{
+    let mut keys = Keys::new();
+    match letter {
+        b'S' => keys.press(Key::Sts),
+        b'E' => keys.press(Key::Emer),
+        _ => keys.press(Key::Clr),
+    }
+    selector.step(book, &keys, first_of(book));
+    match selector.choice() {
+        Choice::Status(page) => Some(page),
+        _ => None,
+    }
+}
+
+#[test]
+fn the_key_goes_round(rt: HostRuntime) -> Result<(), Fail> {
+    let book = book_of(rt.alloc(), BOOK)?;
+    let mut selector = Selector::new();
+    let mut picture = Picture::blank();
+    let active = flags_of(b"01--456--");
+    for (row, (letter, shown)) in STRUCK.iter().enumerate() {
+        assert_eq!(rt; book.alerts().len(), 9);
+        if let Some(page) = strike(&mut selector, &book, *letter) {
+            let mut changed = [false; ROWS];
+            fill_status(
+                &book,
+                &active,
+                &[false; 9],
+                page,
+                &mut picture,
+                &mut changed,
+            );
+        }
+        assert!(rt; is_display(&picture, shown), "row {row}");
     }
     Ok(())
 }

@@ -3,11 +3,11 @@
 //! tells, for each row, whether it changed.
 #![tactic(auto)]
 
+mod begins;
 mod fill;
 pub mod laws;
 mod row;
-#[cfg(test)]
-mod tests;
 
+pub use begins::{DISPLAY, FLAGS, LAMPS, LEFT, RIGHT};
 pub use fill::{blank_rest, put_next};
 pub use row::set_row;

@@ -1,7 +1,7 @@
-use Rattle.std.proofs.Common.{map, subst, arith}
+use Rattle.std.proofs.Common.{◌<◌, map, length, sym, subst, arith}
 use Rattle.std.proofs.lemmas.List.{take_all, length-map}
 use Rattle.book_model.specs.View.{status_of}
-use Rattle.book_model.proofs.BookReads.{view-get}
+use Rattle.book_model.proofs.BookReads.{view-read}
 use Rattle.zone_rows.specs.Tracked.{tracked}
 use Rattle.status_page.specs.Behind.{AppendsBehind}
 use Rattle.status_page.proofs.SectionRows.{own_rows, own-on}
@@ -12,8 +12,9 @@ loop-i-preserved c = record {
   whole = c.put_line-place.ensures.whole;
   rows =
       let line = status_of c.index-lines-i.result in
-      let here = view-get status_of c.args.lines.now c.loop-i.i c.index-lines-i.result c.loop-i-test.true c.index-lines-i.is in
-      own-on (c.args.section, c.args.colour) (map status_of c.args.lines.now) c.loop-i.i line here c.args.place c.loop-i.place c.put_line-place.result _ _ _
+      let within : c.loop-i.i < length (map status_of c.args.lines.now) = omega (arith, length-map c.args.lines.now status_of, c.loop-i-test.true) in
+      let here = sym (view-read status_of c.args.lines.now c.loop-i.i c.index-lines-i.result c.loop-i-test.true c.index-lines-i.is line) in
+      own-on (c.args.section, c.args.colour) (map status_of c.args.lines.now) c.loop-i.i line within here c.args.place c.loop-i.place c.put_line-place.result _ _ _
       c.loop-i.invariant.rows c.put_line-place.ensures.row;
 }
 

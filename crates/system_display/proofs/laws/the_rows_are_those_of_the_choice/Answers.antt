@@ -1,4 +1,4 @@
-use Rattle.std.proofs.Common.{refl, sym, ap, ◌∙◌}
+use Rattle.std.proofs.Common.{sym, ap, ◌∙◌}
 use Rattle.ecam_spec.specs.Screen.{display}
 use Rattle.ecam_spec.specs.SystemDisplay.{page_rows, display_rows}
 use Rattle.system_display.proofs.laws.the_rows_are_those_of_the_choice.Goals as goal

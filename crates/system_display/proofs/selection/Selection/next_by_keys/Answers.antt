@@ -1,11 +1,12 @@
 use Rattle.std.proofs.Common.{◌+◌, ◌∙◌, refl}
+use Rattle.ecam_spec.specs.Selection.{last_number}
 use Rattle.std.proofs.Math.Nat.{min_comm}
 use Rattle.system_display.proofs.Selections.{status-shown, cleared, cancel-shown, same-shown}
 use Rattle.system_display.proofs.selection.Selection.next_by_keys.Goals as goal
 
 pub returns-then-inputs-clause-selection : goal.returns-then-inputs-clause-selection
 returns-then-inputs-clause-selection c = λ p k old is none.
-    status-shown p k none c.args.self _ old (is.sts ∙ c.if-inputs.true) refl (c.saturating_add.ensures ∙ min_comm (c.args.self.next_status + 1) 4294967295)
+    status-shown p k none c.args.self _ old (is.sts ∙ c.if-inputs.true) refl (c.saturating_add.ensures ∙ min_comm (c.args.self.next_status + 1) last_number)
 
 pub returns-then-inputs-2-clause-selection : goal.returns-then-inputs-2-clause-selection
 returns-then-inputs-2-clause-selection c = λ p k old is none.
