@@ -1,5 +1,5 @@
-# Draws both displays as they stand at the end of moment `at`, from an output: awk -v at=3 -f draw.awk OUTPUT
-/^@/ { late = substr($1, 2) + 0 > at + 0 }
+# Draws both displays as they stand at the end of moment `at`, or of the last one: awk -v at=3 -f draw.awk OUTPUT
+/^@/ { late = at != "" && substr($1, 2) + 0 > at + 0 }
 /^@|^END / || late { next }
 { row[$1] = $2 == "-" ? "" : substr($0, length($1) + 1) }
 END {

@@ -4,11 +4,11 @@ use Rattle.std.specs.Prelude.{◌↔◌}
 use Rattle.std.specs.Option.{option_or}
 use Rattle.std.specs.Bool.{then_some}
 use Rattle.std.specs.List.{find}
-use Rattle.std.proofs.lemmas.Bool.{eqb-true, false≢true, and_parts, or_parts, or_from}
+use Rattle.std.proofs.lemmas.Bool.{eqb-true, false≢true, and_parts, or_parts, or_from, not-true}
 use Rattle.std.proofs.lemmas.List.{take_all, take_more, take-append-drop, get_or-set_same, get_or-set_other, set-get_or, length-set}
 use Rattle.std.proofs.lemmas.List.Folds.{find-append}
 use Rattle.std.proofs.Math.Seq.{drop-cons}
-use Rattle.ecam_spec.proofs.ListLaws.{mem, distinct, eqb-self, mem-append, not-true}
+use Rattle.ecam_spec.proofs.ListLaws.{mem, distinct, eqb-self, mem-append}
 use Rattle.crew_marks.specs.declared.mark.Mark.{Mark}
 use Rattle.crew_marks.specs.MarkSets.{MarkSets, mark_at, set_mark, HasMark, AreMany}
 

@@ -4,7 +4,7 @@ use Rattle.std.specs.Prelude.{find, count_by, is_some, option_map}
 use Rattle.std.specs.List.{list_any, position_or_len}
 use Rattle.std.proofs.lemmas.Bool.Decides.{nat_tests}
 use Rattle.std.proofs.lemmas.List.{get_or_append_left, length-append, length-take}
-use Rattle.std.proofs.lemmas.Bool.{and_parts}
+use Rattle.std.proofs.lemmas.Bool.{and_parts, not-true}
 use Rattle.std.proofs.Math.Bool.{and-true}
 use Rattle.ecam_spec.specs.declared.kinds.Standing.TheVariants.{Titled}
 use Rattle.ecam_spec.specs.Book.{Book, Memo}
@@ -20,7 +20,7 @@ use Rattle.ecam_spec.specs.Replay.{standing_in}
 use Rattle.ecam_spec.proofs.AlertLaws.{active_present}
 use Rattle.ecam_spec.proofs.CrewLaws.{cleared_up, recalled_waiting, shown_filter, listed_shown}
 use Rattle.ecam_spec.proofs.StandingLaws.{Tied, accounts-where, recalled-has_row, titled-row, beyond-of, counted-beyond}
-use Rattle.ecam_spec.proofs.ListLaws.{mem, distinct, distinct-filter, count_by-agree, count_by-filter, not-true}
+use Rattle.ecam_spec.proofs.ListLaws.{mem, distinct, distinct-filter, count_by-agree, count_by-filter}
 use Rattle.ecam_spec.proofs.OrderLaws.{distinct-order, count-order}
 use Rattle.ecam_spec.proofs.LeftLaws.{titled_where_shown, title_stands, title_in_zone}
 use Rattle.ecam_spec.proofs.OverflowLaws.{stands_beyond, overflow_counts}

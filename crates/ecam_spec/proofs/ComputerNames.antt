@@ -1,6 +1,7 @@
 -- What asks for a computer: where a condition doesn't, it is as true in worlds that differ in their computers alone;
 -- and what a book doesn't ask, no part of it does.
 use Rattle.std.proofs.Common.{◌≡◌, ℕ, zero, suc, Bool, true, false, ◌||◌, ◌⊎◌, inl, inr, List, [], ◌∷◌, ◌++◌, map, get_or, refl, sym, ◌∙◌, ap}
+use Rattle.std.proofs.Math.Bool.{or_assoc}
 use Rattle.std.specs.List.{list_any}
 use Rattle.std.proofs.lemmas.List.Folds.{list_any-append}
 use Rattle.std.proofs.lemmas.Bool.{or_parts}
@@ -31,10 +32,6 @@ right-part a b (inr u) = inr u
 pub map-left : {A B U : Type 0} → (A → B) → A ⊎ U → B ⊎ U
 map-left f (inl a) = inl (f a)
 map-left f (inr u) = inr u
-
-or-assoc : (a b c : Bool) → (a || (b || c)) ≡ ((a || b) || c)
-or-assoc true b c = refl
-or-assoc false b c = refl
 
 up-same : {U : Type 0} → (true ≡ false) ⊎ U → U
 up-same (inl e) = absurd (let w : ⊥ = cc in w)
@@ -87,7 +84,7 @@ module _ (b : Book) where
   lines-any : (ls : List Line) → list_any asks (line_terms ls) ≡ list_any line-asks ls
   lines-any [] = refl
   lines-any (l ∷ ls) =
-      ap (λ c. asks l.when || (asks l.done || c)) (lines-any ls) ∙ or-assoc (asks l.when) (asks l.done) (list_any line-asks ls)
+      ap (λ c. asks l.when || (asks l.done || c)) (lines-any ls) ∙ sym (or_assoc (asks l.when) (asks l.done) (list_any line-asks ls))
 
   alerts-any : (as' : List Alert) → list_any line-asks (lines_of as') ≡ list_any (λ (a : Alert). list_any line-asks a.lines) as'
   alerts-any [] = refl

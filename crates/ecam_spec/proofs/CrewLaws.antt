@@ -5,7 +5,7 @@ use Rattle.std.specs.List.{list_any}
 use Rattle.std.proofs.lemmas.List.{length-append, get_or_append_left, get_or_at}
 use Rattle.std.proofs.lemmas.List.Elements.{filter_agree}
 use Rattle.std.proofs.lemmas.Map.Views.{any-filter_same}
-use Rattle.std.proofs.lemmas.Bool.{eqb-true, and_parts}
+use Rattle.std.proofs.lemmas.Bool.{eqb-true, and_parts, not_from_false, or_from}
 use Rattle.std.proofs.Math.Nat.{le-suc_iff}
 use Rattle.std.proofs.Math.Bool.{and-true, and-false}
 use Rattle.ecam_spec.specs.Past.{since, previous}
@@ -220,9 +220,6 @@ module _ (c : Cockpit) where
       (ap (λ b. struck c s a j && b) ended ∙ and-false (struck c s a j)) (ap (λ b. b && not (c.rcl j)) ended))
       (λ i after upto. ap (λ b. b && c.up a i) (none i after upto))
 
-  both-off : (l e : Bool) → l ≡ false → e ≡ false → not (l || e) ≡ true
-  both-off l e a b = rw (a, b) refl
-
   -- a cancelled caution stays cancelled until a long recall or the start of phase 1, whatever it does
   pub cancelled_stays : (s : Shown) (a j k : ℕ) → j ≤ k → cancelled c s a j ≡ true → ((i : ℕ) → j < i → i ≤ k → (long_recall c i ≡ false) × (c.enters_one i ≡ false)) → cancelled c s a k ≡ true
   unfolding cancelled
@@ -231,7 +228,7 @@ module _ (c : Cockpit) where
       let kept : since (λ i. c.emer i && is_alert a (target s i)) (λ i. not (long_recall c i || c.enters_one i)) k ≡ true =
       since-kept (λ i. c.emer i && is_alert a (target s i)) (λ i. not (long_recall c i || c.enters_one i)) j k within
       ((and_parts (c.is_caution a) _ was).1)
-      (λ i after upto. both-off (long_recall c i) (c.enters_one i) (none i after upto).0 (none i after upto).1) in
+      (λ i after upto. not_from_false (long_recall c i || c.enters_one i) (or_from (long_recall c i) (c.enters_one i) (none i after upto).0 (none i after upto).1)) in
       rw (level, kept) refl
 
   -- a long recall, and the start of phase 1, end each cancellation but one of the same moment

@@ -1,21 +1,19 @@
 -- What the crew's actions make of the next moment: the target, who is cancelled, what is shown by flags, and NORMAL by
 -- the last press of RCL.
-use Rattle.std.proofs.Common.{◌≡◌, ℕ, zero, suc, ◌+◌, ◌-◌, ◌<◌, max, Bool, true, false, not, ◌&&◌, ◌||◌, List, [], ◌∷◌, length, All, Option, Some, None, cond, leb, refl, sym, ◌∙◌, ap, arith}
+use Rattle.std.proofs.Common.{◌≡◌, ℕ, zero, suc, ◌+◌, ◌<◌, Bool, true, false, not, ◌&&◌, ◌||◌, List, [], ◌∷◌, length, All, Some, cond, ltb, refl, sym, ◌∙◌, ap}
 use Rattle.std.specs.Prelude.{filter, find}
 use Rattle.std.specs.Option.{option_map_or}
-use Rattle.std.proofs.lemmas.Bool.Decides.{nat_tests}
-use Rattle.std.proofs.lemmas.Bool.{lt-leb}
 use Rattle.std.proofs.lemmas.List.Elements.{All-head, All-tail}
 use Rattle.std.proofs.Math.Bool.{and-false}
-use Rattle.ecam_spec.specs.Past.{once_from, once_within, historically_from, previous, since, last, start_of}
+use Rattle.ecam_spec.specs.Past.{historically_from, previous, since, last, last_since}
 use Rattle.ecam_spec.specs.Places.{first_in}
 use Rattle.ecam_spec.specs.Book.{Book}
 use Rattle.ecam_spec.specs.History.{Moment}
 use Rattle.ecam_spec.specs.Crew.{Cockpit, Shown, target, is_alert, long_recall, cancelled, is_shown, shown, shows_nothing, normal}
 use Rattle.ecam_spec.specs.Screen.{order, cockpit, shown_in, is_shown_in}
-use Rattle.ecam_spec.proofs.PastSteps.{once-below, since-now, start_of-off}
-use Rattle.ecam_spec.proofs.PastWithin.{historically_from-start, once_from-last}
-use Rattle.ecam_spec.proofs.PastMoments.{last-told}
+use Rattle.ecam_spec.proofs.PastSteps.{since-now}
+use Rattle.ecam_spec.proofs.PastMoments.{once_within-last}
+use Rattle.ecam_spec.proofs.PastRuns.{last_since-off}
 use Rattle.ecam_spec.proofs.CrewLaws.{shown_filter}
 use Rattle.ecam_spec.proofs.OrderLaws.{order-below}
 
@@ -37,18 +35,6 @@ filter-below p q n (x ∷ xs) within same =
 again : (i p q s : Bool) → (i && (p || (q && s))) ≡ (i && (p || (q && (i && s))))
 again true p q s = refl
 again false p q s = refl
-
--- from both of two moments on
-both_from : (m s j : ℕ) (r : Bool) → (leb m j && (r && leb s j)) ≡ (leb (max m s) j && r)
-both_from m s j true = grind (arith, nat_tests)
-both_from m s j false = and-false (leb m j) ∙ sym (and-false (leb (max m s) j))
-
-lately_from : (n k s j : ℕ) → leb (max (k - n) s) j ≡ (leb k (j + n) && leb s j)
-lately_from n k s j = grind (arith, nat_tests)
-
-nowhere : (o : Option ℕ) → option_map_or (λ j. false) o false ≡ false
-nowhere None = refl
-nowhere (Some j) = refl
 
 module _ (c : Cockpit) where
   before_cancelled : (s : Shown) (a k : ℕ) → (c.is_caution a && previous (since (λ j. c.emer j && is_alert a (target s j)) (λ j. not (long_recall c j || c.enters_one j))) k) ≡ previous (cancelled c s a) k
@@ -75,35 +61,17 @@ module _ (c : Cockpit) where
   shown-told test n k within tells =
       shown_filter c k ∙ filter-below (λ a. is_shown c (shown c) a k) test n c.order within (λ a h. sym (tells a h))
 
-  calm-off : (k : ℕ) (b : Bool) → shows_nothing c k ≡ b → (b && option_map_or (λ j. leb k (j + 29) && historically_from j (shows_nothing c) k) (last c.rcl k) false) ≡ option_map_or (λ j. leb k (j + 29) && historically_from j (shows_nothing c) k) (last c.rcl k) false
-  calm-off k true e = refl
-  calm-off k false e =
-      sym
-      (last-told (λ j. leb k (j + 29) && historically_from j (shows_nothing c) k) (λ j. false) c.rcl k
-      (λ j h.
-      ap (λ b. leb k (j + 29) && b)
-      (historically_from-start j (shows_nothing c) k (omega arith)
-      ∙ ap (λ s. leb s j) (start_of-off (shows_nothing c) k e)
-      ∙ lt-leb (suc k) j (omega arith))
-      ∙ and-false (leb k (j + 29)))
-      ∙ nowhere (last c.rcl k))
-
-  -- NORMAL: the last press of RCL is at most 29 moments old, and nothing has been shown since
-  pub normal-last : (k : ℕ) → normal c k ≡ option_map_or (λ j. leb k (j + 29) && historically_from j (shows_nothing c) k) (last c.rcl k) false
-  unfolding normal once_within once_from
+  -- NORMAL: the last press of RCL since which nothing was shown is at most 29 moments old
+  pub normal-last : (k : ℕ) → normal c k ≡ option_map_or (λ j. ltb k (j + 29 + 1)) (last_since c.rcl (shows_nothing c) k) false
+  unfolding normal last_since
   normal-last k =
-      let start = start_of (shows_nothing c) k in
-      ap (λ b. shows_nothing c k && b)
-      (once-below (λ j. leb (k - 29) j && (c.rcl j && historically_from j (shows_nothing c) k)) (λ j. leb (max (k - 29) start) j && c.rcl j) k
-      (λ j h.
-      ap (λ b. leb (k - 29) j && (c.rcl j && b)) (historically_from-start j (shows_nothing c) k (omega arith))
-      ∙ both_from (k - 29) start j (c.rcl j))
-      ∙ once_from-last (max (k - 29) start) c.rcl k
-      ∙ last-told (leb (max (k - 29) start)) (λ j. leb k (j + 29) && historically_from j (shows_nothing c) k) c.rcl k
-      (λ j h.
-      lately_from 29 k start j
-      ∙ ap (λ b. leb k (j + 29) && b) (sym (historically_from-start j (shows_nothing c) k (omega arith)))))
-      ∙ calm-off k (shows_nothing c k) refl
+      ap (λ b. shows_nothing c k && b) (once_within-last 29 (λ j. c.rcl j && historically_from j (shows_nothing c) k) k)
+      ∙ quiet (shows_nothing c k) refl where
+        quiet : (b : Bool) → shows_nothing c k ≡ b
+            → (b && option_map_or (λ j. ltb k (j + 29 + 1)) (last (λ j. c.rcl j && historically_from j (shows_nothing c) k) k) false)
+            ≡ option_map_or (λ j. ltb k (j + 29 + 1)) (last (λ j. c.rcl j && historically_from j (shows_nothing c) k) k) false
+        quiet true e = refl
+        quiet false e = sym (ap (λ o. option_map_or (λ j. ltb k (j + 29 + 1)) o false) (last_since-off c.rcl (shows_nothing c) k e))
 
 module _ (b : Book) (moments : ℕ → Moment) where
   -- flags of the alerts that tell which are shown tell what is shown

@@ -28,6 +28,7 @@ pub mod FailureLaws
 pub mod PhaseLaws
 pub mod PastWithin
 pub mod PastMoments
+pub mod PastRuns
 pub mod PastAgree
 pub mod TermNames
 pub mod AtomLaws

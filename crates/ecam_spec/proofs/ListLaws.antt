@@ -4,7 +4,7 @@ use Rattle.std.specs.Prelude.{filter, count_by, is_some, position}
 use Rattle.std.specs.List.{list_any, position_or_len}
 use Rattle.std.proofs.Math.Dec.{leb-suc-suc}
 use Rattle.std.proofs.Math.Numerals.{one-add}
-use Rattle.std.proofs.lemmas.Bool.{eqb-true, eq-eqb, lt-ltb, and_parts}
+use Rattle.std.proofs.lemmas.Bool.{eqb-true, eq-eqb, lt-ltb, and_parts, true≢false, not-true, or_right, not_from_false, or_from}
 use Rattle.std.proofs.lemmas.List.Sums.{sum_by-cons}
 use Rattle.std.proofs.lemmas.List.Folds.{list_any-append}
 use Rattle.std.proofs.lemmas.Map.Views.{any-filter_same}
@@ -30,13 +30,6 @@ kept : (b m d : Bool) (rest : Bool) → (b ≡ true → m ≡ false) → rest �
 kept true m d rest f e = rw (f refl, e) refl
 kept false m d rest f e = e
 
-pub true-false : true ≡ false → ⊥
-true-false e = cc
-
-pub not-true : (b : Bool) → not b ≡ true → b ≡ false
-not-true true e = cc
-not-true false e = refl
-
 filter-cons : (b : Bool) (p : ℕ → Bool) (x : ℕ) (xs : List ℕ) → mem x (filter p xs) ≡ false → distinct (filter p xs) ≡ true → distinct (cond b (x ∷ filter p xs) (filter p xs)) ≡ true
 filter-cons true p x xs e d = rw (e, d) refl
 filter-cons false p x xs e d = d
@@ -51,21 +44,14 @@ distinct-filter p (x ∷ xs) d =
 pub mem-append : (a : ℕ) (xs ys : List ℕ) → mem a (xs ++ ys) ≡ (mem a xs || mem a ys)
 mem-append a xs ys = list_any-append (λ i. a == i) xs ys
 
-head-fresh : (m n : Bool) → m ≡ false → n ≡ false → not (m || n) ≡ true
-head-fresh m n e f = rw (e, f) refl
-
-later : (b m : Bool) → m ≡ true → (b || m) ≡ true
-later true m e = refl
-later false m e = e
-
 pub distinct-append : (xs ys : List ℕ) → distinct xs ≡ true → distinct ys ≡ true → ((a : ℕ) → mem a xs ≡ true → mem a ys ≡ false) → distinct (xs ++ ys) ≡ true
 distinct-append [] ys d e apart = e
 distinct-append (x ∷ xs) ys d e apart =
     let fresh : not (mem x (xs ++ ys)) ≡ true =
     ap not (mem-append x xs ys)
-    ∙ head-fresh (mem x xs) (mem x ys) (not-true (mem x xs) ((and_parts (not (mem x xs)) (distinct xs) d).0)) (apart x (ap (λ b. b || mem x xs) (eqb-self x))) in
+    ∙ not_from_false (mem x xs || mem x ys) (or_from (mem x xs) (mem x ys) (not-true (mem x xs) ((and_parts (not (mem x xs)) (distinct xs) d).0)) (apart x (ap (λ b. b || mem x xs) (eqb-self x)))) in
     let rest : distinct (xs ++ ys) ≡ true =
-    distinct-append xs ys ((and_parts (not (mem x xs)) (distinct xs) d).1) e (λ a h. apart a (later (a == x) (mem a xs) h)) in
+    distinct-append xs ys ((and_parts (not (mem x xs)) (distinct xs) d).1) e (λ a h. apart a (or_right (a == x) (mem a xs) h)) in
     rw (fresh, rest) refl
 
 not-eq : (a n : ℕ) → a ≢ n → (a == n) ≡ false
@@ -81,7 +67,7 @@ below-none (suc n) a h =
     ∙ ap (λ b. b || false) (not-eq a n (omega arith))
 
 below-differs : (a n : ℕ) → mem a (below n) ≡ true → a ≢ n
-below-differs a n h e = true-false (sym h ∙ below-none n a (omega arith))
+below-differs a n h e = true≢false (sym h ∙ below-none n a (omega arith))
 
 pub distinct-below : (n : ℕ) → distinct (below n) ≡ true
 unfolding below
@@ -98,7 +84,7 @@ pub count_by-agree : (p q : ℕ → Bool) (xs : List ℕ) → ((a : ℕ) → mem
 count_by-agree p q [] same = refl
 count_by-agree p q (x ∷ xs) same =
     let here : p x ≡ q x = same x (ap (λ b. b || mem x xs) (eqb-self x)) in
-    let rest : count_by p xs ≡ count_by q xs = count_by-agree p q xs (λ a h. same a (later (a == x) (mem a xs) h)) in
+    let rest : count_by p xs ≡ count_by q xs = count_by-agree p q xs (λ a h. same a (or_right (a == x) (mem a xs) h)) in
     count_by-cons p x xs ∙ ap (λ b. cond b 1 0 + count_by p xs) here ∙ ap (λ n. cond (q x) 1 0 + n) rest ∙ sym (count_by-cons q x xs)
 
 -- what passes a filter is counted with its test

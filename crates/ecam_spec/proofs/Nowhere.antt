@@ -3,12 +3,10 @@ use Rattle.std.proofs.Common.{◌≡◌, ℕ, zero, suc, Bool, true, false, List
 use Rattle.std.specs.Prelude.{filter, find, count_by}
 use Rattle.std.proofs.lemmas.List.Sums.{length-filter}
 use Rattle.ecam_spec.specs.Past.{Signal, last}
-use Rattle.ecam_spec.proofs.PastSteps.{last-zero, last-suc}
+use Rattle.ecam_spec.proofs.PastSteps.{last-none}
 
 pub last-nowhere : (p : Signal) (k : ℕ) → ((i : ℕ) → p i ≡ false) → last p k ≡ None
-last-nowhere p zero none = last-zero p ∙ ap (λ b. cond b (Some 0) None) (none 0)
-last-nowhere p (suc k) none =
-    last-suc p k ∙ ap (λ b. cond b (Some (suc k)) (last p k)) (none (suc k)) ∙ last-nowhere p k none
+last-nowhere p k none = last-none p k (λ i h. none i)
 
 module _ {X : Type 0} (p : X → Bool) where
   pub filter-all : ((x : X) → p x ≡ true) → (xs : List X) → filter p xs ≡ xs

@@ -3,7 +3,7 @@ use Rattle.std.proofs.Common.{◌≡◌, ℕ, zero, suc, ◌+◌, ◌<◌, Bool,
 use Rattle.std.specs.Prelude.{count_by}
 use Rattle.std.proofs.lemmas.List.Elements.{All-append, All-filter, All-cons, All-nil, All-weaker}
 use Rattle.std.proofs.lemmas.List.Sums.{sum_by-append}
-use Rattle.std.proofs.lemmas.Bool.{and_parts}
+use Rattle.std.proofs.lemmas.Bool.{and_parts, true≢false}
 use Rattle.ecam_spec.specs.declared.kinds.Level.{Level}
 use Rattle.ecam_spec.specs.declared.kinds.Level.TheVariants.{One, Two, Three}
 use Rattle.ecam_spec.specs.Places.{below}
@@ -12,11 +12,11 @@ use Rattle.ecam_spec.specs.Book.{Book}
 use Rattle.ecam_spec.specs.Situation.{alert_at}
 use Rattle.ecam_spec.specs.Screen.{alert_numbers, of_level, order}
 use Rattle.ecam_spec.proofs.Nowhere.{count_by-all}
-use Rattle.ecam_spec.proofs.ListLaws.{mem, mem-append, distinct, mem-filter, distinct-filter, distinct-append, distinct-below, count_by-cons, count_by-filter, true-false}
+use Rattle.ecam_spec.proofs.ListLaws.{mem, mem-append, distinct, mem-filter, distinct-filter, distinct-append, distinct-below, count_by-cons, count_by-filter}
 
 apart-step : (p q m : Bool) → (p && q) ≡ false → p ≡ true → (q && m) ≡ false
 apart-step true q m e h = ap (λ x. x && m) e
-apart-step false q m e h = absurd (true-false (sym h))
+apart-step false q m e h = absurd (true≢false (sym h))
 
 or-cases : (x y z : Bool) → (x ≡ true → z ≡ false) → (y ≡ true → z ≡ false) → (x || y) ≡ true → z ≡ false
 or-cases true y z f g h = f refl

@@ -4,12 +4,12 @@ use Rattle.std.specs.Prelude.{filter, count_by, is_some}
 use Rattle.std.specs.List.{position_or_len}
 use Rattle.std.proofs.Math.Dec.{leb-suc-suc, leb-suc-zero}
 use Rattle.std.proofs.Math.Numerals.{one-add}
-use Rattle.std.proofs.lemmas.Bool.{eqb-true, le-leb, and_parts}
+use Rattle.std.proofs.lemmas.Bool.{eqb-true, le-leb, and_parts, not-true, true≢false}
 use Rattle.ecam_spec.specs.Book.{Line, Alert}
 use Rattle.ecam_spec.specs.Picture.{Row, row}
 use Rattle.ecam_spec.specs.Crew.{is_alert}
 use Rattle.ecam_spec.specs.LeftZone.{LeftRow, plain, alert_rows, left_rows, overflow}
-use Rattle.ecam_spec.proofs.ListLaws.{mem, distinct, not-true, eqb-self, count_by-cons, count_by-agree, true-false}
+use Rattle.ecam_spec.proofs.ListLaws.{mem, distinct, eqb-self, count_by-cons, count_by-agree}
 use Rattle.ecam_spec.proofs.LeftLaws.{joined}
 
 -- the alerts whose titles are among some rows, in order
@@ -52,7 +52,7 @@ own-place t c rows = ap (λ b. cond (not b) (1 + title-place rows t) 0) (eqb-sel
 other-title : (t a : ℕ) (as' : List ℕ) → mem t as' ≡ false → mem a as' ≡ true → (a == t) ≡ false
 other-title t a as' none some =
     elim (a == t) as (λ b. (a == t) ≡ b → b ≡ false) [
-      | true ↦ λ e. absurd (true-false (sym some ∙ ap (λ n. mem n as') (eqb-true a t e) ∙ none))
+      | true ↦ λ e. absurd (true≢false (sym some ∙ ap (λ n. mem n as') (eqb-true a t e) ∙ none))
       | false ↦ λ e. refl
     ] refl
 

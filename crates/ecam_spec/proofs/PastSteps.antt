@@ -141,6 +141,12 @@ once_from-here p zero = once_from-zero p
 once_from-here p (suc k) =
     once_from-suc (suc k) p k (omega arith) ∙ ap (λ b. p (suc k) || b) (once_from-after (suc k) p k (omega arith)) ∙ or-false (p (suc k))
 
+pub historically_from-here : (p : Signal) (k : ℕ) → historically_from k p k ≡ p k
+unfolding historically_from historically
+historically_from-here p zero = refl
+historically_from-here p (suc k) =
+    historically_from-suc (suc k) p k (omega arith) ∙ ap (λ b. p (suc k) && b) (historically_from-after (suc k) p k (omega arith)) ∙ and-true (p (suc k))
+
 -- what is so now was so in some moment from j up to now
 pub once_from-now : (j : ℕ) (p : Signal) (k : ℕ) → j ≤ k → p k ≡ true → once_from j p k ≡ true
 once_from-now j p zero within now =
@@ -160,6 +166,12 @@ last-here p (suc k) now = last-suc p k ∙ ap (λ b. cond b (Some (suc k)) (last
 -- until p comes again, it stays
 pub last-skip : (p : Signal) (k : ℕ) → p (suc k) ≡ false → last p (suc k) ≡ last p k
 last-skip p k off = last-suc p k ∙ ap (λ b. cond b (Some (suc k)) (last p k)) off
+
+-- what was so in no moment up to now has no last moment
+pub last-none : (p : Signal) (k : ℕ) → ((i : ℕ) → i ≤ k → p i ≡ false) → last p k ≡ None
+last-none p zero none = last-zero p ∙ ap (λ b. cond b (Some 0) None) (none 0 (omega arith))
+last-none p (suc k) none =
+    last-suc p k ∙ ap (λ b. cond b (Some (suc k)) (last p k)) (none (suc k) (omega arith)) ∙ last-none p k (λ i h. none i (omega arith))
 
 upto : (b : Bool) (k : ℕ) (o : Option ℕ) → moment_after o ≤ k → moment_after (cond b (Some k) o) ≤ suc k
 upto true k o h = omega arith

@@ -5,15 +5,14 @@ use Rattle.std.specs.Prelude.{is_some}
 use Rattle.std.specs.Option.{option_and_then}
 use Rattle.ecam_spec.specs.declared.kinds.Choice.{Choice}
 use Rattle.ecam_spec.specs.declared.kinds.Choice.TheVariants.{Auto, Page, Status}
-use Rattle.ecam_spec.specs.Past.{Signal, last, moment_after, count_from}
+use Rattle.ecam_spec.specs.Past.{Signal, last, moment_after, previously, count_from}
 use Rattle.ecam_spec.specs.Selection.{Panel, Selecting, each_page, one_page, the_status, the_clear, the_cancel, is_status, is_cancel, selecting, selects, selects_status, last_but_status, status_number, page_in_turn, choice_by, choice_from, choice}
 use Rattle.ecam_spec.specs.Runs.{choice_before, status_ahead}
 use Rattle.ecam_spec.proofs.PastSteps.{last-zero, last-suc, last-upto, count_up_to-zero, count_up_to-suc}
 
 -- the last moment before now with q, and in how many moments from j up to the one before now q holds
 abbrev pub last_before : Signal → ℕ → Option ℕ
-last_before q zero = None
-last_before q (suc k) = last q k
+last_before q = previously (last q)
 
 abbrev pub count_before : ℕ → Signal → ℕ → ℕ
 count_before j q zero = 0

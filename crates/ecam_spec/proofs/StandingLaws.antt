@@ -1,11 +1,10 @@
 -- What follows for the standing of an alert from what is so of it.
 use Rattle.std.proofs.Common.{◌≡◌, ℕ, ◌≤◌, Bool, true, false, not, ◌&&◌, ◌||◌, Option, Some, None, sym, ◌∙◌, refl, ap, cond, leb, arith}
 use Rattle.std.specs.Prelude.{is_some}
-use Rattle.std.proofs.lemmas.Bool.{leb-true}
+use Rattle.std.proofs.lemmas.Bool.{leb-true, true≢false}
 use Rattle.std.proofs.Math.Bool.{and-false}
 use Rattle.ecam_spec.specs.declared.kinds.Standing.TheVariants.{Titled, Counted, Cancelled, Cleared}
 use Rattle.ecam_spec.specs.Standing.{Facts, standing_by_row, standing_of, accounts, has_row, is_counted}
-use Rattle.ecam_spec.proofs.ListLaws.{true-false}
 
 -- what ties the facts of an alert together, and whether it is recalled
 pub record Tied (f : Facts) (recalled : Bool) : Type 0 where
@@ -29,19 +28,19 @@ row-accounts (Some r) = titled-or-counted (leb r 7) r
 
 accounts-by : (p a sh : Bool) (sb : Option ℕ) (ca cl : Bool) (tr : Option ℕ) (re : Bool) → Tied (facts p a sh sb ca cl tr) re → accounts (standing_of (facts p a sh sb ca cl tr)) ≡ (a || (re && not ca))
 unfolding standing_of
-accounts-by false true sh sb ca cl tr re t = absurd (true-false (sym (t.active refl)))
+accounts-by false true sh sb ca cl tr re t = absurd (true≢false (sym (t.active refl)))
 accounts-by true true sh (Some q) ca cl tr re t = refl
 accounts-by true true sh None true cl tr re t = refl
 accounts-by true true sh None false true tr re t = refl
 accounts-by true true sh None false false tr re t = row-accounts tr
-accounts-by p false true sb ca cl tr false t = absurd (true-false (t.shown ∙ and-false (not ca)))
+accounts-by p false true sb ca cl tr false t = absurd (true≢false (t.shown ∙ and-false (not ca)))
 accounts-by false false false sb ca cl tr false t = refl
 accounts-by true false false sb ca cl tr false t = refl
-accounts-by false false sh sb ca cl tr true t = absurd (true-false (sym (t.recalled_waits refl).0))
-accounts-by true false true sb true cl tr true t = absurd (true-false t.shown)
+accounts-by false false sh sb ca cl tr true t = absurd (true≢false (sym (t.recalled_waits refl).0))
+accounts-by true false true sb true cl tr true t = absurd (true≢false t.shown)
 accounts-by true false false sb true cl tr true t = refl
-accounts-by true false sh sb false true tr true t = absurd (true-false (sym (t.cleared refl)))
-accounts-by true false false sb false false tr true t = absurd (true-false (sym t.shown))
+accounts-by true false sh sb false true tr true t = absurd (true≢false (sym (t.cleared refl)))
+accounts-by true false false sb false false tr true t = absurd (true≢false (sym t.shown))
 accounts-by true false true sb false false tr true t = row-accounts tr
 
 -- an alert is accounted for where it is active, or recalled and not cancelled
@@ -60,11 +59,11 @@ row-has (Some r) = row-or-count (leb r 7) r
 
 row-by : (p a sh : Bool) (sb : Option ℕ) (ca cl : Bool) (tr : Option ℕ) → Tied (facts p a sh sb ca cl tr) true → ca ≡ false → has_row (standing_of (facts p a sh sb ca cl tr)) ≡ true
 unfolding standing_of
-row-by p a sh sb true cl tr t e = absurd (true-false e)
-row-by p true sh sb false cl tr t e = absurd (true-false (t.recalled_waits refl).1)
-row-by false false sh sb false cl tr t e = absurd (true-false (sym (t.recalled_waits refl).0))
-row-by true false sh sb false true tr t e = absurd (true-false (sym (t.cleared refl)))
-row-by true false false sb false false tr t e = absurd (true-false (sym t.shown))
+row-by p a sh sb true cl tr t e = absurd (true≢false e)
+row-by p true sh sb false cl tr t e = absurd (true≢false (t.recalled_waits refl).1)
+row-by false false sh sb false cl tr t e = absurd (true≢false (sym (t.recalled_waits refl).0))
+row-by true false sh sb false true tr t e = absurd (true≢false (sym (t.cleared refl)))
+row-by true false false sb false false tr t e = absurd (true≢false (sym t.shown))
 row-by true false true sb false false tr t e = row-has tr
 
 -- a recalled alert that isn't cancelled is titled or counted
@@ -107,25 +106,25 @@ counted-by false r = refl
 
 counted-from : (p a sh : Bool) (sb : Option ℕ) (ca cl : Bool) (tr : Option ℕ) (re : Bool) → Tied (facts p a sh sb ca cl tr) re → is_some tr ≡ sh → is_counted (standing_of (facts p a sh sb ca cl tr)) ≡ beyond-of tr
 unfolding standing_of
-counted-from p false false sb ca cl (Some r) re t h = absurd (true-false h)
+counted-from p false false sb ca cl (Some r) re t h = absurd (true≢false h)
 counted-from true false false sb ca cl None re t h = refl
 counted-from false false false sb ca cl None re t h = refl
-counted-from p false true sb ca cl tr false t h = absurd (true-false (t.shown ∙ and-false (not ca)))
-counted-from false false true sb ca cl tr true t h = absurd (true-false (sym (t.recalled_waits refl).0))
-counted-from true false true sb true cl tr true t h = absurd (true-false t.shown)
-counted-from true false true sb false true tr true t h = absurd (true-false (sym (t.cleared refl)))
-counted-from true false true sb false false None true t h = absurd (true-false (sym h))
+counted-from p false true sb ca cl tr false t h = absurd (true≢false (t.shown ∙ and-false (not ca)))
+counted-from false false true sb ca cl tr true t h = absurd (true≢false (sym (t.recalled_waits refl).0))
+counted-from true false true sb true cl tr true t h = absurd (true≢false t.shown)
+counted-from true false true sb false true tr true t h = absurd (true≢false (sym (t.cleared refl)))
+counted-from true false true sb false false None true t h = absurd (true≢false (sym h))
 counted-from true false true sb false false (Some r) true t h = counted-by (leb r 7) r
-counted-from false true sh sb ca cl tr re t h = absurd (true-false (sym (t.active refl)))
-counted-from true true sh sb ca cl tr true t h = absurd (true-false (t.recalled_waits refl).1)
-counted-from true true sh (Some q) ca cl (Some r) false t h = absurd (true-false (h ∙ t.shown ∙ and-false (not ca)))
+counted-from false true sh sb ca cl tr re t h = absurd (true≢false (sym (t.active refl)))
+counted-from true true sh sb ca cl tr true t h = absurd (true≢false (t.recalled_waits refl).1)
+counted-from true true sh (Some q) ca cl (Some r) false t h = absurd (true≢false (h ∙ t.shown ∙ and-false (not ca)))
 counted-from true true sh (Some q) ca cl None false t h = refl
-counted-from true true sh None true cl (Some r) false t h = absurd (true-false (h ∙ t.shown))
+counted-from true true sh None true cl (Some r) false t h = absurd (true≢false (h ∙ t.shown))
 counted-from true true sh None true cl None false t h = refl
-counted-from true true sh None false true (Some r) false t h = absurd (true-false (h ∙ t.shown))
+counted-from true true sh None false true (Some r) false t h = absurd (true≢false (h ∙ t.shown))
 counted-from true true sh None false true None false t h = refl
 counted-from true true sh None false false (Some r) false t h = counted-by (leb r 7) r
-counted-from true true sh None false false None false t h = absurd (true-false (sym (h ∙ t.shown)))
+counted-from true true sh None false false None false t h = absurd (true≢false (sym (h ∙ t.shown)))
 
 pub counted-beyond : (f : Facts) (re : Bool) → Tied f re → is_some f.title_row ≡ f.shown → is_counted (standing_of f) ≡ beyond-of f.title_row
 counted-beyond f re t h = counted-from f.present f.active f.shown f.starred_by f.cancelled f.cleared f.title_row re t h

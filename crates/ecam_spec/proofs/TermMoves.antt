@@ -7,8 +7,8 @@ use Rattle.ecam_spec.specs.declared.terms.Reserved.{Reserved}
 use Rattle.ecam_spec.specs.declared.terms.Reserved.TheVariants as words
 use Rattle.ecam_spec.specs.declared.terms.Token.{Token}
 use Rattle.ecam_spec.specs.declared.terms.Token.TheVariants.{Word, Name, KeyWord, Number, Sign, Open, Comma, Close, Stray}
-use Rattle.ecam_spec.specs.declared.term_steps.Listed.{Listed}
-use Rattle.ecam_spec.specs.declared.term_steps.Listed.TheVariants as lists
+use Rattle.ecam_spec.specs.declared.term_steps.Connective.{Connective}
+use Rattle.ecam_spec.specs.declared.term_steps.Connective.TheVariants as lists
 use Rattle.ecam_spec.specs.declared.term_steps.NumberRole.TheVariants as roles
 use Rattle.ecam_spec.specs.declared.term_steps.Step.{Step}
 use Rattle.ecam_spec.specs.declared.term_steps.Step.TheVariants as steps
@@ -73,7 +73,7 @@ tail_nothing s p (Close ∷ ts) g = record { move = g.move; is = g.is; rest = g.
 tail_nothing s p (Stray ∷ ts) g = record { move = g.move; is = g.is; rest = g.rest; tokens = g.tokens; steps = g.steps }
 
 -- the pieces of a list go on with one more
-others_steps : (list : Listed) (count : ℕ) (f : Form) (fs : Forms) (r : List Step) → made f (made_all fs (steps.Over list (count + suc (how_many fs)) ∷ r)) ≡ made f (made_all fs (steps.Over list ((count + 1) + how_many fs) ∷ r))
+others_steps : (list : Connective) (count : ℕ) (f : Form) (fs : Forms) (r : List Step) → made f (made_all fs (steps.Over list (count + suc (how_many fs)) ∷ r)) ≡ made f (made_all fs (steps.Over list ((count + 1) + how_many fs) ∷ r))
 others_steps list count f fs r =
     let e : count + suc (how_many fs) ≡ (count + 1) + how_many fs = omega arith in
     ap (λ (n : ℕ). made f (made_all fs (steps.Over list n ∷ r))) e

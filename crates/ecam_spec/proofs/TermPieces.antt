@@ -8,7 +8,7 @@ use Rattle.ecam_spec.specs.declared.terms.Span.{Span}
 use Rattle.ecam_spec.specs.declared.terms.Reserved.TheVariants as words
 use Rattle.ecam_spec.specs.declared.terms.Token.{Token}
 use Rattle.ecam_spec.specs.declared.terms.Token.TheVariants.{Word, Name, KeyWord, Number, Sign, Open, Comma, Close}
-use Rattle.ecam_spec.specs.declared.term_steps.Listed.TheVariants as lists
+use Rattle.ecam_spec.specs.declared.term_steps.Connective.TheVariants as lists
 use Rattle.ecam_spec.specs.declared.term_steps.Step.{Step}
 use Rattle.ecam_spec.specs.declared.term_steps.Step.TheVariants as steps
 use Rattle.ecam_spec.specs.declared.term_steps.Expected.{Expected}

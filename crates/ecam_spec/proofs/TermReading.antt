@@ -6,8 +6,8 @@ use Rattle.ecam_spec.specs.declared.terms.Reserved.{Reserved}
 use Rattle.ecam_spec.specs.declared.terms.Reserved.TheVariants as words
 use Rattle.ecam_spec.specs.declared.terms.Token.{Token}
 use Rattle.ecam_spec.specs.declared.terms.Token.TheVariants.{Word, Name, KeyWord, Number, Sign, Open, Comma, Close}
-use Rattle.ecam_spec.specs.declared.term_steps.Listed.{Listed}
-use Rattle.ecam_spec.specs.declared.term_steps.Listed.TheVariants as lists
+use Rattle.ecam_spec.specs.declared.term_steps.Connective.{Connective}
+use Rattle.ecam_spec.specs.declared.term_steps.Connective.TheVariants as lists
 use Rattle.ecam_spec.specs.declared.term_steps.NameRole.{NameRole}
 use Rattle.ecam_spec.specs.declared.term_steps.NameRole.TheVariants as name_roles
 use Rattle.ecam_spec.specs.declared.term_steps.NumberRole.{NumberRole}
@@ -125,7 +125,7 @@ gathered n fs [] = None
 gathered zero fs (f ∷ older) = Some (f, fs, older)
 gathered (suc n) fs (f ∷ older) = gathered n (and_then f fs) older
 
-abbrev pub list_form : Listed → Form → Forms → Form
+abbrev pub list_form : Connective → Form → Forms → Form
 list_form lists.All f fs = all_of f fs
 list_form lists.Any f fs = any_of f fs
 list_form (lists.AtLeast n) f fs = at_least_of n f fs

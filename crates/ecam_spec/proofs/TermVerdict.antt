@@ -4,8 +4,8 @@ use Rattle.std.proofs.lemmas.List.{append-nil}
 use Rattle.std.specs.Prelude.{option_map, option_and_then}
 use Rattle.ecam_spec.specs.declared.terms.Span.{Span}
 use Rattle.ecam_spec.specs.declared.terms.Token.{Token}
-use Rattle.ecam_spec.specs.declared.term_steps.Listed.{Listed}
-use Rattle.ecam_spec.specs.declared.term_steps.Listed.TheVariants as lists
+use Rattle.ecam_spec.specs.declared.term_steps.Connective.{Connective}
+use Rattle.ecam_spec.specs.declared.term_steps.Connective.TheVariants as lists
 use Rattle.ecam_spec.specs.declared.term_steps.Step.{Step}
 use Rattle.ecam_spec.specs.declared.term_steps.Step.TheVariants as steps
 use Rattle.ecam_spec.specs.declared.term_steps.Expected.{Expected}
@@ -43,7 +43,7 @@ gathered-list f fs read =
     let e : (1 + how_many fs) - 1 ≡ 0 + how_many fs = omega arith in
     ap (λ (n : ℕ). gathered n no_more (pushed fs (f ∷ read))) e ∙ gathered-pushed fs 0 no_more (f ∷ read) ∙ ap (λ (x : Forms). Some (f, x, read)) (joined-nothing fs)
 
-over : (list : Listed) (f : Form) (fs : Forms) (ss : List Step) (read : List Form) → after_all (steps.Over list (1 + how_many fs) ∷ ss) (pushed fs (f ∷ read)) ≡ after_all ss (list_form list f fs ∷ read)
+over : (list : Connective) (f : Form) (fs : Forms) (ss : List Step) (read : List Form) → after_all (steps.Over list (1 + how_many fs) ∷ ss) (pushed fs (f ∷ read)) ≡ after_all ss (list_form list f fs ∷ read)
 unfolding after_all after_step
 over list f fs ss read = ap (λ (o : Option (Form × Forms × List Form)). option_and_then (after_all ss) (option_map (λ g. list_form list g.0 g.1 ∷ g.2) o)) (gathered-list f fs read)
 

@@ -8,14 +8,19 @@ use Rattle.ecam_spec.specs.Places.{first_in}
 pub record Cockpit : Type 0 where
   -- the alerts in their order: level 3, 2, 1, and within a level as in the book
   pub order : List ℕ
-  -- the alert is a caution (level 1 or 2), is up, is waiting
+  -- the alert is a caution (level 1 or 2)
   pub is_caution : ℕ → Bool
+  -- the alert is up
   pub up : ℕ → Signal
+  -- the alert is waiting
   pub waiting : ℕ → Signal
-  -- CLR, RCL and EMER CANC are pressed, and RCL is held
+  -- CLR is pressed
   pub clr : Signal
+  -- RCL is pressed
   pub rcl : Signal
+  -- EMER CANC is pressed
   pub emer : Signal
+  -- RCL is held
   pub rcl_held : Signal
   -- the flight enters phase 1
   pub enters_one : Signal
@@ -34,7 +39,7 @@ abbrev pub is_alert : ℕ → Option ℕ → Bool
 is_alert a None = false
 is_alert a (Some b) = a == b
 
--- what goes by what was shown in the moments before takes that: the history
+-- most of this goes by what was shown in the moments before, which is the history
 module _ (c : Cockpit) where
   -- CLR is pressed, and the alert is the target
   unfoldable pub struck : Shown → ℕ → Signal

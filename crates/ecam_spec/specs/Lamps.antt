@@ -13,16 +13,19 @@ use Rattle.ecam_spec.specs.Alert.{onset}
 
 -- what the lights and the sound go by
 pub record Attention : Type 0 where
-  -- the level and the sound of each alert
+  -- the level of each alert
   pub level : ℕ → Level
+  -- the sound of each alert
   pub sound : ℕ → Sound
   -- the alert is up
   pub up : ℕ → Signal
   -- what is shown in each moment, in order
   pub shown : ℕ → List ℕ
-  -- MASTER WARN, MASTER CAUT and EMER CANC are pressed
+  -- MASTER WARN is pressed
   pub mw : Signal
+  -- MASTER CAUT is pressed
   pub mc : Signal
+  -- EMER CANC is pressed
   pub emer : Signal
 
 abbrev pub is_chime : Sound → Bool

@@ -58,6 +58,19 @@ moment_after (Some k) = suc k
 unfoldable pub start_of : Signal → ℕ → ℕ
 start_of p k = moment_after (last (λ i. not (p i)) k)
 
+-- what f says of the moment before; before moment 0 it says nothing
+abbrev pub previously : (ℕ → Option ℕ) → ℕ → Option ℕ
+previously f zero = None
+previously f (suc k) = f k
+
+-- the first moment of the unbroken stretch of moments with p that ends with the moment before, if p held in it
+unfoldable pub running_since : Signal → ℕ → Option ℕ
+running_since p = previously (λ k. elim (p k) [ true ↦ Some (start_of p k) | false ↦ None ])
+
+-- the last moment with p since which q has held, in that moment too
+unfoldable pub last_since : Signal → Signal → ℕ → Option ℕ
+last_since p q k = last (λ j. p j && historically_from j q k) k
+
 -- in how many moments up to now p holds
 unfoldable pub count_up_to : Signal → ℕ → ℕ
 count_up_to p zero = elim (p zero) [ true ↦ 1 | false ↦ 0 ]

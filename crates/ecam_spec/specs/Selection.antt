@@ -14,8 +14,9 @@ pub record Panel : Type 0 where
   pub all_held : Signal
   -- the page, from 0, whose key is pressed; of several the least
   pub page_called : ℕ → Option ℕ
-  -- STS and CLR are pressed
+  -- STS is pressed
   pub sts : Signal
+  -- CLR is pressed
   pub clr : Signal
   -- EMER CANC is pressed, and the target is a caution
   pub cancels : Signal

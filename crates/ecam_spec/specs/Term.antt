@@ -10,13 +10,17 @@ use Rattle.ecam_spec.specs.Past.{Signal, historically_within, once_within, rise,
 use Rattle.ecam_spec.specs.Word.{bit}
 use Rattle.ecam_spec.specs.Book.{Tree, Trees, constant, discrete, valid, compared, in_phase, alert, press, computer, negation, all, any, at_least, confirmed, held, risen, latched, none, more}
 
--- what conditions speak of, in each moment: the parameters' values, the flight phase, the active alerts, the
--- keys that are pressed, and which of computers 1 and 2 are up
+-- what conditions speak of, in each moment
 pub record World : Type 0 where
+  -- the value of each parameter, if it has one
   pub values : ℕ → ℕ → Option ℤ
+  -- the flight phase
   pub phase : ℕ → ℕ
+  -- the alert is active
   pub active : ℕ → Signal
+  -- the key is pressed
   pub pressed : Key → Signal
+  -- the computer, 1 or 2, is up
   pub up : ℕ → Signal
 
 -- phase p is in a set of phases

@@ -13,5 +13,5 @@ pub use kinds::{
     BookFault, Choice, Colour, Event, FaultKind, Key, Kind, Level, Op, RecordFault, Section, Sound,
     Standing,
 };
-pub use term_steps::{Expected, Listed, NameRole, NumberRole, Step};
+pub use term_steps::{Connective, Expected, NameRole, NumberRole, Step};
 pub use terms::{Reserved, Span, Token};

@@ -4,7 +4,7 @@ use crate::{Key, Op, Span};
 
 /// A condition over a list of conditions; `AtLeast` has the place of its number.
 #[derive(Clone, Copy)]
-pub enum Listed {
+pub enum Connective {
     All,
     Any,
     AtLeast(Span),
@@ -44,7 +44,7 @@ pub enum Step {
     Negation,
     Risen,
     /// Over so many of the conditions before it.
-    Over(Listed, usize),
+    Over(Connective, usize),
     Confirmed(Span),
     Held(Span),
     Latched,
@@ -74,7 +74,7 @@ pub enum Expected {
     /// The number of `atleast`, and all that follows it.
     Least,
     /// After a condition of a list, of which there were so many: further ones, and the closing bracket.
-    Others(Listed, usize),
+    Others(Connective, usize),
     /// After a phase's number: further ones, and the closing bracket.
     Phases,
 }

@@ -9,7 +9,7 @@ use Rattle.std.specs.Prelude.{option_map, bit_or}
 use Rattle.std.specs.List.{flat_map}
 use Rattle.ecam_spec.specs.declared.kinds.Op.{Op}
 use Rattle.ecam_spec.specs.declared.terms.Span.{Span}
-use Rattle.ecam_spec.specs.declared.term_steps.Listed.{Listed}
+use Rattle.ecam_spec.specs.declared.term_steps.Connective.{Connective}
 use Rattle.ecam_spec.specs.declared.term_steps.Step.TheVariants as steps
 use Rattle.ecam_spec.specs.Book.{Text, Tree, discrete, compared, in_phase, negation, confirmed, held, risen, latched}
 use Rattle.ecam_spec.specs.Grammar.{Form, Forms, name_of, compare_of, phase_of, not_of, rise_of, conf_of, hold_of, latch_of, no_more, and_then}
@@ -136,7 +136,7 @@ module _ (names : TermNames) (text : Text) where
       (subst (λ (xs : List Part). StandFor names text xs older) (sym is.1) top.stand)
   phase_step p popped m ps rest _ after pops told h e = absurd cc
 
-  pub list_step : (m : Members) (p : Part) (list : Listed) (count : ℕ) (ps rest : List Part) (forms after : List Form)
+  pub list_step : (m : Members) (p : Part) (list : Connective) (count : ℕ) (ps rest : List Part) (forms after : List Form)
       → ((f : Form) (fs : Forms) (older : List Form) → gathered (count - 1) no_more forms ≡ Some (f, fs, older) → JudgesForms names text m (and_then f fs) × StandFor names text rest older)
       → ((f : Form) (fs : Forms) → JudgesForms names text m (and_then f fs) → JudgesForm names text p (list_form list f fs))
       → after_step (steps.Over list count) forms ≡ Some after → StandFor names text (p ∷ rest) after

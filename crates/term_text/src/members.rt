@@ -9,7 +9,7 @@ ghost use Rattle.term_text.specs.Parts.{JudgesForm, JudgesForms};
 use crate::flaw::{Flaw, earlier_of};
 use crate::part::Part;
 use crate::resolve::amount_at;
-use ecam_spec::Listed;
+use ecam_spec::Connective;
 use std::alloc::{AllocError, Global};
 use term_tree::Cond;
 
@@ -59,7 +59,7 @@ impl Members {
     }
 
     /// The condition over them.
-    pub fn listed(self, text: &[u8], list: Listed) -> Part
+    pub fn listed(self, text: &[u8], list: Connective) -> Part
         ensures { (names : TermNames) (f : Form) (fs : Forms)
             → JudgesForms names text.now self (and_then f fs)
             → JudgesForm names text.now result (list_form list f fs) }
@@ -73,9 +73,9 @@ impl Members {
         let mut conds = conds;
         conds.reverse();
         match list {
-            Listed::All => Part::above(flaw, depth, size, Cond::All(conds)),
-            Listed::Any => Part::above(flaw, depth, size, Cond::Any(conds)),
-            Listed::AtLeast(number) => {
+            Connective::All => Part::above(flaw, depth, size, Cond::All(conds)),
+            Connective::Any => Part::above(flaw, depth, size, Cond::Any(conds)),
+            Connective::AtLeast(number) => {
                 let least = amount_at(text, number, 1, conds.len() as u64);
                 let count = u32::try_from(least.value).unwrap_or(u32::MAX);
                 let node = Cond::AtLeast(count, conds);

@@ -5,7 +5,7 @@ ghost use Rattle.ecam_spec.proofs.TermReading.{rule, at_once, name_step, number_
 ghost use Rattle.term_text.specs.Pending.{pending, is_tail, is_sign, count_of, CountsWithin, move_from, Moves};
 
 use crate::error::TermError;
-use ecam_spec::{Expected, Listed, NameRole, NumberRole, Reserved, Span, Step, Token};
+use ecam_spec::{Expected, Connective, NameRole, NumberRole, Reserved, Span, Step, Token};
 use std::alloc::{AllocError, Global};
 
 /// What is still expected of a condition's text. The next stands last.
@@ -103,7 +103,7 @@ impl Pending {
                 self.expect(&[
                     Expected::Separator,
                     Expected::Condition,
-                    Expected::Others(Listed::AtLeast(number), 1),
+                    Expected::Others(Connective::AtLeast(number), 1),
                 ])?;
                 Ok(None)
             }
@@ -138,8 +138,8 @@ impl Pending {
             ]),
             Reserved::Not => self.expect_condition(Expected::Finish(Step::Negation)),
             Reserved::Rise => self.expect_condition(Expected::Finish(Step::Risen)),
-            Reserved::All => self.expect_condition(Expected::Others(Listed::All, 1)),
-            Reserved::Any => self.expect_condition(Expected::Others(Listed::Any, 1)),
+            Reserved::All => self.expect_condition(Expected::Others(Connective::All, 1)),
+            Reserved::Any => self.expect_condition(Expected::Others(Connective::Any, 1)),
             Reserved::AtLeast => self.expect(&[Expected::Opening, Expected::Least]),
             Reserved::Conf => self.expect_timed(NumberRole::Confirmed),
             Reserved::Hold => self.expect_timed(NumberRole::Held),
