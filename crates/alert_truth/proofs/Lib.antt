@@ -1,4 +1,6 @@
 pub mod Moments
+pub mod Staying
 pub mod Listings
+pub mod Secondaries
 pub mod Starring
 pub mod Stepping

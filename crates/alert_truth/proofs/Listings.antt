@@ -1,12 +1,13 @@
 -- The alerts that list an alert as secondary, and the first active one of them.
-use Rattle.std.proofs.Common.{◌≡◌, ℕ, zero, suc, ◌+◌, ◌<◌, Bool, true, false, ◌||◌, List, [], ◌∷◌, map, length, get_or, filter, Option, Some, None, cond, eqb, slice_get, add-one, refl, sym, ap, ◌∙◌, arith}
+use Rattle.std.proofs.Common.{◌≡◌, ℕ, zero, suc, ◌+◌, ◌-◌, ◌<◌, ◌≤◌, All, inl, inr, Bool, true, false, ◌||◌, List, [], ◌∷◌, map, length, get_or, filter, Option, Some, None, cond, eqb, slice_get, add-one, refl, sym, ap, ◌∙◌, arith}
 use Rattle.std.specs.Prelude.{find, is_some}
 use Rattle.std.specs.List.{list_any}
 use Rattle.std.specs.Option.{option_or}
-use Rattle.std.proofs.lemmas.List.{length-map}
+use Rattle.std.proofs.lemmas.Bool.{cases_Bool, cases_lt, eqb-true}
+use Rattle.std.proofs.lemmas.List.{length-map, get_or_past}
 use Rattle.std.proofs.lemmas.List.Elements.{filter-append}
-use Rattle.std.proofs.lemmas.List.Folds.{find-append}
-use Rattle.std.proofs.lemmas.Option.{get_or_from_slice_get}
+use Rattle.std.proofs.lemmas.List.Folds.{find-append, list_any_none}
+use Rattle.std.proofs.lemmas.Option.{get_or_from_slice_get, slice_get-get_or}
 use Rattle.ecam_spec.specs.Places.{below}
 use Rattle.ecam_spec.specs.Book.{Book, Alert}
 use Rattle.ecam_spec.specs.Alert.{primaries_in}
@@ -83,3 +84,38 @@ left-step q lists a n o fails so_far =
     ∙ ap (λ b. option_or (find q (listing lists a n)) (cond (list_any (λ s. eqb s a) (get_or lists n [])) (cond b (Some n) None) None)) (sym fails)
     ∙ sym (find-more q lists a n)
     ∙ ap (λ m. find q (listing lists a m)) (sym (add-one n))
+
+-- ---- where each secondary stands later than what lists it
+
+not-same : (s a : ℕ) → a < s → eqb s a ≡ false
+not-same s a after = elim (cases_Bool (eqb s a)) [
+  | inl same ↦ absurd (let is : s ≡ a = eqb-true s a same in omega arith)
+  | inr other ↦ other
+]
+
+-- an alert lists none that stands up to it
+pub lists-none : (own : List ℕ) (n a : ℕ) → All (λ s. n < s) own → a ≤ n → list_any (λ s. eqb s a) own ≡ false
+lists-none own n a later upto = list_any_none (λ s. eqb s a) own (λ i d within. not-same (get_or own i d) a (let after : n < get_or own i d = later i d within in omega arith))
+
+module _ (lists : List (List ℕ)) (later : (n : ℕ) (own : List ℕ) → slice_get lists n ≡ Some own → All (λ s. n < s) own) where
+  none-early : (n a : ℕ) → a ≤ n → list_any (λ s. eqb s a) (get_or lists n []) ≡ false
+  none-early n a upto = elim (cases_lt n (length lists)) [
+    | inl within ↦ lists-none (get_or lists n []) n a (later n (get_or lists n []) (slice_get-get_or lists n [] within)) upto
+    | inr past ↦ ap (list_any (λ s. eqb s a)) (get_or_past lists n [] past)
+  ]
+
+  or-none : (o : Option ℕ) → option_or o None ≡ o
+  or-none None = refl
+  or-none (Some x) = refl
+
+  listing-more : (q : ℕ → Bool) (a d : ℕ) → find q (listing lists a (a + d)) ≡ find q (listing lists a a)
+  listing-more q a zero = ap (λ n. find q (listing lists a n)) (let same : a + 0 ≡ a = omega arith in same)
+  listing-more q a (suc d) =
+      ap (λ n. find q (listing lists a n)) (let same : a + suc d ≡ suc (a + d) = omega arith in same)
+      ∙ find-more q lists a (a + d)
+      ∙ ap (λ b. option_or (find q (listing lists a (a + d))) (cond b (cond (q (a + d)) (Some (a + d)) None) None)) (none-early (a + d) a (omega arith))
+      ∙ or-none (find q (listing lists a (a + d))) ∙ listing-more q a d
+
+  -- what lists an alert stands before it
+  pub listing-done : (q : ℕ → Bool) (a n : ℕ) → a ≤ n → find q (listing lists a n) ≡ find q (listing lists a a)
+  listing-done q a n upto = ap (λ m. find q (listing lists a m)) (let same : n ≡ a + (n - a) = omega arith in same) ∙ listing-more q a (n - a)

@@ -1,7 +1,8 @@
 -- The stars of a book's alerts, one alert after another.
-use Rattle.std.proofs.Common.{◌≡◌, ℕ, zero, suc, ◌<◌, ◌≤◌, Bool, true, false, not, ◌&&◌, List, length, get_or, replicate, Option, Some, None, cond, inl, inr, refl, sym, ap, ◌∙◌, subst, arith}
-use Rattle.std.specs.Prelude.{find, is_some}
+use Rattle.std.proofs.Common.{◌≡◌, ℕ, zero, suc, ◌+◌, ◌<◌, ◌≤◌, Bool, true, false, not, ◌&&◌, eqb, All, List, length, get_or, replicate, Option, Some, None, cond, inl, inr, refl, sym, ap, ◌∙◌, subst, arith}
+use Rattle.std.specs.Prelude.{find, is_some, slice_get}
 use Rattle.std.specs.List.{list_any}
+use Rattle.std.specs.Option.{option_or}
 use Rattle.std.proofs.lemmas.Bool.{cases_lt}
 use Rattle.std.proofs.lemmas.List.{length-set, get_or-set_same, get_or-set_other, get_or_past, get_or-replicate}
 use Rattle.ecam_spec.specs.Past.{Signal, previous}
@@ -12,77 +13,123 @@ use Rattle.alert_truth.specs.Runs.{previously}
 use Rattle.alert_truth.specs.Alerts.{Tells, starred_by_where}
 use Rattle.alert_truth.specs.Stars.{StarsFit, StarsStand, HasPlace, Takes}
 use Rattle.alert_truth.specs.declared.stars.Stars.{Stars}
-use Rattle.alert_truth.proofs.Listings.{find-is_some, same-primary}
+use Rattle.alert_truth.proofs.Listings.{listing, secondaries_of, find-none, find-is_some, same-primary, found-step, left-step, primaries-listing, listing-done, lists-none}
 
--- the alert's first primary, by the flags of the active alerts and by what was found
-abbrev pub primary_of : List Bool → List (Option ℕ) → ℕ → Option ℕ
-primary_of flags found a = cond (get_or flags a false) (get_or found a None) None
+-- the alert's first primary, by the flags of the active alerts
+abbrev pub primary_of : Book → List Bool → ℕ → Option ℕ
+primary_of b flags a = cond (get_or flags a false) (find (λ p. get_or flags p false) (primaries b a)) None
 
--- in one of n alerts what was found is taken over
-pub record IsTaken (flags : List Bool) (first now : Stars) (a : ℕ) : Type 0 where
+-- alert a is settled
+pub record IsTaken (b : Book) (flags : List Bool) (now : Stars) (a : ℕ) : Type 0 where
   pub found : get_or now.found.items a None ≡ None
-  pub primaries : get_or now.primaries.items a None ≡ primary_of flags first.found.items a
-  pub starred : get_or now.starred.items a false ≡ is_some (primary_of flags first.found.items a)
-  pub up : get_or now.up.items a false ≡ (get_or flags a false && not (is_some (primary_of flags first.found.items a)))
+  pub primaries : get_or now.primaries.items a None ≡ primary_of b flags a
+  pub starred : get_or now.starred.items a false ≡ is_some (primary_of b flags a)
+  pub up : get_or now.up.items a false ≡ (get_or flags a false && not (is_some (primary_of b flags a)))
 
--- the alerts below i have taken over what was found, and the others haven't
-pub record IsHalfTaken (flags : List Bool) (first now : Stars) (i : ℕ) : Type 0 where
-  pub found_places : length now.found.items ≡ length first.found.items
-  pub primary_places : length now.primaries.items ≡ length first.primaries.items
-  pub starred_places : length now.starred.items ≡ length first.starred.items
-  pub up_places : length now.up.items ≡ length first.up.items
-  pub taken : (a : ℕ) → a < i → IsTaken flags first now a
-  pub found : (a : ℕ) → i ≤ a → get_or now.found.items a None ≡ get_or first.found.items a None
+-- the alerts below i are settled, and in the others those below n have noted themselves
+pub record IsHalfTaken (b : Book) (flags : List Bool) (now : Stars) (i n : ℕ) : Type 0 where
+  pub found_places : length now.found.items ≡ length b.alerts
+  pub primary_places : length now.primaries.items ≡ length b.alerts
+  pub starred_places : length now.starred.items ≡ length b.alerts
+  pub up_places : length now.up.items ≡ length b.alerts
+  pub taken : (a : ℕ) → a < i → IsTaken b flags now a
+  pub found : (a : ℕ) → i ≤ a → get_or now.found.items a None ≡ find (λ p. get_or flags p false) (listing (secondaries_of b) a n)
 
-pub nothing-taken : (flags : List Bool) (first : Stars) → IsHalfTaken flags first first 0
-nothing-taken flags first = record {
-  found_places = refl;
-  primary_places = refl;
-  starred_places = refl;
-  up_places = refl;
+pub nothing-taken : (b : Book) (flags : List Bool) (s : Stars) → StarsFit b s → IsHalfTaken b flags s 0 0
+nothing-taken b flags s fits = record {
+  found_places = fits.found;
+  primary_places = fits.primaries;
+  starred_places = fits.starred;
+  up_places = fits.up;
   taken = λ a below. absurd (omega arith);
-  found = λ a from. refl;
+  found = λ a from. fits.settled a ∙ sym (find-none (λ p. get_or flags p false) (secondaries_of b) a);
 }
 
--- one more
-pub one-taken : (flags : List Bool) (first now next : Stars) (i : ℕ) → HasPlace i now → Takes i (get_or flags i false) now next
-    → IsHalfTaken flags first now i → IsHalfTaken flags first next (suc i)
-one-taken flags first now next i has takes half =
-    let other_found : (a : ℕ) → (a ≡ i → ⊥) → get_or next.found.items a None ≡ get_or now.found.items a None
-    = λ a apart. ap (λ xs. get_or xs a None) takes.found ∙ get_or-set_other now.found.items i a None None apart in
-    let other_primaries : (a : ℕ) → (a ≡ i → ⊥) → get_or next.primaries.items a None ≡ get_or now.primaries.items a None
-    = λ a apart. ap (λ xs. get_or xs a None) takes.primaries ∙ get_or-set_other now.primaries.items i a _ None apart in
-    let other_starred : (a : ℕ) → (a ≡ i → ⊥) → get_or next.starred.items a false ≡ get_or now.starred.items a false
-    = λ a apart. ap (λ xs. get_or xs a false) takes.starred ∙ get_or-set_other now.starred.items i a _ false apart in
-    let other_up : (a : ℕ) → (a ≡ i → ⊥) → get_or next.up.items a false ≡ get_or now.up.items a false
-    = λ a apart. ap (λ xs. get_or xs a false) takes.up ∙ get_or-set_other now.up.items i a _ false apart in
-    let left : primary_of flags now.found.items i ≡ primary_of flags first.found.items i
-    = ap (λ o. cond (get_or flags i false) o None) (half.found i (omega arith)) in
-    let own : IsTaken flags first next i = record {
-      found = ap (λ xs. get_or xs i None) takes.found ∙ get_or-set_same now.found.items i None None has.found;
-      primaries = ap (λ xs. get_or xs i None) takes.primaries ∙ get_or-set_same now.primaries.items i _ None has.primaries ∙ left;
-      starred = ap (λ xs. get_or xs i false) takes.starred ∙ get_or-set_same now.starred.items i _ false has.starred ∙ ap is_some left;
-      up = ap (λ xs. get_or xs i false) takes.up ∙ get_or-set_same now.up.items i _ false has.up ∙ ap (λ o. get_or flags i false && not (is_some o)) left;
-    } in
-    record {
-      found_places = ap length takes.found ∙ length-set now.found.items i _ ∙ half.found_places;
-      primary_places = ap length takes.primaries ∙ length-set now.primaries.items i _ ∙ half.primary_places;
-      starred_places = ap length takes.starred ∙ length-set now.starred.items i _ ∙ half.starred_places;
-      up_places = ap length takes.up ∙ length-set now.up.items i _ ∙ half.up_places;
-      taken = λ a below. elim (cases_lt a i) [
-        | inl earlier ↦
-            let apart : a ≡ i → ⊥ = λ e. omega arith in
-            let was = half.taken a earlier in
-            record {
-              found = other_found a apart ∙ was.found;
-              primaries = other_primaries a apart ∙ was.primaries;
-              starred = other_starred a apart ∙ was.starred;
-              up = other_up a apart ∙ was.up;
-            }
-        | inr reached ↦ let same : i ≡ a = omega arith in subst (IsTaken flags first next) same own
-      ];
-      found = λ a from. other_found a (λ e. omega arith) ∙ half.found a (omega arith);
-    }
+pub place-of-alert : (b : Book) (flags : List Bool) (now : Stars) (i n : ℕ) → i < length b.alerts → IsHalfTaken b flags now i n → HasPlace i now
+place-of-alert b flags now i n within half = record {
+  found = omega (arith, half.found_places);
+  primaries = omega (arith, half.primary_places);
+  starred = omega (arith, half.starred_places);
+  up = omega (arith, half.up_places);
+}
+
+module _ (b : Book) (flags : List Bool) (later : (n : ℕ) (own : List ℕ) → slice_get (secondaries_of b) n ≡ Some own → All (λ s. n < s) own) where
+  -- all that lists an alert has noted itself by then
+  found-all : (i : ℕ) → i < length b.alerts → find (λ p. get_or flags p false) (listing (secondaries_of b) i i) ≡ find (λ p. get_or flags p false) (primaries b i)
+  found-all i within =
+      sym (listing-done (secondaries_of b) later (λ p. get_or flags p false) i (length b.alerts) (omega arith))
+      ∙ ap (find (λ p. get_or flags p false)) (sym (primaries-listing b i))
+
+  -- one more is settled
+  pub one-taken : (now next : Stars) (i : ℕ) → i < length b.alerts → Takes i (get_or flags i false) now next
+      → IsHalfTaken b flags now i i → IsHalfTaken b flags next (suc i) i
+  one-taken now next i within takes half =
+      let has = place-of-alert b flags now i i within half in
+      let other_found : (a : ℕ) → (a ≡ i → ⊥) → get_or next.found.items a None ≡ get_or now.found.items a None
+      = λ a apart. ap (λ xs. get_or xs a None) takes.found ∙ get_or-set_other now.found.items i a None None apart in
+      let left : cond (get_or flags i false) (get_or now.found.items i None) None ≡ primary_of b flags i
+      = ap (λ o. cond (get_or flags i false) o None) (half.found i (omega arith) ∙ found-all i within) in
+      let own : IsTaken b flags next i = record {
+        found = ap (λ xs. get_or xs i None) takes.found ∙ get_or-set_same now.found.items i None None has.found;
+        primaries = ap (λ xs. get_or xs i None) takes.primaries ∙ get_or-set_same now.primaries.items i _ None has.primaries ∙ left;
+        starred = ap (λ xs. get_or xs i false) takes.starred ∙ get_or-set_same now.starred.items i _ false has.starred ∙ ap is_some left;
+        up = ap (λ xs. get_or xs i false) takes.up ∙ get_or-set_same now.up.items i _ false has.up ∙ ap (λ o. get_or flags i false && not (is_some o)) left;
+      } in
+      record {
+        found_places = ap length takes.found ∙ length-set now.found.items i _ ∙ half.found_places;
+        primary_places = ap length takes.primaries ∙ length-set now.primaries.items i _ ∙ half.primary_places;
+        starred_places = ap length takes.starred ∙ length-set now.starred.items i _ ∙ half.starred_places;
+        up_places = ap length takes.up ∙ length-set now.up.items i _ ∙ half.up_places;
+        taken = λ a below. elim (cases_lt a i) [
+          | inl earlier ↦
+              let apart : a ≡ i → ⊥ = λ e. omega arith in
+              let was = half.taken a earlier in
+              record {
+                found = other_found a apart ∙ was.found;
+                primaries = ap (λ xs. get_or xs a None) takes.primaries ∙ get_or-set_other now.primaries.items i a _ None apart ∙ was.primaries;
+                starred = ap (λ xs. get_or xs a false) takes.starred ∙ get_or-set_other now.starred.items i a _ false apart ∙ was.starred;
+                up = ap (λ xs. get_or xs a false) takes.up ∙ get_or-set_other now.up.items i a _ false apart ∙ was.up;
+              }
+          | inr reached ↦ let same : i ≡ a = omega arith in subst (IsTaken b flags next) same own
+        ];
+        found = λ a from. other_found a (λ e. omega arith) ∙ half.found a (omega arith);
+      }
+
+  or-none : (o : Option ℕ) (lists_it : Bool) (i : ℕ) → o ≡ None → lists_it ≡ false → option_or o (cond lists_it (Some i) None) ≡ None
+  or-none o lists_it i is none = ap (λ x. option_or x (cond lists_it (Some i) None)) is ∙ ap (λ b. cond b (Some i) None) none
+
+  -- and notes itself, where it is active
+  pub one-noted : (now next : Stars) (own : List ℕ) (i : ℕ) → slice_get (secondaries_of b) i ≡ Some own → get_or flags i false ≡ true
+      → next.primaries ≡ now.primaries → next.starred ≡ now.starred → next.up ≡ now.up → length next.found.items ≡ length now.found.items
+      → ((a : ℕ) → get_or next.found.items a None ≡ option_or (get_or now.found.items a None) (cond (list_any (λ s. eqb s a) own) (Some i) None))
+      → IsHalfTaken b flags now (suc i) i → IsHalfTaken b flags next (suc i) (i + 1)
+  one-noted now next own i at active primaries starred up places notes half = record {
+    found_places = places ∙ half.found_places;
+    primary_places = ap (λ v. length v.items) primaries ∙ half.primary_places;
+    starred_places = ap (λ v. length v.items) starred ∙ half.starred_places;
+    up_places = ap (λ v. length v.items) up ∙ half.up_places;
+    taken = λ a below.
+        let was = half.taken a below in
+        record {
+          found = notes a ∙ or-none (get_or now.found.items a None) (list_any (λ s. eqb s a) own) i was.found (lists-none own i a (later i own at) (omega arith));
+          primaries = ap (λ v. get_or v.items a None) primaries ∙ was.primaries;
+          starred = ap (λ v. get_or v.items a false) starred ∙ was.starred;
+          up = ap (λ v. get_or v.items a false) up ∙ was.up;
+        };
+    found = λ a from.
+        found-step (λ p. get_or flags p false) (secondaries_of b) a i (get_or now.found.items a None) (get_or next.found.items a None) own at active (half.found a from) (notes a);
+  }
+
+  -- else it is passed over
+  pub one-left : (now : Stars) (i : ℕ) → get_or flags i false ≡ false → IsHalfTaken b flags now (suc i) i → IsHalfTaken b flags now (suc i) (i + 1)
+  one-left now i quiet half = record {
+    found_places = half.found_places;
+    primary_places = half.primary_places;
+    starred_places = half.starred_places;
+    up_places = half.up_places;
+    taken = half.taken;
+    found = λ a from. left-step (λ p. get_or flags p false) (secondaries_of b) a i (get_or now.found.items a None) quiet (half.found a from);
+  }
 
 first-of : (x : Bool) (q : ℕ → Bool) (ps : List ℕ) → cond x (find q ps) None ≡ cond (x && list_any q ps) (find q ps) None
 first-of false q ps = refl
@@ -99,40 +146,35 @@ some-of false q ps = refl
 some-of true q ps = find-is_some q ps
 
 -- all of them
-module _ (b : Book) (flags : List Bool) (first now : Stars) (count : length flags ≡ length b.alerts) where
-  pub taken-fits : IsHalfTaken flags first now (length flags)
-      → length first.found.items ≡ length b.alerts → length first.primaries.items ≡ length b.alerts
-      → length first.starred.items ≡ length b.alerts → length first.up.items ≡ length b.alerts → StarsFit b now
-  taken-fits half found primary starred up = record {
-    found = half.found_places ∙ found;
-    primaries = half.primary_places ∙ primary;
-    starred = half.starred_places ∙ starred;
-    up = half.up_places ∙ up;
+module _ (b : Book) (flags : List Bool) (now : Stars) (n : ℕ) (count : n ≡ length b.alerts) where
+  pub taken-fits : IsHalfTaken b flags now n n → StarsFit b now
+  taken-fits half = record {
+    found = half.found_places;
+    primaries = half.primary_places;
+    starred = half.starred_places;
+    up = half.up_places;
     settled = λ a. elim (cases_lt a (length b.alerts)) [
       | inl within ↦ (half.taken a (omega arith)).found
-      | inr past ↦ get_or_past now.found.items a None (omega (arith, half.found_places, found))
+      | inr past ↦ get_or_past now.found.items a None (omega (arith, half.found_places))
     ];
   }
 
   -- the stars stand for one moment more
-  pub taken-stands : IsHalfTaken flags first now (length flags)
-      → ((a : ℕ) → get_or first.found.items a None ≡ find (λ p. get_or flags p false) (primaries b a))
-      → (active : ℕ → Signal) (k : ℕ) → Tells (length b.alerts) flags active (suc k) → StarsStand b active (suc k) now
+  pub taken-stands : IsHalfTaken b flags now n n → (active : ℕ → Signal) (k : ℕ) → Tells (length b.alerts) flags active (suc k) → StarsStand b active (suc k) now
   unfolding previous previously alert.starred alert.starred_by alert.up
-  taken-stands half found active k tells =
-      let first_one : (a : ℕ) → a < length b.alerts → primary_of flags first.found.items a ≡ cond (active a k) (find (λ p. active p k) (primaries b a)) None
+  taken-stands half active k tells =
+      let first_one : (a : ℕ) → a < length b.alerts → primary_of b flags a ≡ cond (active a k) (find (λ p. active p k) (primaries b a)) None
       = λ a within.
-      ap (λ x. cond x (get_or first.found.items a None) None) (tells a within)
-      ∙ ap (λ o. cond (active a k) o None) (found a)
+      ap (λ x. cond x (find (λ p. get_or flags p false) (primaries b a)) None) (tells a within)
       ∙ ap (λ o. cond (active a k) o None) (same-primary b a (λ p. get_or flags p false) (λ p. active p k) tells) in
-      let is_starred : (a : ℕ) → a < length b.alerts → is_some (primary_of flags first.found.items a) ≡ (active a k && list_any (λ p. active p k) (primaries b a))
+      let is_starred : (a : ℕ) → a < length b.alerts → is_some (primary_of b flags a) ≡ (active a k && list_any (λ p. active p k) (primaries b a))
       = λ a within. ap is_some (first_one a within) ∙ some-of (active a k) (λ p. active p k) (primaries b a) in
       record {
         primaries = λ a within. (half.taken a (omega arith)).primaries ∙ first_one a within ∙ first-of (active a k) (λ p. active p k) (primaries b a);
         starred = λ a within. (half.taken a (omega arith)).starred ∙ is_starred a within;
         up = λ a within.
             (half.taken a (omega arith)).up
-            ∙ ap (λ x. x && not (is_some (primary_of flags first.found.items a))) (tells a within)
+            ∙ ap (λ x. x && not (is_some (primary_of b flags a))) (tells a within)
             ∙ ap (λ x. active a k && not x) (is_starred a within);
       }
 

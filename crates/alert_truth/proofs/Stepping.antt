@@ -1,5 +1,5 @@
 -- One alert more is stepped, and the moment ends.
-use Rattle.std.proofs.Common.{◌≡◌, ℕ, zero, suc, ◌<◌, Bool, true, false, not, ◌&&◌, ◌||◌, List, length, get_or, replicate, Option, None, cond, inl, inr, refl, sym, ap, ◌∙◌, subst, arith}
+use Rattle.std.proofs.Common.{◌≡◌, ℕ, zero, suc, ◌<◌, Bool, true, false, not, ◌&&◌, List, length, get_or, replicate, Option, None, cond, inl, inr, refl, sym, ap, ◌∙◌, subst, arith}
 use Rattle.std.specs.Prelude.{is_some, find, ◌↔◌}
 use Rattle.std.specs.List.{list_any}
 use Rattle.std.proofs.lemmas.Bool.{cases_lt}
@@ -7,15 +7,16 @@ use Rattle.std.proofs.lemmas.List.{length-set, get_or-set_same, get_or-set_other
 use Rattle.ecam_spec.specs.Past.{Signal, previous}
 use Rattle.ecam_spec.specs.Book.{Book}
 use Rattle.ecam_spec.specs.Alert as alert
-use Rattle.ecam_spec.specs.Situation.{primaries}
+use Rattle.ecam_spec.specs.Situation.{alert_at, primaries}
 use Rattle.alert_truth.specs.Runs.{running_since, previously}
-use Rattle.alert_truth.specs.Alerts.{Tells, present, active, waiting, starred, starred_by, up}
+use Rattle.alert_truth.specs.Alerts.{Tells, inhibited, present, active, waiting, starred, starred_by, up}
 use Rattle.alert_truth.specs.Stars.{StarsFit, StarsStand}
 use Rattle.alert_truth.specs.TruthsState.{TruthsFit, TruthsStand, HalfStand, IsStepped, IsStill, Unchanged}
 use Rattle.alert_truth.specs.Noting.{Notes}
 use Rattle.alert_truth.specs.declared.stars.Stars.{Stars}
 use Rattle.alert_truth.specs.declared.truths.Truths.{Truths}
 use Rattle.alert_truth.proofs.Listings.{find-is_some}
+use Rattle.alert_truth.proofs.Staying.{IsSame}
 use Rattle.alert_truth.proofs.Starring.{still-by}
 
 -- the places stay
@@ -52,6 +53,11 @@ module _ (b : Book) (conditions : ℕ → Signal) (phases : ℕ → ℕ) where
         ap (λ xs. get_or xs i false) notes.waiting ∙ get_or-set_same old.waiting.items i _ false (omega (arith, fits.waiting))
         ∙ ap (λ x. x && not is_active) now ∙ ap (λ x. present b conditions phases i k && not x) here;
   }
+
+  waiting-before : (a k : ℕ) → (previous (present b conditions phases a) k && not (previous (active b conditions phases a) k)) ≡ previous (waiting b conditions phases a) k
+  unfolding previous alert.waiting
+  waiting-before a zero = refl
+  waiting-before a (suc k) = refl
 
   -- one alert more is stepped
   pub half-step : (k i : ℕ) (start : Option ℕ) (is_present is_active : Bool) (old new : Truths) → Notes i start is_present is_active old new → i < length b.alerts
@@ -94,6 +100,40 @@ module _ (b : Book) (conditions : ℕ → Signal) (phases : ℕ → ℕ) where
         changed = λ j e. let was = half.changed j e in (λ w. was.0 (sym notes.changed ∙ w), λ w. notes.changed ∙ was.1 w);
       }
 
+  -- and so is one that stays as it is
+  pub half-stays : (k i : ℕ) (t : Truths) → i < length b.alerts → IsSame (inhibited b conditions phases i) (conditions i) (alert_at b i).confirm k
+      → HalfStand b conditions phases k i t → HalfStand b conditions phases k (suc i) t
+  unfolding previous alert.waiting
+  half-stays k i t within same half =
+      let left = half.left i (omega arith) within in
+      let waits : waiting b conditions phases i k ≡ previous (waiting b conditions phases i) k
+      = ap (λ x. x && not (active b conditions phases i k)) same.present
+      ∙ ap (λ x. previous (present b conditions phases i) k && not x) same.active ∙ waiting-before i k in
+      let own : IsStepped b conditions phases (suc k) i t = record {
+        since = left.since ∙ sym same.since;
+        present = left.present ∙ sym same.present;
+        active = left.active ∙ sym same.active;
+        waiting = left.waiting ∙ sym waits;
+      } in
+      record {
+        fits = half.fits;
+        moments = half.moments;
+        stepped = λ a below. elim (cases_lt a i) [
+          | inl earlier ↦ half.stepped a earlier
+          | inr reached ↦ let here : i ≡ a = omega arith in subst (λ j. IsStepped b conditions phases (suc k) j t) here own
+        ];
+        left = λ a from inside. half.left a (omega arith) inside;
+        stars = half.stars;
+        changing = (
+          λ e a below. elim (cases_lt a i) [
+            | inl earlier ↦ half.changing.0 e a earlier
+            | inr reached ↦ let here : i ≡ a = omega arith in subst (λ j. IsStill b conditions phases k j) here (record { present = same.present; active = same.active })
+          ],
+          λ still. half.changing.1 (λ a below. still a (omega arith)),
+        );
+        changed = half.changed;
+      }
+
   star-some : (x : Bool) (q : ℕ → Bool) (ps : List ℕ) → is_some (cond (x && list_any q ps) (find q ps) None) ≡ (x && list_any q ps)
   star-some false q ps = refl
   star-some true q ps = elim (list_any q ps) as (λ y. list_any q ps ≡ y → is_some (cond y (find q ps) None) ≡ y) [ true ↦ λ e. find-is_some q ps ∙ e | false ↦ λ e. refl ] refl
@@ -106,11 +146,6 @@ module _ (b : Book) (conditions : ℕ → Signal) (phases : ℕ → ℕ) where
   unfolding previous previously
   starred-before a zero = refl
   starred-before a (suc k) = starred-some a k
-
-  waiting-before : (a k : ℕ) → (previous (present b conditions phases a) k && not (previous (active b conditions phases a) k)) ≡ previous (waiting b conditions phases a) k
-  unfolding previous alert.waiting
-  waiting-before a zero = refl
-  waiting-before a (suc k) = refl
 
   up-before : (a k : ℕ) → (previous (active b conditions phases a) k && not (previous (starred b conditions phases a) k)) ≡ previous (up b conditions phases a) k
   unfolding previous alert.up

@@ -4,8 +4,6 @@
 
 mod run;
 mod stars;
-#[cfg(test)]
-mod tests;
 mod truths;
 
 pub use truths::Truths;

@@ -65,8 +65,8 @@ impl Stars {
         self.up.copy_from_slice(&other.up);
     }
 
-    /// Settles which of the active alerts are starred and which are up. Its cost is two looks at each alert, and one
-    /// at each secondary of the active ones.
+    /// Settles which of the active alerts are starred and which are up, in one walk: whatever lists an alert as secondary
+    /// stands before it in the book. Its cost is one look at each alert, and one at each secondary of the active ones.
     pub fn settle(&mut self, active: &[bool], book: &Book)
         requires fits { StarsFit (the_book book.now) self.old }
         requires active { length active.now ≡ length book.now.alerts.items }
@@ -75,9 +75,11 @@ impl Stars {
             → Tells (length book.now.alerts.items) active.now active' (suc k)
             → StarsStand (the_book book.now) active' (suc k) self.new }
     {
-        find_primaries(&mut self.found, active, book);
-        for alert in 0..active.len() {
+        for alert in 0..book.alerts().len() {
             self.star(alert, active[alert]);
+            if active[alert] {
+                note(&mut self.found, book.secondaries(alert), alert as u32);
+            }
         }
     }
 
@@ -99,22 +101,6 @@ fn only_if(active: bool, primary: Option<u32>) -> Option<u32>
     ensures { result ≡ (if active then primary else None) }
 {
     if active { primary } else { None }
-}
-
-// Finds, for each alert, the first active alert that lists it as secondary.
-fn find_primaries(found: &mut Vec<Option<u32>>, active: &[bool], book: &Book)
-    requires places { length found.old.items ≡ length book.now.alerts.items }
-    requires none { (a : ℕ) → get_or found.old.items a None ≡ None }
-    requires active { length active.now ≡ length book.now.alerts.items }
-    ensures places { length found.new.items ≡ length found.old.items }
-    ensures found { (a : ℕ) → get_or found.new.items a None
-        ≡ find (λ p. get_or active.now p false) (primaries (the_book book.now) a) }
-{
-    for alert in 0..active.len() {
-        if active[alert] {
-            note(found, book.secondaries(alert), alert as u32);
-        }
-    }
 }
 
 // Notes an alert for each of its secondaries for which none is noted yet.

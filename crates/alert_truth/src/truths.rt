@@ -1,5 +1,5 @@
 // The truths of all alerts.
-ghost use Rattle.std.specs.Prelude.{◌≡◌, ◌↔◌, ℕ, suc, ◌+◌, ◌<◌, ◌≤◌, false, length, set, slice_index_or, Option, None, IfOk};
+ghost use Rattle.std.specs.Prelude.{◌≡◌, ◌↔◌, ℕ, suc, ◌+◌, ◌<◌, ◌≤◌, false, length, set, get_or, slice_index_or, is_none, Option, None, IfOk, if◌then◌else◌};
 ghost use Rattle.ecam_spec.specs.Past.{Signal};
 ghost use Rattle.ecam_spec.specs.Book as plain;
 ghost use Rattle.book_model.specs.Sealed.{the_book};
@@ -96,8 +96,8 @@ impl Truths {
     }
 
     /// Steps one alert by the moment that hasn't ended, where the truth of its condition and the flight phase in
-    /// that moment are these, and answers whether it is active. Its cost is one look at the alert, and a write for
-    /// each of its truths that changes.
+    /// that moment are these, and answers whether it is active. Its cost is one look at the alert, which is a short one
+    /// where it stays away or stays active, and a write for each of its truths that changes.
     pub fn step_one(&mut self, book: &Book, alert: usize, cond: bool, phase: Phase) -> bool
         requires fits { TruthsFit (the_book book.now) self.old }
         requires alert { alert < length book.now.alerts.items }
@@ -114,6 +114,9 @@ impl Truths {
             → result ≡ active (the_book book.now) conditions phases alert k }
         ensures moments { self.new.moments ≡ self.old.moments }
     {
+        if self.stays(alert, cond) {
+            return cond;
+        }
         let own = &book.alerts()[alert];
         let inhibited = own.inhibit.has(phase);
         let since = since_when(self.since[alert], cond, self.moments);
@@ -121,6 +124,20 @@ impl Truths {
         let active = is_active(present, self.active[alert], inhibited);
         self.note(alert, since, present, active);
         active
+    }
+
+    // An alert stays away whose condition doesn't hold and didn't. One that is active stays so while its condition holds,
+    // whatever the phase.
+    fn stays(&self, alert: usize, cond: bool) -> bool
+        requires { HasAlert alert self.now }
+        ensures { result ≡ (if cond then get_or self.now.active.items alert false
+            else is_none (get_or self.now.since.items alert None)) }
+    {
+        if cond {
+            self.active[alert]
+        } else {
+            self.since[alert].is_none()
+        }
     }
 
     // Notes what one alert has become. What is as it was isn't written.
@@ -139,7 +156,7 @@ impl Truths {
 
     /// Ends the moment, in which each alert was stepped: settles which alerts are starred and which are up. Its cost
     /// doesn't grow with the book where each alert is as present and as active as before, since the stars are then as
-    /// before too. Else it is two looks at each alert, and one at each secondary of the active ones.
+    /// before too. Else it is one look at each alert, and one at each secondary of the active ones.
     pub fn settle(&mut self, book: &Book)
         requires fits { TruthsFit (the_book book.now) self.old }
         requires goes_on { CanGoOn self.old }

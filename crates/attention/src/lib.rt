@@ -5,8 +5,6 @@
 mod calls;
 mod moment;
 mod state;
-#[cfg(test)]
-mod tests;
 mod walk;
 mod watch;
 

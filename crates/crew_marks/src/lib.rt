@@ -6,8 +6,6 @@ mod mark;
 mod marks;
 mod sets;
 mod stretch;
-#[cfg(test)]
-mod tests;
 mod walk;
 
 pub use marks::Marks;

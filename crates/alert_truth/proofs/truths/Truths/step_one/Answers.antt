@@ -1,4 +1,4 @@
-use Rattle.std.proofs.Common.{◌≡◌, ℕ, ◌<◌, suc, false, None, length, sym, ap, ◌∙◌, subst, arith}
+use Rattle.std.proofs.Common.{◌≡◌, ℕ, ◌<◌, suc, false, None, length, get_or, sym, ap, ◌∙◌, subst, arith}
 use Rattle.std.proofs.lemmas.List.{get_or_default}
 use Rattle.ecam_spec.specs.Past.{Signal, previous}
 use Rattle.ecam_spec.specs.Term.{in_set}
@@ -10,9 +10,20 @@ use Rattle.book_model.proofs.BookReads.{alert-read}
 use Rattle.alert_truth.specs.Runs.{running_since}
 use Rattle.alert_truth.specs.Alerts.{present, active, inhibited}
 use Rattle.alert_truth.specs.TruthsState.{HalfStand, IsStepped}
-use Rattle.alert_truth.proofs.Stepping.{half-step}
+use Rattle.alert_truth.proofs.Staying.{IsSame, stays-same}
+use Rattle.alert_truth.proofs.Stepping.{half-step, half-stays}
 use Rattle.alert_truth.proofs.truths.Truths.step_one.Goals as goal
-use Rattle.alert_truth.proofs.truths.Truths.step_one.Goals.{After-note}
+use Rattle.alert_truth.proofs.truths.Truths.step_one.Goals.{After-note, Then-stays}
+
+pub stays-requires : goal.stays-requires
+stays-requires c =
+    let few = many-alerts c.args.book.now in
+    record {
+      since = omega (arith, c.requires.fits.since, few);
+      present = omega (arith, c.requires.fits.present, few);
+      active = omega (arith, c.requires.fits.active, few);
+      waiting = omega (arith, c.requires.fits.waiting, few);
+    }
 
 pub index-requires : goal.index-requires
 index-requires c = omega (arith, c.requires.fits.since, many-alerts c.args.book.now, c.args.self.now.since.ok.0)
@@ -80,3 +91,23 @@ returns-clause-stands c = λ conditions phases k cond phase half.
 
 pub returns-clause-answer : goal.returns-clause-answer
 returns-clause-answer c = λ conditions phases k cond phase half. is_active c conditions phases k cond phase half
+
+-- the alert that stays as it is
+module _ (c : Then-stays) (conditions : ℕ → Signal) (phases : ℕ → ℕ) (k : ℕ) (cond : c.args.cond ≡ conditions c.args.alert k)
+    (half : HalfStand (the_book c.args.book.now) conditions phases k c.args.alert c.args.self.now) where
+  stays-within : c.args.alert < length (the_book c.args.book.now).alerts
+  stays-within = omega (arith, c.requires.alert, many-alerts c.args.book.now)
+
+  same : IsSame (inhibited (the_book c.args.book.now) conditions phases c.args.alert) (conditions c.args.alert) (alert_at (the_book c.args.book.now) c.args.alert).confirm k
+  same =
+      let left : IsStepped (the_book c.args.book.now) conditions phases k c.args.alert c.args.self.now = half.left c.args.alert (omega arith) stays-within in
+      stays-same (inhibited (the_book c.args.book.now) conditions phases c.args.alert) (conditions c.args.alert) (alert_at (the_book c.args.book.now) c.args.alert).confirm k
+      c.args.cond (get_or c.args.self.now.active.items c.args.alert false) (get_or c.args.self.now.since.items c.args.alert None)
+      cond left.active left.since (sym c.stays.ensures ∙ c.if-stays.true)
+
+pub returns-then-stays-clause-stands : goal.returns-then-stays-clause-stands
+returns-then-stays-clause-stands c = λ conditions phases k cond phase half.
+    half-stays (the_book c.args.book.now) conditions phases k c.args.alert c.args.self.now (stays-within c conditions phases k cond half) (same c conditions phases k cond half) half
+
+pub returns-then-stays-clause-answer : goal.returns-then-stays-clause-answer
+returns-then-stays-clause-answer c = λ conditions phases k cond phase half. cond ∙ (same c conditions phases k cond half).answer

@@ -1,133 +1,20 @@
-// What the crew makes of the alerts of a small book, moment by moment. The expected values follow from the rules by hand.
-ghost use Rattle.std.specs.Prelude.{◌≡◌, ◌+◌, ◌≤◌, ℕ, true, List, [], ◌∷◌, length, map, codes, vec_len, IfOk, OnOk, None};
-ghost use Rattle.ecam_spec.specs.declared.kinds.Level as Levels;
-ghost use Rattle.ecam_spec.specs.declared.kinds.Sound as Sounds;
-ghost use Rattle.ecam_spec.specs.Book.{constant};
-ghost use Rattle.ecam_spec.specs.Draft.{DraftAlert};
-ghost use Rattle.ecam_spec.specs.KeepsLimits.{IsSound};
-ghost use Rattle.ecam_spec.specs.DraftFaults.{draft_fault};
-ghost use Rattle.book_model.specs.View.{draft_of, tree_in, alert_of};
+// What the crew makes of the alerts, moment by moment. The expected values follow from the rules by hand.
+ghost use Rattle.std.specs.Prelude.{◌≡◌, ◌+◌, ◌≤◌, length, vec_len, IfOk, OnOk};
 ghost use Rattle.book_model.specs.Sealed.{the_book};
 ghost use Rattle.crew_marks.specs.CrewMarks.{CanGoOn};
 ghost use Rattle.crew_marks.specs.MarksState.{MarksFit};
 
-use crate::Marks;
-use book_model::{Alert, Book, Draft, Name, PhaseTerms, Term, Text};
-use ecam_kinds::{Key, Keys, Level, PhaseSet, Sound};
+use super::small_book;
+use book_model::Book;
+use crew_marks::Marks;
+use ecam_kinds::{Key, Keys};
 use std::alloc::{AllocError, Global};
 use std::process::Abort;
 use std::test::Fail;
-use term_tree::Cond;
 
-/// The alerts of the book by a letter each: two cautions and a warning, which is shown before them.
-const LETTERS: &[u8] = b"xyw";
-
-fn name(text: &str) -> Name
-    requires { length text.now ≤ 24 }
-    ensures { result.bytes ≡ text.now }
-{
-    let mut name = Name::new();
-    name.push_str(text);
-    name
-}
-
-fn text(text: &str) -> Text
-    requires { length text.now ≤ 36 }
-    ensures { result.bytes ≡ text.now }
-{
-    let mut result = Text::new();
-    result.push_str(text);
-    result
-}
-
-fn term(holds: bool) -> Term
-    ensures { tree_in result ≡ constant holds }
-{
-    Term {
-        cond: Cond::Const(holds),
-        at: 0,
-    }
-}
-
-fn alert(alloc: Global, own: &str, level: Level, sound: Sound) -> Alert
-    requires { length own.now ≤ 24 }
-    ensures { alert_of result ≡ record {
-      name = own.now;
-      title = codes "T";
-      system = 0;
-      level = level;
-      when = constant true;
-      page = None;
-      confirm = 0;
-      sound = sound;
-      inhibit = 256;
-      secondary = [];
-      lines = [];
-      status = [];
-    } }
-{
-    Alert {
-        name: name(own),
-        title: text("T"),
-        system: 0,
-        level,
-        when: term(true),
-        page: None,
-        confirm: 0,
-        sound,
-        inhibit: PhaseSet::NINE,
-        secondary: Vec::new(alloc),
-        lines: Vec::new(alloc),
-        status: Vec::new(alloc),
-    }
-}
-
-fn alerts(alloc: Global) -> Result<Vec<Alert>, AllocError>
-    ensures { IfOk result (λ v. map alert_of v.items ≡
-        (let plain : List ℕ → Levels.Level → Sounds.Sound
-        → DraftAlert = λ name level sound. record {
-          name = name;
-          title = codes "T";
-          system = 0;
-          level = level;
-          when = constant true;
-          page = None;
-          confirm = 0;
-          sound = sound;
-          inhibit = 256;
-          secondary = [];
-          lines = [];
-          status = [];
-        } in
-        plain (codes "x") Level.One Sound.Quiet ∷ plain (codes "y") Level.Two Sound.Quiet
-        ∷ plain (codes "w") Level.Three Sound.Cricket ∷ [])) }
-{
-    let first = alert(alloc, "x", Level::One, Sound::Quiet);
-    let second = alert(alloc, "y", Level::Two, Sound::Quiet);
-    let warning = alert(alloc, "w", Level::Three, Sound::Cricket);
-    Ok(vec![in alloc; first, second, warning]?)
-}
-
-fn draft(alloc: Global) -> Result<Draft, AllocError>
-    ensures sound { IfOk result (λ d. IsSound (draft_of d)) }
-    ensures faultless { IfOk result (λ d. draft_fault (draft_of d) ≡ None) }
-{
-    Ok(Draft {
-        systems: vec![in alloc; text("S")]?,
-        pages: Vec::new(alloc),
-        params: Vec::new(alloc),
-        phase: PhaseTerms {
-            gnd: term(false),
-            run: term(false),
-            tp: term(false),
-            fast: term(false),
-            high: term(false),
-            low: term(false),
-        },
-        alerts: alerts(alloc)?,
-        memos: Vec::new(alloc),
-    })
-}
+/// The alerts of the book by a letter each: a caution of level 2, a warning, which is shown before it, two that stay away,
+/// and a caution of level 1, which is shown after them.
+const LETTERS: &[u8] = b"yw??x";
 
 // A flag for each of so many alerts: whether its letter is there.
 fn flags(alloc: Global, alerts: usize, letters: &[u8]) -> Result<Vec<bool>, AllocError>
@@ -194,9 +81,9 @@ fn is(flags: &[bool], letters: &[u8]) -> bool {
 // The number of the first of these alerts.
 fn first(letters: &[u8]) -> Option<u32> {
     match letters.first() {
-        Some(b'x') => Some(0),
-        Some(b'y') => Some(1),
-        Some(b'w') => Some(2),
+        Some(b'y') => Some(0),
+        Some(b'w') => Some(1),
+        Some(b'x') => Some(4),
         _ => None,
     }
 }
@@ -248,7 +135,7 @@ fn rows_hold(rt: &impl Abort, alloc: Global, book: &Book, rows: &[Row]) -> Resul
             marks.copy_from(&other);
             keys.tick();
         }
-        assert_eq!(rt; marks.shown().len(), 3);
+        assert_eq!(rt; marks.shown().len(), LETTERS.len());
         assert!(rt; are(&marks, expected, normal), "row {row}");
         let changed = times == 1 && !same_sets(expected, before);
         assert_eq!(rt; marks.changed(), changed, "row {row}");
@@ -275,7 +162,7 @@ fn cleared_alerts_come_back_by_a_press_of_rcl(rt: HostRuntime) -> Result<(), Fai
         (b"", 1, b"yx - | yx - - - x", false),
     ];
     let alloc = rt.alloc();
-    let book = Book::build(alloc, draft(alloc)?)?;
+    let book = small_book(alloc)?;
     rows_hold(&rt, alloc, &book, &rows)
 }
 
@@ -308,7 +195,7 @@ fn cancelled_cautions_come_back_by_a_long_recall(rt: HostRuntime) -> Result<(), 
         (b"", 1, b"x - | - - x - -", false),
     ];
     let alloc = rt.alloc();
-    let book = Book::build(alloc, draft(alloc)?)?;
+    let book = small_book(alloc)?;
     rows_hold(&rt, alloc, &book, &rows)
 }
 
@@ -335,7 +222,7 @@ fn cancellations_end_but_for_those_of_the_moment(rt: HostRuntime) -> Result<(), 
         (b"", 1, b"yx - | yx - - - y", false),
     ];
     let alloc = rt.alloc();
-    let book = Book::build(alloc, draft(alloc)?)?;
+    let book = small_book(alloc)?;
     rows_hold(&rt, alloc, &book, &rows)
 }
 
@@ -363,6 +250,6 @@ fn waiting_alerts_are_shown_by_a_press_of_rcl(rt: HostRuntime) -> Result<(), Fai
         (b"1", 1, b"- y | y - - y -", false),
     ];
     let alloc = rt.alloc();
-    let book = Book::build(alloc, draft(alloc)?)?;
+    let book = small_book(alloc)?;
     rows_hold(&rt, alloc, &book, &rows)
 }

@@ -1,7 +1,7 @@
 use Rattle.std.proofs.Common.{◌≤◌}
 use Rattle.book_model.specs.Sealed.{the_book}
 use Rattle.alert_truth.specs.TruthsState.{TruthsFit}
-use Rattle.alert_truth.proofs.tests.agree.Given as goal
+use Rattle.worked_alerts.proofs.truths.agree.Given as goal
 
 -- there is a moment a row at most
 abbrev pub invariant-loop-row : goal.invariant-loop-row

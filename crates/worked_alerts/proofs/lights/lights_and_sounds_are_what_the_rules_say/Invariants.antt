@@ -1,7 +1,7 @@
 use Rattle.std.proofs.Common.{◌≤◌}
 use Rattle.book_model.specs.Sealed.{the_book}
 use Rattle.attention.specs.State.{AttentionFits}
-use Rattle.attention.proofs.tests.lights_and_sounds_are_what_the_rules_say.Given as goal
+use Rattle.worked_alerts.proofs.lights.lights_and_sounds_are_what_the_rules_say.Given as goal
 
 -- there is a moment a row at most
 abbrev pub invariant-loop-row : goal.invariant-loop-row

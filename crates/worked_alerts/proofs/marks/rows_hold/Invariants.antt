@@ -1,7 +1,7 @@
 use Rattle.std.proofs.Common.{◌≤◌, ◌*◌, ◌+◌}
 use Rattle.book_model.specs.Sealed.{the_book}
 use Rattle.crew_marks.specs.MarksState.{MarksFit}
-use Rattle.crew_marks.proofs.tests.rows_hold.Given as goal
+use Rattle.worked_alerts.proofs.marks.rows_hold.Given as goal
 
 -- there are fewer than 256 moments a row
 abbrev pub invariant-loop-row : goal.invariant-loop-row

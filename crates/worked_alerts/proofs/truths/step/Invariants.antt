@@ -1,7 +1,7 @@
 use Rattle.std.proofs.Common.{◌≡◌}
 use Rattle.book_model.specs.Sealed.{the_book}
 use Rattle.alert_truth.specs.TruthsState.{TruthsFit}
-use Rattle.alert_truth.proofs.tests.step.Given as goal
+use Rattle.worked_alerts.proofs.truths.step.Given as goal
 
 abbrev pub invariant-loop-alert : goal.invariant-loop-alert
 invariant-loop-alert l = record {

@@ -1,132 +1,13 @@
-// The lights and the sound of a small book, moment by moment. The expected values follow from the rules by hand.
-ghost use Rattle.std.specs.Prelude.{◌≡◌, ◌≤◌, ◌+◌, List, ℕ, [], ◌∷◌, true, length, map, codes, IfOk, Some, None};
-ghost use Rattle.ecam_spec.specs.Book.{constant};
-ghost use Rattle.ecam_spec.specs.Draft.{DraftAlert};
-ghost use Rattle.ecam_spec.specs.KeepsLimits.{IsSound};
-ghost use Rattle.ecam_spec.specs.DraftFaults.{draft_fault};
-ghost use Rattle.book_model.specs.View.{draft_of, tree_in, alert_of};
+// The lights and the sound, moment by moment. The expected values follow from the rules by hand.
+ghost use Rattle.std.specs.Prelude.{◌≡◌, ◌≤◌, ◌+◌, length};
 ghost use Rattle.book_model.specs.Sealed.{the_book};
 ghost use Rattle.attention.specs.State.{AttentionFits, CanGoOn};
 
-use crate::Attention;
-use book_model::{Alert, Book, Draft, Name, PhaseTerms, Term, Text};
-use ecam_kinds::{Key, Keys, Level, PhaseSet, Sound};
-use std::alloc::{AllocError, Global};
+use super::small_book;
+use attention::Attention;
+use book_model::Book;
+use ecam_kinds::{Key, Keys, Sound};
 use std::test::Fail;
-use term_tree::Cond;
-
-fn name(text: &str) -> Name
-    requires { length text.now ≤ 24 }
-    ensures { result.bytes ≡ text.now }
-{
-    let mut name = Name::new();
-    name.push_str(text);
-    name
-}
-
-fn text(text: &str) -> Text
-    requires { length text.now ≤ 36 }
-    ensures { result.bytes ≡ text.now }
-{
-    let mut result = Text::new();
-    result.push_str(text);
-    result
-}
-
-fn term(holds: bool) -> Term
-    ensures { tree_in result ≡ constant holds }
-{
-    Term {
-        cond: Cond::Const(holds),
-        at: 0,
-    }
-}
-
-fn alert(alloc: Global, own: &str, level: Level, sound: Sound) -> Alert
-    requires { length own.now ≤ 24 }
-    ensures { alert_of result ≡ record {
-      name = own.now;
-      title = codes "T";
-      system = 0;
-      level = level;
-      when = constant true;
-      page = None;
-      confirm = 0;
-      sound = sound;
-      inhibit = 256;
-      secondary = [];
-      lines = [];
-      status = [];
-    } }
-{
-    Alert {
-        name: name(own),
-        title: text("T"),
-        system: 0,
-        level,
-        when: term(true),
-        page: None,
-        confirm: 0,
-        sound,
-        inhibit: PhaseSet::NINE,
-        secondary: Vec::new(alloc),
-        lines: Vec::new(alloc),
-        status: Vec::new(alloc),
-    }
-}
-
-// A caution with a chime, a warning, a caution without a sound, a second warning, and an alert of level 1.
-fn alerts(alloc: Global) -> Result<Vec<Alert>, AllocError>
-    ensures { IfOk result (λ v. map alert_of v.items ≡
-        (let plain : List ℕ → DraftAlert = λ name. record {
-          name = name;
-          title = codes "T";
-          system = 0;
-          level = Level.One;
-          when = constant true;
-          page = None;
-          confirm = 0;
-          sound = Sound.Quiet;
-          inhibit = 256;
-          secondary = [];
-          lines = [];
-          status = [];
-        } in
-        record (plain (codes "c")) { level = Level.Two; sound = Sound.Chime }
-        ∷ record (plain (codes "w")) { level = Level.Three; sound = Sound.Repetitive }
-        ∷ record (plain (codes "q")) { level = Level.Two }
-        ∷ record (plain (codes "v")) { level = Level.Three; sound = Sound.Cavalry }
-        ∷ plain (codes "a") ∷ [])) }
-{
-    Ok(vec![in alloc;
-        alert(alloc, "c", Level::Two, Sound::Chime),
-        alert(alloc, "w", Level::Three, Sound::Repetitive),
-        alert(alloc, "q", Level::Two, Sound::Quiet),
-        alert(alloc, "v", Level::Three, Sound::Cavalry),
-        alert(alloc, "a", Level::One, Sound::Quiet),
-    ]?)
-}
-
-fn draft(alloc: Global) -> Result<Draft, AllocError>
-    ensures sound { IfOk result (λ d. IsSound (draft_of d)) }
-    ensures faultless { IfOk result (λ d. draft_fault (draft_of d) ≡ None) }
-{
-    Ok(Draft {
-        systems: vec![in alloc; text("S")]?,
-        pages: Vec::new(alloc),
-        params: Vec::new(alloc),
-        phase: PhaseTerms {
-            gnd: term(false),
-            run: term(false),
-            tp: term(false),
-            fast: term(false),
-            high: term(false),
-            low: term(false),
-        },
-        alerts: alerts(alloc)?,
-        memos: Vec::new(alloc),
-    })
-}
 
 const NONE: u8 = 0;
 
@@ -447,7 +328,7 @@ fn lights_and_sounds_are_what_the_rules_say(rt: HostRuntime) -> Result<(), Fail>
         ),
     ];
     let alloc = rt.alloc();
-    let book = Book::build(alloc, draft(alloc)?)?;
+    let book = small_book(alloc)?;
     assert_eq!(rt; book.alerts().len(), 5);
     let mut attention = Attention::new(alloc, &book)?;
     let mut other = Attention::new(alloc, &book)?;

@@ -1,133 +1,13 @@
-// Alerts of a small book, moment by moment. The expected values follow from the rules by hand.
-ghost use Rattle.std.specs.Prelude.{◌≡◌, ◌+◌, ◌<◌, ◌≤◌, List, ℕ, [], ◌∷◌, true, length, map, codes, IfOk, Some, None};
-ghost use Rattle.ecam_spec.specs.Book.{constant};
-ghost use Rattle.ecam_spec.specs.Draft.{DraftAlert};
-ghost use Rattle.ecam_spec.specs.KeepsLimits.{IsSound};
-ghost use Rattle.ecam_spec.specs.DraftFaults.{draft_fault};
-ghost use Rattle.book_model.specs.View.{draft_of, tree_in, alert_of, bytes_of};
+// What is active, waiting, starred and up, moment by moment. The expected values follow from the rules by hand.
+ghost use Rattle.std.specs.Prelude.{◌≡◌, ◌+◌, ◌<◌, ◌≤◌, length};
 ghost use Rattle.book_model.specs.Sealed.{the_book};
 ghost use Rattle.alert_truth.specs.TruthsState.{TruthsFit, CanGoOn};
 
-use crate::Truths;
-use bitflags::Flags;
-use book_model::{Alert, Book, Draft, Name, PhaseTerms, Term, Text};
-use ecam_kinds::{Level, Phase, PhaseSet, Sound};
-use std::alloc::{AllocError, Global};
+use super::small_book;
+use alert_truth::Truths;
+use book_model::Book;
+use ecam_kinds::Phase;
 use std::test::Fail;
-use term_tree::Cond;
-
-fn name(text: &str) -> Name
-    requires { length text.now ≤ 24 }
-    ensures { result.bytes ≡ text.now }
-{
-    let mut name = Name::new();
-    name.push_str(text);
-    name
-}
-
-fn text(text: &str) -> Text
-    requires { length text.now ≤ 36 }
-    ensures { result.bytes ≡ text.now }
-{
-    let mut result = Text::new();
-    result.push_str(text);
-    result
-}
-
-fn term(holds: bool) -> Term
-    ensures { tree_in result ≡ constant holds }
-{
-    Term {
-        cond: Cond::Const(holds),
-        at: 0,
-    }
-}
-
-// An alert that is inhibited in the phases of these bits.
-fn alert(alloc: Global, own: &str, confirm: u32, inhibit: u16, secondary: Vec<Name>) -> Alert
-    requires { length own.now ≤ 24 }
-    ensures { alert_of result ≡ record {
-      name = own.now;
-      title = codes "T";
-      system = 0;
-      level = Level.One;
-      when = constant true;
-      page = None;
-      confirm = confirm;
-      sound = Sound.Quiet;
-      inhibit = inhibit;
-      secondary = map bytes_of secondary.items;
-      lines = [];
-      status = [];
-    } }
-{
-    Alert {
-        name: name(own),
-        title: text("T"),
-        system: 0,
-        level: Level::One,
-        when: term(true),
-        page: None,
-        confirm,
-        sound: Sound::Quiet,
-        inhibit: PhaseSet::from_bits_retain(inhibit),
-        secondary,
-        lines: Vec::new(alloc),
-        status: Vec::new(alloc),
-    }
-}
-
-// Four alerts: one that has to be confirmed, one that is inhibited in the phases 3, 4 and 5, and two others. The
-// first explains the last, and the second explains the last two.
-fn alerts(alloc: Global) -> Result<Vec<Alert>, AllocError>
-    ensures { IfOk result (λ v. map alert_of v.items ≡
-        (let plain : List ℕ → ℕ → ℕ → List (List ℕ)
-        → DraftAlert = λ name confirm inhibit secondary. record {
-          name = name;
-          title = codes "T";
-          system = 0;
-          level = Level.One;
-          when = constant true;
-          page = None;
-          confirm = confirm;
-          sound = Sound.Quiet;
-          inhibit = inhibit;
-          secondary = secondary;
-          lines = [];
-          status = [];
-        } in
-        plain (codes "slow") 3 0 (codes "last" ∷ [])
-        ∷ plain (codes "inhibited") 0 28 (codes "third" ∷ codes "last" ∷ [])
-        ∷ plain (codes "third") 0 0 [] ∷ plain (codes "last") 0 0 [] ∷ [])) }
-{
-    let slow = alert(alloc, "slow", 3, 0, vec![in alloc; name("last")]?);
-    let explained = vec![in alloc; name("third"), name("last")]?;
-    let inhibited = alert(alloc, "inhibited", 0, 28, explained);
-    let third = alert(alloc, "third", 0, 0, Vec::new(alloc));
-    let last = alert(alloc, "last", 0, 0, Vec::new(alloc));
-    Ok(vec![in alloc; slow, inhibited, third, last]?)
-}
-
-fn draft(alloc: Global) -> Result<Draft, AllocError>
-    ensures sound { IfOk result (λ d. IsSound (draft_of d)) }
-    ensures faultless { IfOk result (λ d. draft_fault (draft_of d) ≡ None) }
-{
-    Ok(Draft {
-        systems: vec![in alloc; text("S")]?,
-        pages: Vec::new(alloc),
-        params: Vec::new(alloc),
-        phase: PhaseTerms {
-            gnd: term(false),
-            run: term(false),
-            tp: term(false),
-            fast: term(false),
-            high: term(false),
-            low: term(false),
-        },
-        alerts: alerts(alloc)?,
-        memos: Vec::new(alloc),
-    })
-}
 
 // One moment, in which the conditions marked by an `x` hold.
 fn step(truths: &mut Truths, book: &Book, holding: &[u8], phase: Phase)
@@ -266,7 +146,7 @@ fn agree(truths: &mut Truths, other: &mut Truths, book: &Book, rows: &[Row]) -> 
 #[test]
 fn alerts_are_what_the_rules_say(rt: HostRuntime) -> Result<(), Fail> {
     let alloc = rt.alloc();
-    let book = Book::build(alloc, draft(alloc)?)?;
+    let book = small_book(alloc)?;
     let mut truths = Truths::new(alloc, &book)?;
     let mut other = Truths::new(alloc, &book)?;
     let agree = agree(&mut truths, &mut other, &book, &ROWS);
