@@ -59,6 +59,14 @@ impl Marked {
         self.words[i / 64] &= !(1 << (i % 64));
     }
 
+    /// Whether a number is in. Its cost is one look.
+    pub fn has(&self, i: usize) -> bool
+        requires { i < room self.now }
+        ensures { result ≡ is_marked self.now i }
+    {
+        bits_from(self.words[i / 64], i % 64) % 2 == 1
+    }
+
     /// The first number of the set from `from` on. Its cost is one look for each 64 numbers that it goes over.
     pub fn first_from(&self, from: usize) -> Option<usize>
         ensures { Finds self.now from result }

@@ -10,7 +10,9 @@ fn goes_through_in_order(rt: HostRuntime) -> Result<(), Fail> {
     marked.mark(64);
     assert_eq!(rt; marked.first_from(0), Some(3));
     assert_eq!(rt; marked.first_from(4), Some(64));
+    assert_eq!(rt; marked.has(64), true);
     marked.unmark(64);
+    assert_eq!(rt; marked.has(64), false);
     assert_eq!(rt; marked.first_from(4), Some(130));
     assert_eq!(rt; marked.first_from(131), None);
     marked.clear();
