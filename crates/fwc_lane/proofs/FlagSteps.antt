@@ -9,6 +9,9 @@ module _ {X : Type 0} (old new : List X) (i : ℕ) (x d : X) (is : new ≡ set o
   pub set-other : (j : ℕ) → j < i → get_or new j d ≡ get_or old j d
   set-other j lt = let ne : j ≢ i = omega arith in ap (λ ys. get_or ys j d) is ∙ get_or-set_other old i j x d ne
 
+  pub set-behind : (j : ℕ) → i < j → get_or new j d ≡ get_or old j d
+  set-behind j lt = let ne : j ≢ i = omega arith in ap (λ ys. get_or ys j d) is ∙ get_or-set_other old i j x d ne
+
   pub set-length : length new ≡ length old
   set-length = ap length is ∙ length-set old i x
 

@@ -1,5 +1,6 @@
 -- The six inputs of the phase, stepped one after another.
-use Rattle.std.proofs.Common.{◌≡◌, ℕ, suc, ◌<◌, Bool, List, length, slice_get, Some, sym, ap, subst, ◌∙◌}
+use Rattle.std.proofs.Common.{◌≡◌, ℕ, suc, ◌<◌, Bool, length, slice_get, Some, sym, ap, subst, ◌∙◌}
+use Rattle.std.specs.List.{list_any}
 use Rattle.ecam_spec.specs.Book as plain
 use Rattle.ecam_spec.specs.Term.{holds}
 use Rattle.ecam_spec.specs.TermSize.{Placed}
@@ -19,9 +20,10 @@ use Rattle.book_model.proofs.ConditionRanges.{ranges-apart}
 use Rattle.book_model.proofs.ConditionWorlds.{phase-world}
 use Rattle.flight_phases.specs.Inputs.{AreInputs}
 use Rattle.term_eval.specs.declared.env.Env.{Env}
-use Rattle.term_eval.specs.declared.memory.Cell.{Cell}
 use Rattle.term_eval.specs.Shown.{Shows}
-use Rattle.fwc_lane.specs.Conditions.{StepsTerm, BookHalf}
+use Rattle.term_eval.specs.Woken.{operands, moved}
+use Rattle.fwc_lane.specs.declared.terms.Terms.{Terms}
+use Rattle.fwc_lane.specs.Conditions.{StepsTerm, TellsMoved, BookHalf, known_world}
 use Rattle.fwc_lane.specs.Given.{Lends}
 use Rattle.fwc_lane.proofs.Showing.{shows-flight}
 
@@ -38,13 +40,19 @@ module _ (d : Draft) (sealed : IsSealed d) (p : PhaseTerms) (same : p ≡ d.phas
   shows : (i : ℕ) → i < alerts_from → Shows env (world_of (the_book d) m i) k
   shows i lt = subst (λ w. Shows env w k) (sym (phase-world (the_book d) m i lt)) (shows-flight (the_book d) m k env lends one none)
 
-  module _ (i : ℕ) (lt : i < alerts_from) (t : Placed) (is : slice_get (phase_places p) i ≡ Some t) (old new : List Cell) (answer : Bool) (steps : StepsTerm env k t old new answer)
-      (half : BookHalf (the_book d) m k i old) where
-    pub input-truth : answer ≡ holds (flight_world (the_book d) m) t.tree k
-    input-truth = steps.truth (places (the_book d)) (world_of (the_book d) m) i (input-place d sealed p same i t is) (shows i lt) half ∙ ap (λ w. holds w t.tree k) (phase-world (the_book d) m i lt)
+  tells : (i : ℕ) → i < alerts_from → (t : Placed) → TellsMoved (moved (known_world (the_book d) m 0) k) (world_of (the_book d) m i) k t
+  tells i lt t = ap (λ w. list_any (moved w k) (operands t.tree)) (sym (phase-world (the_book d) m i lt))
 
-    pub input-stands : BookHalf (the_book d) m k (suc i) new
-    input-stands = steps.stands (places (the_book d)) (world_of (the_book d) m) i (input-place d sealed p same i t is) (ranges-apart (the_book d)) (shows i lt) half
+  module _ (i : ℕ) (lt : i < alerts_from) (t : Placed) (is : slice_get (phase_places p) i ≡ Some t) (visited : ℕ) (old new : Terms) (answer : Bool) (steps : StepsTerm env k i t old new answer)
+      (half : BookHalf (the_book d) m k i 0 visited old) where
+    pub input-truth : answer ≡ holds (flight_world (the_book d) m) t.tree k
+    input-truth =
+        steps.truth (places (the_book d)) (world_of (the_book d) m) (moved (known_world (the_book d) m 0) k) visited (input-place d sealed p same i t is) (shows i lt) (tells i lt t) half
+        ∙ ap (λ w. holds w t.tree k) (phase-world (the_book d) m i lt)
+
+    pub input-stands : BookHalf (the_book d) m k (suc i) 0 visited new
+    input-stands =
+        steps.stands (places (the_book d)) (world_of (the_book d) m) (moved (known_world (the_book d) m 0) k) visited (input-place d sealed p same i t is) (ranges-apart (the_book d)) (shows i lt) (tells i lt t) half
 
 -- the answers are the inputs of the moment
 pub record SixAnswers (d : Draft) (m : ℕ → Moment) (k : ℕ) (p : PhaseTerms) (gnd run tp fast high low : Bool) : Type 0 where

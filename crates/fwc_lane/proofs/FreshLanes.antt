@@ -1,5 +1,5 @@
 -- A lane before anything happened, and one that took over what another holds.
-use Rattle.std.proofs.Common.{◌≡◌, ℕ, zero, suc, ◌<◌, Bool, false, List, [], ◌∷◌, get_or, refl, ap, ◌∙◌, arith}
+use Rattle.std.proofs.Common.{◌≡◌, ℕ, zero, suc, ◌<◌, Bool, false, List, [], ◌∷◌, get_or, slice_index, refl, sym, ap, subst, ◌∙◌, arith}
 use Rattle.std.specs.List.{list_any}
 use Rattle.fwc_lane.proofs.FlagSteps.{left-false, right-false}
 use Rattle.ecam_spec.specs.Book.{Book}
@@ -14,7 +14,8 @@ use Rattle.ecam_spec.specs.History.{Flags, Moment, Stroke, Era, empty_era}
 use Rattle.ecam_spec.specs.Replay.{moment_of}
 use Rattle.ecam_spec.specs.Situation.{flight, condition_in, phase_in}
 use Rattle.ecam_spec.specs.Screen.{cockpit, attention, panel}
-use Rattle.ecam_kinds.specs.KeyState.{KeysStand}
+use Rattle.ecam_kinds.specs.KeyState.{KeysStand, is_pressed}
+use Rattle.ecam_kinds.specs.declared.keys.Keys.{Keys}
 use Rattle.ecam_kinds.specs.Shown.{picture_of}
 use Rattle.book_model.specs.Conditions.{world_of}
 use Rattle.book_model.proofs.ConditionRanges.{range}
@@ -24,7 +25,11 @@ use Rattle.alert_truth.specs.TruthsState.{TruthsStand}
 use Rattle.crew_marks.specs.MarksState.{MarksStand}
 use Rattle.attention.specs.State.{AttentionStands}
 use Rattle.system_display.specs.Selecting as selecting
-use Rattle.term_eval.specs.CellState.{StandForNone}
+use Rattle.term_eval.specs.CellState.{Stand, StandForNone}
+use Rattle.term_eval.specs.Due.{staying, IsDue}
+use Rattle.fwc_lane.specs.declared.terms.Terms.{Terms}
+use Rattle.fwc_lane.specs.TermsFit.{TookTerms}
+use Rattle.fwc_lane.specs.Conditions.{TermsStand}
 use Rattle.fwc_lane.specs.declared.lane.Lane.{Lane}
 use Rattle.fwc_lane.specs.ChangedRows.{row_changed}
 use Rattle.fwc_lane.specs.LaneFits.{LaneFits}
@@ -36,7 +41,7 @@ pub record IsFresh (b : Book) (l : Lane) : Type 0 where
   pub ticked : l.ticked ≡ false
   pub params : (words : ℕ → List BusWord) → words 0 ≡ [] → ParamsStand b words 0 l.params
   pub keys : (strokes : ℕ → List Stroke) → strokes 0 ≡ [] → KeysStand strokes 0 l.keys
-  pub cells : StandForNone l.cells.slots
+  pub cells : StandForNone l.terms.cells.slots
   pub phases : (f : Flight) → flight_phases.Stands f 0 l.phase_state
   pub truths : (conditions : ℕ → Signal) (phases : ℕ → ℕ) → TruthsStand b conditions phases 0 l.truths
   pub marks : (c : Cockpit) → MarksStand b c 0 l.marks
@@ -56,7 +61,14 @@ unfolding row_changed
 fresh-whole b l fits fresh m = record {
   counted = fresh.moments;
   ticked = fresh.ticked;
-  cells = λ j p is. fresh.cells (world_of b m j) p.tree p.at (omega (arith, range b j p is, fits.cells));
+  terms = record {
+    cells = λ j p is. fresh.cells (world_of b m j) p.tree p.at (omega (arith, range b j p is, fits.terms.slots));
+    told = λ h e. absurd (omega arith);
+    next = λ h e. absurd (omega arith);
+    keys = λ h e. absurd (omega arith);
+    one_up = λ h e. absurd (omega arith);
+    two_up = λ h e. absurd (omega arith);
+  };
   phases = fresh.phases (flight b m);
   truths = fresh.truths (condition_in b m) (phase_in b m);
   marks = fresh.marks (cockpit b m);
@@ -87,7 +99,7 @@ pub record TookOver (b : Book) (other l : Lane) : Type 0 where
   pub ticked : l.ticked ≡ other.ticked
   pub params : (words : ℕ → List BusWord) (k : ℕ) → ParamsStand b words k other.params → ParamsStand b words k l.params
   pub keys : l.keys ≡ other.keys
-  pub cells : l.cells.slots ≡ other.cells.slots
+  pub terms : TookTerms other.terms l.terms
   pub phases : l.phase_state ≡ other.phase_state
   pub phase : l.phase ≡ other.phase
   pub truths : (conditions : ℕ → Signal) (phases : ℕ → ℕ) (k : ℕ) → TruthsStand b conditions phases k other.truths → TruthsStand b conditions phases k l.truths
@@ -101,11 +113,21 @@ pub record TookOver (b : Book) (other l : Lane) : Type 0 where
   pub changed : l.changed ≡ other.changed
   pub counts : l.counts ≡ other.counts
 
+took-terms : (b : Book) (m : ℕ → Moment) (k : ℕ) (other t : Terms) → TookTerms other t → TermsStand b m k other → TermsStand b m k t
+took-terms b m k other t took was = record {
+  cells = λ j p is. subst (Stand (world_of b m j) k p.tree p.at) (sym took.slots) (was.cells j p is);
+  told = λ h e j p is. ap (λ ys. get_or ys j false) took.truths ∙ was.told h e j p is;
+  next = λ h e j p is. subst (IsDue (staying (world_of b m j) h) p.tree h) (sym (ap (λ ys. slice_index ys j) took.dues)) (was.next h e j p is);
+  keys = λ h e x at. ap (λ (q : Keys). is_pressed q x) took.keys ∙ was.keys h e x at;
+  one_up = λ h e. took.one_up ∙ was.one_up h e;
+  two_up = λ h e. took.two_up ∙ was.two_up h e;
+}
+
 took-whole : (b : Book) (other l : Lane) → TookOver b other l → (m : ℕ → Moment) (k : ℕ) → WholeStands b m k other → WholeStands b m k l
 took-whole b other l took m k was = record {
   counted = took.moments ∙ was.counted;
   ticked = took.ticked ∙ was.ticked;
-  cells = rw took.cells was.cells;
+  terms = took-terms b m k other.terms l.terms took.terms was.terms;
   phases = rw took.phases was.phases;
   truths = took.truths (condition_in b m) (phase_in b m) k was.truths;
   marks = rw took.marks was.marks;

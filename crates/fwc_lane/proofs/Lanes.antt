@@ -1,5 +1,5 @@
 -- One event more: for which era a lane stands then, by what its parts stand for.
-use Rattle.std.proofs.Common.{◌≡◌, ℕ, suc, ◌≤◌, Bool, true, false, List, [], ◌∷◌, ◌++◌, length, refl, sym, ap, subst, ◌∙◌, inl, inr, arith}
+use Rattle.std.proofs.Common.{◌≡◌, ℕ, suc, ◌+◌, ◌-◌, ◌^◌, ◌≤◌, min, Bool, true, false, List, [], ◌∷◌, ◌++◌, length, refl, sym, ap, subst, ◌∙◌, inl, inr, arith}
 use Rattle.std.proofs.Math.Nat.{eq-or-lt_of_le}
 use Rattle.ecam_spec.specs.declared.kinds.Event.{Event}
 use Rattle.ecam_spec.specs.declared.kinds.Event.TheVariants.{Word, Tick, Press, Release, Fail, Up, End}
@@ -18,6 +18,7 @@ use Rattle.fwc_lane.specs.declared.lane.Lane.{Lane}
 use Rattle.fwc_lane.specs.LaneFits.{LaneFits}
 use Rattle.fwc_lane.specs.LaneStands.{WholeStands, Continues, HasWords, HasStrokes, LaneStands, AreUp}
 use Rattle.fwc_lane.specs.Given.{Came}
+use Rattle.fwc_lane.specs.Visits.{visits}
 
 -- ---- an event that ends no moment
 
@@ -52,7 +53,7 @@ module _ (b : Book) (e : Era) (x : Event) (quiet : is_tick x ≡ false) where
         subst (λ n. WholeStands b m n (record old { params = p; keys = q })) (sym same-length) record {
           counted = was.counted;
           ticked = was.ticked;
-          cells = was.cells;
+          terms = was.terms;
           phases = was.phases;
           truths = was.truths;
           marks = was.marks;
@@ -86,7 +87,7 @@ fits-with b old p q fits own = record {
   attention = fits.attention;
   selector = fits.selector;
   values = fits.values;
-  cells = fits.cells;
+  terms = fits.terms;
   lines = fits.lines;
   memos = fits.memos;
   truths_moments = fits.truths_moments;
@@ -214,3 +215,14 @@ module _ (b : Book) (e : Era) (one two : Bool) (up : AreUp (era_with e Tick) one
         (stands.keys strokes (λ i le. has i (omega (arith, longer)) ∙ ap (λ (z : Moment). z.strokes) (moment_tick e i le))));
     whole = tick-whole;
   }
+
+  pub tick-visits : ((m : ℕ → Moment) → Came b m old.moments old.params old.keys one two → WholeStands b m old.moments old
+      → new.terms.cells.visits ≡ min (old.terms.cells.visits + visits b m old.moments) (2 ^ 64 - 1))
+      → new.terms.cells.visits ≡ min (old.terms.cells.visits + visits b (moment_of (era_with e Tick)) (length e.moments)) (2 ^ 64 - 1)
+  unfolding many
+  tick-visits told =
+      let m = moment_of (era_with e Tick) in
+      let was : WholeStands b m (length e.moments) old = stands.whole m (λ i lt. all-same m (λ j below. refl) i (omega arith)) in
+      let here : length e.moments ≡ old.moments = sym was.counted in
+      subst (λ n. new.terms.cells.visits ≡ min (old.terms.cells.visits + visits b m n) (2 ^ 64 - 1)) (sym here)
+      (told m (subst (λ n. Came b m n old.params old.keys one two) here (came m (λ j below. refl))) (subst (λ n. WholeStands b m n old) here was))

@@ -1,3 +1,9 @@
+pub mod KeyNumbers
+pub mod Ranges
+pub mod Hitting
+pub mod NamesWithin
+pub mod Stages
+pub mod Beginning
 pub mod Stepping
 pub mod Showing
 pub mod FlightSteps

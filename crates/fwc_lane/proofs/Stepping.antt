@@ -1,15 +1,23 @@
--- One condition more is stepped: the others, whose slots are their own, stand as they stood.
-use Rattle.std.proofs.Common.{◌≡◌, ℕ, suc, ◌+◌, ◌<◌, ◌≤◌, Bool, not, ◌&&◌, List, length, slice_get, get_or, Some, AllPairs, sym, ap, subst, ◌∙◌, inl, inr, arith}
+-- One condition more is stepped: asked where it is woken, and left as it is where it isn't. The others, whose slots are their
+-- own, are as they were.
+use Rattle.std.proofs.Common.{◌≡◌, ◌≢◌, ℕ, zero, suc, ◌+◌, ◌-◌, ◌^◌, ◌<◌, ◌≤◌, min, Bool, true, false, not, ◌&&◌, ◌||◌, cond, List, length, slice_get, slice_index, get_or, set, Some, AllPairs, refl, sym, ap, subst, ◌∙◌, inl, inr, arith, eqb}
+use Rattle.std.specs.Option.{option_map_or}
 use Rattle.std.proofs.Math.Nat.{eq-or-lt_of_le}
+use Rattle.std.proofs.lemmas.List.{get_or-set_same, get_or-set_other}
 use Rattle.std.proofs.lemmas.Option.{slice_get_within, get_or_from_slice_get}
 use Rattle.ecam_spec.specs.Term.{World, holds}
-use Rattle.ecam_spec.specs.TermSize.{Placed, EndsBefore, slots}
+use Rattle.ecam_spec.specs.TermSize.{Placed, EndsBefore, slots, nodes}
 use Rattle.term_eval.specs.declared.env.Env.{Env}
-use Rattle.term_eval.specs.declared.memory.Cell.{Cell}
 use Rattle.term_eval.specs.CellWords.{cell_at}
 use Rattle.term_eval.specs.CellState.{Stand}
+use Rattle.term_eval.specs.Due.{staying, IsDue}
+use Rattle.term_eval.specs.Woken.{Operand, woken}
 use Rattle.term_eval.proofs.Frames.{Stand-same}
-use Rattle.fwc_lane.specs.Conditions.{AllStand, HalfStepped, StepsTerm, StepsLine}
+use Rattle.term_eval.proofs.Later.{woken_is, rests_holds, rests_stands, rests_due}
+use Rattle.wakes.specs.Marks.{is_marked}
+use Rattle.fwc_lane.specs.declared.terms.Terms.{Terms}
+use Rattle.fwc_lane.specs.Visits.{nodes_woken, visits_below}
+use Rattle.fwc_lane.specs.Conditions.{IsAsked, IsLeft, HalfStepped, TellsMoved, StepsTerm, StepsLine}
 
 -- of two conditions the earlier ends before the later begins
 ends-before : (ps : List Placed) (i j : ℕ) (p q : Placed) → AllPairs EndsBefore ps → i < j → slice_get ps i ≡ Some p → slice_get ps j ≡ Some q → EndsBefore p q
@@ -17,53 +25,123 @@ ends-before ps i j p q apart lt here there =
     subst (λ r. EndsBefore r q) (get_or_from_slice_get ps i p p here)
     (subst (EndsBefore (get_or ps i p)) (get_or_from_slice_get ps j q p there) (apart i j p lt (slice_get_within ps j q there)))
 
-module _ (ps : List Placed) (worlds : ℕ → World) (k i : ℕ) (t : Placed) (old new : List Cell) (here : slice_get ps i ≡ Some t) (apart : AllPairs EndsBefore ps)
-    (before : (j : ℕ) → j < t.at → cell_at new j ≡ cell_at old j) (behind : (j : ℕ) → t.at + slots t.tree ≤ j → cell_at new j ≡ cell_at old j) where
-  earlier : (j : ℕ) (p : Placed) → j < i → slice_get ps j ≡ Some p → Stand (worlds j) (suc k) p.tree p.at old → Stand (worlds j) (suc k) p.tree p.at new
-  earlier j p lt is stands =
-      let ends : p.at + slots p.tree ≤ t.at = ends-before ps j i p t apart lt is here in
-      Stand-same (worlds j) (suc k) p.tree p.at old new (record { same = λ n low high. before n (omega arith) }) stands
+-- a condition that is left is marked where the moment wakes it
+pub marked-is : (w : World) (hit : Operand → Bool) (k j : ℕ) (p : Placed) (t : Terms) → k < 2 ^ 63 → TellsMoved hit w k p → IsLeft w hit k j p t → woken w p.tree k ≡ is_marked t.woken j
+marked-is w hit zero j p t small tells left = sym (left.first refl)
+marked-is w hit (suc h) j p t small tells left =
+    let is = left.later h refl in
+    woken_is w h p.tree is.due small is.next ∙ ap (λ b. b || eqb is.due (suc h)) (sym tells) ∙ sym is.marks
 
-  later : (j : ℕ) (p : Placed) → i < j → slice_get ps j ≡ Some p → Stand (worlds j) k p.tree p.at old → Stand (worlds j) k p.tree p.at new
-  later j p lt is stands =
-      let ends : t.at + slots t.tree ≤ p.at = ends-before ps i j t p apart lt here is in
-      Stand-same (worlds j) k p.tree p.at old new (record { same = λ n low high. behind n (omega arith) }) stands
+-- one that isn't is as it was asked
+pub rest-asked : (w : World) (hit : Operand → Bool) (k j : ℕ) (p : Placed) (t : Terms) → k < 2 ^ 63 → TellsMoved hit w k p → IsLeft w hit k j p t → is_marked t.woken j ≡ false → IsAsked w k j p t
+rest-asked w hit zero j p t small tells left off = absurd (let w : ⊥ = (let clash : true ≡ false = sym (left.first refl) ∙ off in cc) in w)
+rest-asked w hit (suc h) j p t small tells left off =
+    let is = left.later h refl in
+    let rests : woken w p.tree (suc h) ≡ false = marked-is w hit (suc h) j p t small tells left ∙ off in
+    record {
+      stands = rests_stands w p.tree h p.at t.cells.slots rests left.stands;
+      told = is.told ∙ sym (rests_holds w p.tree h rests);
+      next = subst (IsDue (staying w (suc h)) p.tree (suc h)) (sym (is.kept off)) (rests_due w p.tree h is.due small rests is.next);
+    }
 
-  own : (j : ℕ) (p : Placed) → j ≡ i → slice_get ps j ≡ Some p → Stand (worlds i) (suc k) t.tree t.at new → Stand (worlds j) (suc k) p.tree p.at new
-  own j p at is stands =
-      let same : t ≡ p = let both : Some t ≡ Some p = sym here ∙ ap (slice_get ps) (sym at) ∙ is in cc in
-      subst (λ n. Stand (worlds n) (suc k) p.tree p.at new) (sym at) (subst (λ q. Stand (worlds i) (suc k) q.tree q.at new) same stands)
+module _ (ps : List Placed) (worlds : ℕ → World) (k i : ℕ) (p : Placed) (here : slice_get ps i ≡ Some p) where
+  -- what the condition adds to the visits
+  nodes-is : (b : Bool) → woken (worlds i) p.tree k ≡ b → nodes_woken ps worlds k i ≡ cond b (nodes p.tree) 0
+  nodes-is b is =
+      ap (λ o. option_map_or (λ (q : Placed). cond (woken (worlds i) q.tree k) (nodes q.tree) 0) o 0) here ∙ ap (λ c. cond c (nodes p.tree) 0) is
 
-  pub half-step : Stand (worlds i) (suc k) t.tree t.at new → HalfStepped ps worlds k i old → HalfStepped ps worlds k (suc i) new
-  half-step stands half = record {
-    stepped = λ j p lt is.
-        elim (eq-or-lt_of_le (let le : j ≤ i = omega arith in le)) [
-          | inl same ↦ own j p same is stands
-          | inr less ↦ earlier j p less is (half.stepped j p less is)
+  below-next : (b : Bool) → woken (worlds i) p.tree k ≡ b → visits_below ps worlds k (suc i) ≡ visits_below ps worlds k i + cond b (nodes p.tree) 0
+  unfolding visits_below
+  below-next b is = ap (λ n. visits_below ps worlds k i + n) (nodes-is b is)
+
+  own-at : (t : Terms) (j : ℕ) (q : Placed) → j ≡ i → slice_get ps j ≡ Some q → IsAsked (worlds i) k i p t → IsAsked (worlds j) k j q t
+  own-at t j q at is asked =
+      let same : p ≡ q = let both : Some p ≡ Some q = sym here ∙ ap (slice_get ps) (sym at) ∙ is in cc in
+      subst (λ n. IsAsked (worlds n) k n q t) (sym at) (subst (λ r. IsAsked (worlds i) k i r t) same asked)
+
+  -- what is left alone
+  pub half-rest : (hit : Operand → Bool) (visited : ℕ) (t : Terms) → k < 2 ^ 63 → TellsMoved hit (worlds i) k p → is_marked t.woken i ≡ false → HalfStepped ps worlds hit k i visited t
+      → HalfStepped ps worlds hit k (suc i) visited t
+  half-rest hit visited t small tells off half =
+      let mine = half.left i p (omega arith) here in
+      let rests : woken (worlds i) p.tree k ≡ false = marked-is (worlds i) hit k i p t small tells mine ∙ off in
+      record {
+        stepped = λ j q lt is. elim (eq-or-lt_of_le (let le : j ≤ i = omega arith in le)) [
+          | inl same ↦ own-at t j q same is (rest-asked (worlds i) hit k i p t small tells mine off)
+          | inr less ↦ half.stepped j q less is
         ];
-    left = λ j p le is. later j p (omega arith) is (half.left j p (omega arith) is);
-  }
+        left = λ j q le is. half.left j q (omega arith) is;
+        counted = let more = below-next false rests in omega (arith, more, half.counted);
+      }
 
--- all are stepped
-pub half-all : (ps : List Placed) (worlds : ℕ → World) (k i : ℕ) (cells : List Cell) → length ps ≤ i → HalfStepped ps worlds k i cells → AllStand ps worlds (suc k) cells
-half-all ps worlds k i cells many half = λ j p is.
-    let within : j < length ps = slice_get_within ps j p is in
-    half.stepped j p (omega arith) is
+  -- what is asked
+  module _ (apart : AllPairs EndsBefore ps) (old new : Terms) (truth : Bool) (due : ℕ)
+      (before : (j : ℕ) → j < p.at → cell_at new.cells.slots j ≡ cell_at old.cells.slots j)
+      (behind : (j : ℕ) → p.at + slots p.tree ≤ j → cell_at new.cells.slots j ≡ cell_at old.cells.slots j)
+      (truths : new.truths.items ≡ set old.truths.items i truth) (dues : new.dues ≡ set old.dues i due) (marks : new.woken ≡ old.woken)
+      (visits : new.cells.visits ≡ min (old.cells.visits + nodes p.tree) (2 ^ 64 - 1)) where
+    truth-other : (j : ℕ) → j ≢ i → get_or new.truths.items j false ≡ get_or old.truths.items j false
+    truth-other j ne = ap (λ ys. get_or ys j false) truths ∙ get_or-set_other old.truths.items i j truth false ne
 
-pub half-none : (ps : List Placed) (worlds : ℕ → World) (k : ℕ) (cells : List Cell) → AllStand ps worlds k cells → HalfStepped ps worlds k 0 cells
-half-none ps worlds k cells stand = record {
-  stepped = λ j p lt is. absurd (omega arith);
-  left = λ j p le is. stand j p is;
-}
+    due-other : (j : ℕ) → j ≢ i → slice_index new.dues j ≡ slice_index old.dues j
+    due-other j ne = ap (λ ys. slice_index ys j) dues ∙ get_or-set_other old.dues i j due 0 ne
+
+    earlier : (j : ℕ) (q : Placed) → j < i → slice_get ps j ≡ Some q → IsAsked (worlds j) k j q old → IsAsked (worlds j) k j q new
+    earlier j q lt is asked =
+        let ends : q.at + slots q.tree ≤ p.at = ends-before ps j i q p apart lt is here in
+        let ne : j ≢ i = omega arith in
+        record {
+          stands = Stand-same (worlds j) (suc k) q.tree q.at old.cells.slots new.cells.slots (record { same = λ n low high. before n (omega arith) }) asked.stands;
+          told = truth-other j ne ∙ asked.told;
+          next = subst (IsDue (staying (worlds j) k) q.tree k) (sym (due-other j ne)) asked.next;
+        }
+
+    later : (hit : Operand → Bool) (j : ℕ) (q : Placed) → i < j → slice_get ps j ≡ Some q → IsLeft (worlds j) hit k j q old → IsLeft (worlds j) hit k j q new
+    later hit j q lt is left =
+        let ends : p.at + slots p.tree ≤ q.at = ends-before ps i j p q apart lt here is in
+        let ne : j ≢ i = omega arith in
+        let same : is_marked new.woken j ≡ is_marked old.woken j = ap (λ ws. is_marked ws j) marks in
+        record {
+          stands = Stand-same (worlds j) k q.tree q.at old.cells.slots new.cells.slots (record { same = λ n low high. behind n (omega arith) }) left.stands;
+          first = λ e. same ∙ left.first e;
+          later = λ h e.
+              let was = left.later h e in (record {
+                due = was.due;
+                told = truth-other j ne ∙ was.told;
+                next = was.next;
+                marks = same ∙ was.marks;
+                kept = λ off. due-other j ne ∙ was.kept (sym same ∙ off);
+              });
+        }
+
+    pub half-step : (hit : Operand → Bool) (visited : ℕ) → k < 2 ^ 63 → TellsMoved hit (worlds i) k p → is_marked old.woken i ≡ true → i < length old.truths.items → i < length old.dues
+        → Stand (worlds i) (suc k) p.tree p.at new.cells.slots → truth ≡ holds (worlds i) p.tree k → IsDue (staying (worlds i) k) p.tree k due
+        → HalfStepped ps worlds hit k i visited old → HalfStepped ps worlds hit k (suc i) visited new
+    half-step hit visited small tells on room room' stands told next half =
+        let mine = half.left i p (omega arith) here in
+        let wakes : woken (worlds i) p.tree k ≡ true = marked-is (worlds i) hit k i p old small tells mine ∙ on in
+        let asked : IsAsked (worlds i) k i p new = record {
+          stands = stands;
+          told = ap (λ ys. get_or ys i false) truths ∙ get_or-set_same old.truths.items i truth false room ∙ told;
+          next = subst (IsDue (staying (worlds i) k) p.tree k) (sym (ap (λ ys. slice_index ys i) dues ∙ get_or-set_same old.dues i due 0 room')) next;
+        } in
+        record {
+          stepped = λ j q lt is. elim (eq-or-lt_of_le (let le : j ≤ i = omega arith in le)) [
+            | inl same ↦ own-at new j q same is asked
+            | inr less ↦ earlier j q less is (half.stepped j q less is)
+          ];
+          left = λ j q le is. later hit j q (omega arith) is (half.left j q (omega arith) is);
+          counted = let more = below-next true wakes in omega (arith, more, half.counted, visits);
+        }
 
 -- one line more
-pub line-steps : (env : Env) (k : ℕ) (t u : Placed) (old mid new : List Cell) (when done answer : Bool) → StepsTerm env k t old mid when → StepsTerm env k u mid new done
-    → answer ≡ (when && not done) → StepsLine env k t u old new answer
-line-steps env k t u old mid new when done answer first second is = record {
-  truth = λ ps worlds i here next apart shows shows' half.
+pub line-steps : (env : Env) (k i : ℕ) (p q : Placed) (old mid new : Terms) (when done answer : Bool) → StepsTerm env k i p old mid when → StepsTerm env k (suc i) q mid new done
+    → answer ≡ (when && not done) → StepsLine env k i p q old new answer
+line-steps env k i p q old mid new when done answer first second is = record {
+  truth = λ ps worlds hit visited here next apart shows shows' tells tells' half.
       is
-      ∙ ap (λ b. b && not done) (first.truth ps worlds i here shows half)
-      ∙ ap (λ b. holds (worlds i) t.tree k && not b) (second.truth ps worlds (suc i) next shows' (first.stands ps worlds i here apart shows half));
-  stands = λ ps worlds i here next apart shows shows' half.
-      second.stands ps worlds (suc i) next apart shows' (first.stands ps worlds i here apart shows half);
+      ∙ ap (λ b. b && not done) (first.truth ps worlds hit visited here shows tells half)
+      ∙ ap (λ b. holds (worlds i) p.tree k && not b) (second.truth ps worlds hit visited next shows' tells' (first.stands ps worlds hit visited here apart shows tells half));
+  stands = λ ps worlds hit visited here next apart shows shows' tells tells' half.
+      second.stands ps worlds hit visited next apart shows' tells' (first.stands ps worlds hit visited here apart shows tells half);
 }

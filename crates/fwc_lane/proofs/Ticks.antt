@@ -1,5 +1,5 @@
 -- The end of a moment: what turned in it, and what a lane is then.
-use Rattle.std.proofs.Common.{Bor, ◌≡◌, ℕ, zero, suc, ◌<◌, Bool, false, not, List, length, get_or, Option, None, sym, ap, subst, ◌∙◌, arith, ltb, eqb}
+use Rattle.std.proofs.Common.{Bor, ◌≡◌, ℕ, zero, suc, ◌<◌, Bool, false, not, List, length, get_or, slice_index, Option, None, sym, ap, subst, ◌∙◌, arith, ltb, eqb}
 use Rattle.std.specs.Prelude.{ℤ}
 use Rattle.std.proofs.lemmas.Bool.{lt-ltb, ne_eqb}
 use Rattle.ecam_spec.specs.Book.{Book}
@@ -9,13 +9,19 @@ use Rattle.ecam_spec.specs.Term.{holds}
 use Rattle.ecam_spec.specs.Crew.{normal}
 use Rattle.ecam_spec.specs.History.{Moment}
 use Rattle.ecam_spec.specs.Value.{value}
-use Rattle.ecam_spec.specs.Situation.{words_in, parameter_at, phase_in, value_in, world}
+use Rattle.ecam_spec.specs.Keys.{pressed}
+use Rattle.ecam_spec.specs.Situation.{words_in, strokes_in, computer_up, parameter_at, phase_in, value_in, world}
 use Rattle.ecam_kinds.specs.declared.keys.Keys.{Keys}
 use Rattle.ecam_kinds.specs.KeyState.{is_pressed}
 use Rattle.param_table.specs.declared.table.Params.{Params}
 use Rattle.ecam_spec.specs.Screen.{cockpit, line_stands}
 use Rattle.ecam_kinds.specs.declared.phase.Phase.{Phase}
 use Rattle.book_model.specs.Told.{TellsOf}
+use Rattle.book_model.specs.Conditions.{world_of}
+use Rattle.term_eval.specs.Due.{staying, IsDue}
+use Rattle.fwc_lane.specs.declared.terms.Terms.{Terms}
+use Rattle.fwc_lane.specs.TermsFit.{TermsFit}
+use Rattle.fwc_lane.specs.Conditions.{TermsStand, AllStepped}
 use Rattle.crew_marks.specs.CrewMarks.{CrewMarks}
 use Rattle.crew_marks.specs.MarkSets.{MarkSets}
 use Rattle.crew_marks.specs.MarksState.{MarksStand}
@@ -85,3 +91,20 @@ pub values-told : (b : Book) (m : ℕ → Moment) (k : ℕ) (values : List (Opti
     → (p : ℕ) → p < length b.parameters → get_or values p None ≡ value_in b m p k
 unfolding value_in
 values-told b m k values told = told
+
+-- what is kept of the conditions after a moment
+pub terms-after : (b : Book) (m : ℕ → Moment) (k visited : ℕ) (t : Terms) (params : Params) (keys : Keys) (one two : Bool) → AllStepped b m k visited t → Came b m k params keys one two
+    → TermsStand b m (suc k) (record t { keys = keys; one_up = one; two_up = two })
+terms-after b m k visited t params keys one two all came =
+    let back : (h : ℕ) → suc k ≡ suc h → k ≡ h = λ h e. omega (arith, e) in
+    record {
+      cells = λ j p is. (all.asked j p is).stands;
+      told = λ h e j p is. (all.asked j p is).told ∙ ap (holds (world_of b m j) p.tree) (back h e);
+      next = λ h e j p is. subst (λ n. IsDue (staying (world_of b m j) n) p.tree n (slice_index t.dues j)) (back h e) (all.asked j p is).next;
+      keys = λ h e x at. came.strokes.pressed x at ∙ ap (pressed (strokes_in b m) x) (back h e);
+      one_up = λ h e. came.one_up ∙ ap (computer_up b m 1) (back h e);
+      two_up = λ h e. came.two_up ∙ ap (computer_up b m 2) (back h e);
+    }
+
+pub fits-after : (b : Book) (t : Terms) (keys : Keys) (one two : Bool) → TermsFit b t → TermsFit b (record t { keys = keys; one_up = one; two_up = two })
+fits-after b t keys one two fits = record { slots = fits.slots; visits = fits.visits; truths = fits.truths; dues = fits.dues; room = fits.room; watch = fits.watch }

@@ -1,75 +1,150 @@
--- What the cells hold of all conditions of a book while a moment steps them one after another.
-use Rattle.std.specs.Prelude.{◌≡◌, ℕ, suc, ◌+◌, ◌*◌, ◌<◌, ◌≤◌, Bool, not, ◌&&◌, List, slice_get, slice_index_or, false, Some, AllPairs}
+-- What is kept of all conditions of a book while a moment steps them one after another.
+use Rattle.std.specs.Prelude.{◌≡◌, ℕ, zero, suc, ◌+◌, ◌-◌, ◌*◌, ◌^◌, ◌<◌, ◌≤◌, min, ◌==◌, Bool, not, ◌&&◌, ◌||◌, List, length, slice_get, slice_index, slice_index_or, true, false, Some, AllPairs}
+use Rattle.std.specs.List.{list_any}
+use Rattle.ecam_spec.specs.declared.kinds.Key.{Key}
+use Rattle.ecam_spec.specs.Keys.{IsKey, pressed}
 use Rattle.ecam_spec.specs.Book.{Book, Line, Memo}
 use Rattle.ecam_spec.specs.BookTerms.{lines_of}
 use Rattle.ecam_spec.specs.TermSize.{Placed, EndsBefore}
 use Rattle.ecam_spec.specs.Term.{World, holds}
 use Rattle.ecam_spec.specs.History.{Moment}
-use Rattle.ecam_spec.specs.Situation.{flight, world, condition_in, phase_in}
+use Rattle.ecam_spec.specs.Situation.{flight, world, condition_in, phase_in, strokes_in, computer_up, flight_world, alert_world, known_below}
 use Rattle.ecam_spec.specs.Screen.{line_stands}
+use Rattle.ecam_kinds.specs.KeyState.{is_pressed}
+use Rattle.ecam_kinds.specs.declared.phase.Phase.{Phase}
 use Rattle.book_model.specs.Conditions.{places, lines_from, memos_from, alerts_from, world_of}
 use Rattle.term_eval.specs.declared.env.Env.{Env}
-use Rattle.term_eval.specs.declared.memory.Cell.{Cell}
 use Rattle.term_eval.specs.Shown.{Shows}
 use Rattle.term_eval.specs.CellState.{Stand}
+use Rattle.term_eval.specs.Due.{staying, IsDue}
+use Rattle.term_eval.specs.Woken.{Operand, operands, moved}
+use Rattle.wakes.specs.Marks.{is_marked}
 use Rattle.alert_truth.specs.declared.truths.Truths.{Truths}
 use Rattle.alert_truth.specs.TruthsState.{HalfStand, TruthsStand}
 use Rattle.flight_phases.specs.State as flight_phases
 use Rattle.flight_phases.specs.declared.state.PhaseState.{PhaseState}
+use Rattle.fwc_lane.specs.declared.terms.Terms.{Terms}
+use Rattle.fwc_lane.specs.Visits.{visits_below, visits}
 
--- the conditions at these places have been stepped by k moments, each in its world
-abbrev pub AllStand : List Placed → (ℕ → World) → ℕ → List Cell → Type 0
-AllStand ps worlds k cells = (j : ℕ) (p : Placed) → slice_get ps j ≡ Some p → Stand (worlds j) k p.tree p.at cells
+-- ---- one condition
 
--- in moment k, which hasn't ended, those below i have been stepped, and the others haven't
-pub record HalfStepped (ps : List Placed) (worlds : ℕ → World) (k i : ℕ) (cells : List Cell) : Type 0 where
-  pub stepped : (j : ℕ) (p : Placed) → j < i → slice_get ps j ≡ Some p → Stand (worlds j) (suc k) p.tree p.at cells
-  pub left : (j : ℕ) (p : Placed) → i ≤ j → slice_get ps j ≡ Some p → Stand (worlds j) k p.tree p.at cells
+-- condition j has been asked in moment k: its cells stand for one moment more, and its truth and when it turns are noted
+pub record IsAsked (w : World) (k j : ℕ) (p : Placed) (t : Terms) : Type 0 where
+  pub stands : Stand w (suc k) p.tree p.at t.cells.slots
+  pub told : slice_index_or t.truths.items j false ≡ holds w p.tree k
+  pub next : IsDue (staying w k) p.tree k (slice_index t.dues j)
 
--- one condition was stepped by moment k: wherever it is the next of some conditions with slots of their own, the
--- answer is its truth, and it is stepped then
-pub record StepsTerm (env : Env) (k : ℕ) (t : Placed) (old new : List Cell) (answer : Bool) : Type 0 where
-  pub truth : (ps : List Placed) (worlds : ℕ → World) (i : ℕ) → slice_get ps i ≡ Some t → Shows env (worlds i) k
-      → HalfStepped ps worlds k i old → answer ≡ holds (worlds i) t.tree k
-  pub stands : (ps : List Placed) (worlds : ℕ → World) (i : ℕ) → slice_get ps i ≡ Some t → AllPairs EndsBefore ps
-      → Shows env (worlds i) k → HalfStepped ps worlds k i old → HalfStepped ps worlds k (suc i) new
+-- condition j waits to be asked in moment h + 1: what is noted of it is told of moment h, and it is marked where an operand
+-- passes the test or where it is due
+pub record IsWaiting (w : World) (hit : Operand → Bool) (h j : ℕ) (p : Placed) (t : Terms) : Type 0 where
+  pub due : ℕ
+  pub told : slice_index_or t.truths.items j false ≡ holds w p.tree h
+  pub next : IsDue (staying w h) p.tree h due
+  pub marks : is_marked t.woken j ≡ (list_any hit (operands p.tree) || (due == suc h))
+  pub kept : is_marked t.woken j ≡ false → slice_index t.dues j ≡ due
+
+-- condition j hasn't been stepped by moment k yet. In the first moment it is marked, whatever it names
+pub record IsLeft (w : World) (hit : Operand → Bool) (k j : ℕ) (p : Placed) (t : Terms) : Type 0 where
+  pub stands : Stand w k p.tree p.at t.cells.slots
+  pub first : k ≡ 0 → is_marked t.woken j ≡ true
+  pub later : (h : ℕ) → k ≡ suc h → IsWaiting w hit h j p t
+
+-- ---- some conditions
+
+-- in moment k, which hasn't ended, those below i have been stepped, and the others haven't. So many nodes were visited
+-- before the moment, and since then those of the conditions that it woke
+pub record HalfStepped (ps : List Placed) (worlds : ℕ → World) (hit : Operand → Bool) (k i visited : ℕ) (t : Terms) : Type 0 where
+  pub stepped : (j : ℕ) (p : Placed) → j < i → slice_get ps j ≡ Some p → IsAsked (worlds j) k j p t
+  pub left : (j : ℕ) (p : Placed) → i ≤ j → slice_get ps j ≡ Some p → IsLeft (worlds j) hit k j p t
+  pub counted : t.cells.visits ≡ min (visited + visits_below ps worlds k i) (2 ^ 64 - 1)
+
+-- of what the condition names, the operands that pass the test are those that moved
+abbrev pub TellsMoved : (Operand → Bool) → World → ℕ → Placed → Type 0
+TellsMoved hit w k p = list_any hit (operands p.tree) ≡ list_any (moved w k) (operands p.tree)
+
+-- condition i was stepped by moment k: wherever it is the next of some conditions with slots of their own, the answer is its
+-- truth, and it is stepped then
+pub record StepsTerm (env : Env) (k i : ℕ) (p : Placed) (old new : Terms) (answer : Bool) : Type 0 where
+  pub truth : (ps : List Placed) (worlds : ℕ → World) (hit : Operand → Bool) (visited : ℕ) → slice_get ps i ≡ Some p
+      → Shows env (worlds i) k → TellsMoved hit (worlds i) k p → HalfStepped ps worlds hit k i visited old
+      → answer ≡ holds (worlds i) p.tree k
+  pub stands : (ps : List Placed) (worlds : ℕ → World) (hit : Operand → Bool) (visited : ℕ) → slice_get ps i ≡ Some p
+      → AllPairs EndsBefore ps → Shows env (worlds i) k → TellsMoved hit (worlds i) k p
+      → HalfStepped ps worlds hit k i visited old → HalfStepped ps worlds hit k (suc i) visited new
 
 -- both conditions of a line were stepped, `when` and then `done`: the answer is whether the line stands
-pub record StepsLine (env : Env) (k : ℕ) (when_at done_at : Placed) (old new : List Cell) (answer : Bool) : Type 0 where
-  pub truth : (ps : List Placed) (worlds : ℕ → World) (i : ℕ) → slice_get ps i ≡ Some when_at → slice_get ps (suc i) ≡ Some done_at
-      → AllPairs EndsBefore ps → Shows env (worlds i) k → Shows env (worlds (suc i)) k → HalfStepped ps worlds k i old
+pub record StepsLine (env : Env) (k i : ℕ) (when_at done_at : Placed) (old new : Terms) (answer : Bool) : Type 0 where
+  pub truth : (ps : List Placed) (worlds : ℕ → World) (hit : Operand → Bool) (visited : ℕ)
+      → slice_get ps i ≡ Some when_at → slice_get ps (suc i) ≡ Some done_at → AllPairs EndsBefore ps
+      → Shows env (worlds i) k → Shows env (worlds (suc i)) k
+      → TellsMoved hit (worlds i) k when_at → TellsMoved hit (worlds (suc i)) k done_at
+      → HalfStepped ps worlds hit k i visited old
       → answer ≡ (holds (worlds i) when_at.tree k && not (holds (worlds (suc i)) done_at.tree k))
-  pub stands : (ps : List Placed) (worlds : ℕ → World) (i : ℕ) → slice_get ps i ≡ Some when_at → slice_get ps (suc i) ≡ Some done_at
-      → AllPairs EndsBefore ps → Shows env (worlds i) k → Shows env (worlds (suc i)) k → HalfStepped ps worlds k i old
-      → HalfStepped ps worlds k (suc (suc i)) new
+  pub stands : (ps : List Placed) (worlds : ℕ → World) (hit : Operand → Bool) (visited : ℕ)
+      → slice_get ps i ≡ Some when_at → slice_get ps (suc i) ≡ Some done_at → AllPairs EndsBefore ps
+      → Shows env (worlds i) k → Shows env (worlds (suc i)) k
+      → TellsMoved hit (worlds i) k when_at → TellsMoved hit (worlds (suc i)) k done_at
+      → HalfStepped ps worlds hit k i visited old → HalfStepped ps worlds hit k (suc (suc i)) visited new
 
--- a book's conditions
+-- ---- a book's conditions
+
 module _ (b : Book) (moments : ℕ → Moment) where
-  abbrev pub CellsStand : ℕ → List Cell → Type 0
-  CellsStand k cells = AllStand (places b) (world_of b moments) k cells
+  -- what is kept of them between moments, after k of them. Before the first nothing but the cells says anything
+  pub record TermsStand (k : ℕ) (t : Terms) : Type 0 where
+    pub cells : (j : ℕ) (p : Placed) → slice_get (places b) j ≡ Some p → Stand (world_of b moments j) k p.tree p.at t.cells.slots
+    pub told : (h : ℕ) → k ≡ suc h → (j : ℕ) (p : Placed) → slice_get (places b) j ≡ Some p
+        → slice_index_or t.truths.items j false ≡ holds (world_of b moments j) p.tree h
+    pub next : (h : ℕ) → k ≡ suc h → (j : ℕ) (p : Placed) → slice_get (places b) j ≡ Some p
+        → IsDue (staying (world_of b moments j) h) p.tree h (slice_index t.dues j)
+    pub keys : (h : ℕ) → k ≡ suc h → (key : Key) → IsKey key → is_pressed t.keys key ≡ pressed (strokes_in b moments) key h
+    pub one_up : (h : ℕ) → k ≡ suc h → t.one_up ≡ computer_up b moments 1 h
+    pub two_up : (h : ℕ) → k ≡ suc h → t.two_up ≡ computer_up b moments 2 h
 
-  abbrev pub BookHalf : ℕ → ℕ → List Cell → Type 0
-  BookHalf k i cells = HalfStepped (places b) (world_of b moments) k i cells
+  -- the world as far as a moment knows it: first neither the phase nor any alert, then the phase, then one alert after
+  -- another
+  abbrev pub known_world : ℕ → World
+  known_world zero = flight_world b moments
+  known_world (suc n) = alert_world b moments (known_below b moments n)
+
+  -- in moment k those below i have been stepped, and marked are those of the others that name what moved of what is known
+  abbrev pub BookHalf : ℕ → ℕ → ℕ → ℕ → Terms → Type 0
+  BookHalf k i known visited t = HalfStepped (places b) (world_of b moments) (moved (known_world known) k) k i visited t
+
+  -- all were stepped by moment k, before which so many nodes were visited
+  pub record AllStepped (k visited : ℕ) (t : Terms) : Type 0 where
+    pub asked : (j : ℕ) (p : Placed) → slice_get (places b) j ≡ Some p → IsAsked (world_of b moments j) k j p t
+    pub counted : t.cells.visits ≡ min (visited + visits b moments k) (2 ^ 64 - 1)
+
+  -- this was the phase of the moment before k
+  abbrev pub WasPhase : ℕ → Phase → Type 0
+  WasPhase k was = (h : ℕ) → k ≡ suc h → was.number ≡ phase_in b moments h
 
   -- the alerts below i have been stepped
-  pub record AlertsHalf (k i : ℕ) (slots : List Cell) (t : Truths) : Type 0 where
-    pub cells : BookHalf k (alerts_from + i) slots
-    pub truths : HalfStand b (condition_in b moments) (phase_in b moments) k i t
+  pub record AlertsHalf (k i visited : ℕ) (t : Terms) (truths : Truths) : Type 0 where
+    pub terms : BookHalf k (alerts_from + i) (suc i) visited t
+    pub alerts : HalfStand b (condition_in b moments) (phase_in b moments) k i truths
 
   -- the procedure lines below i have been stepped, and of these the flags tell which stand
-  pub record LinesHalf (k i : ℕ) (slots : List Cell) (flags : List Bool) : Type 0 where
-    pub cells : BookHalf k (lines_from b + 2 * i) slots
+  pub record LinesHalf (k i visited : ℕ) (t : Terms) (flags : List Bool) : Type 0 where
+    pub terms : BookHalf k (lines_from b + 2 * i) (suc (length b.alerts)) visited t
     pub told : (j : ℕ) (l : Line) → j < i → slice_get (lines_of b.alerts) j ≡ Some l
         → slice_index_or flags j false ≡ line_stands b moments k l
 
   -- the memos below i have been stepped, and of these the flags tell which hold
-  pub record MemosHalf (k i : ℕ) (slots : List Cell) (flags : List Bool) : Type 0 where
-    pub cells : BookHalf k (memos_from b + i) slots
+  pub record MemosHalf (k i visited : ℕ) (t : Terms) (flags : List Bool) : Type 0 where
+    pub terms : BookHalf k (memos_from b + i) (suc (length b.alerts)) visited t
     pub told : (j : ℕ) (x : Memo) → j < i → slice_get b.memos j ≡ Some x
         → slice_index_or flags j false ≡ holds (world b moments) x.when k
 
-  -- all that the conditions of the first k moments leave
-  pub record ConditionsStand (k : ℕ) (slots : List Cell) (state : PhaseState) (t : Truths) : Type 0 where
-    pub cells : CellsStand k slots
+  -- what moment k finds, before it steps any condition
+  pub record ConditionsWait (k visited : ℕ) (t : Terms) (state : PhaseState) (alerts : Truths) (last : Phase) : Type 0 where
+    pub terms : BookHalf k 0 0 visited t
     pub phases : flight_phases.Stands (flight b moments) k state
-    pub truths : TruthsStand b (condition_in b moments) (phase_in b moments) k t
+    pub truths : TruthsStand b (condition_in b moments) (phase_in b moments) k alerts
+    pub was : WasPhase k last
+
+  -- all that the conditions of the moments up to k leave
+  pub record ConditionsStepped (k visited : ℕ) (t : Terms) (state : PhaseState) (alerts : Truths) : Type 0 where
+    pub terms : AllStepped k visited t
+    pub phases : flight_phases.Stands (flight b moments) (suc k) state
+    pub truths : TruthsStand b (condition_in b moments) (phase_in b moments) (suc k) alerts

@@ -1,12 +1,13 @@
 -- When a lane was made for a book.
 use Rattle.std.specs.Prelude.{◌≡◌, ◌<◌, ◌^◌, length}
 use Rattle.ecam_spec.specs.Book.{Book}
-use Rattle.ecam_spec.specs.BookTerms.{terms_of, slots_in, lines_of}
+use Rattle.ecam_spec.specs.BookTerms.{lines_of}
 use Rattle.param_table.specs.TableState.{ParamsFit}
 use Rattle.alert_truth.specs.TruthsState.{TruthsFit}
 use Rattle.crew_marks.specs.MarksState.{MarksFit}
 use Rattle.attention.specs.State.{AttentionFits}
 use Rattle.system_display.specs.Selecting.{SelectorFits}
+use Rattle.fwc_lane.specs.TermsFit.{TermsFit}
 use Rattle.fwc_lane.specs.declared.lane.Lane.{Lane}
 
 -- its parts were made for the book, and have counted the same moments. Nothing is said of any history
@@ -17,7 +18,7 @@ pub record LaneFits (b : Book) (l : Lane) : Type 0 where
   pub attention : AttentionFits b l.attention
   pub selector : SelectorFits b l.selector
   pub values : length l.values.items ≡ length b.parameters
-  pub cells : length l.cells.slots ≡ slots_in (terms_of b)
+  pub terms : TermsFit b l.terms
   pub lines : length l.lines.items ≡ length (lines_of b.alerts)
   pub memos : length l.memos.items ≡ length b.memos
   pub truths_moments : l.truths.moments ≡ l.moments

@@ -17,7 +17,7 @@ use Rattle.alert_truth.specs.TruthsState.{TruthsStand}
 use Rattle.crew_marks.specs.MarksState.{MarksStand}
 use Rattle.attention.specs.State.{AttentionStands}
 use Rattle.system_display.specs.Selecting as selecting
-use Rattle.fwc_lane.specs.Conditions.{CellsStand}
+use Rattle.fwc_lane.specs.Conditions.{TermsStand}
 use Rattle.fwc_lane.specs.ChangedRows.{TellsRows}
 use Rattle.fwc_lane.specs.Drawn.{IsDrawn}
 use Rattle.fwc_lane.specs.LaneFits.{LaneFits}
@@ -27,7 +27,7 @@ use Rattle.fwc_lane.specs.declared.lane.Lane.{Lane}
 pub record WholeStands (b : Book) (m : ℕ → Moment) (k : ℕ) (l : Lane) : Type 0 where
   pub counted : l.moments ≡ k
   pub ticked : l.ticked ≡ nat_lt 0 k
-  pub cells : CellsStand b m k l.cells.slots
+  pub terms : TermsStand b m k l.terms
   pub phases : flight_phases.Stands (flight b m) k l.phase_state
   pub truths : TruthsStand b (condition_in b m) (phase_in b m) k l.truths
   pub marks : MarksStand b (cockpit b m) k l.marks

@@ -1,3 +1,6 @@
+pub mod TermsFit
+pub mod Waking
+pub mod Visits
 pub mod Conditions
 pub mod Given
 pub mod ChangedRows

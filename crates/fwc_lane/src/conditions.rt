@@ -1,24 +1,34 @@
 // One condition of the book in one moment.
-ghost use Rattle.std.specs.Prelude.{◌≡◌, ◌+◌, ◌<◌, ◌≤◌, ◌^◌, length};
-ghost use Rattle.ecam_spec.specs.TermSize.{slots};
+ghost use Rattle.std.specs.Prelude.{◌≡◌, ◌<◌, ◌≤◌, ◌^◌, length, slice_get, Some};
+ghost use Rattle.ecam_spec.specs.Book as plain;
 ghost use Rattle.ecam_spec.specs.TermNames.{IsWithin};
 ghost use Rattle.book_model.specs.View.{tree_in, placed_of};
+ghost use Rattle.book_model.specs.Conditions.{places};
 ghost use Rattle.fwc_lane.specs.Conditions.{StepsTerm};
+ghost use Rattle.fwc_lane.specs.TermsFit.{TermsFit};
 
+use crate::terms::Terms;
 use book_model::Term;
-use term_eval::{Cells, Env};
+use term_eval::Env;
 
-/// Steps a condition by moment `now`, and answers whether it holds in it. Its cost is one visit of each of its nodes.
-pub fn step_term(cells: &mut Cells, term: &Term, env: &Env<'_>, now: u64) -> bool
-    requires range { term.now.at + slots (tree_in term.now) ≤ length cells.old.slots }
+/// Steps the condition of this number by moment `now`, and answers whether it holds in it. One that the moment doesn't wake
+/// holds where it held, and costs a look; one that is woken costs one visit of each of its nodes.
+pub fn step_term(terms: &mut Terms, number: usize, term: &Term, env: &Env<'_>, now: u64) -> bool
+    requires place { (b : plain.Book) × TermsFit b terms.old
+        × (slice_get (places b) number ≡ Some (placed_of term.now)) }
     requires names { IsWithin (length env.now.values.now) (length env.now.active.now)
         (tree_in term.now) }
     requires first { 1 ≤ env.now.phase.number }
     requires last { env.now.phase.number ≤ 10 }
     requires now { now < 2 ^ 63 }
-    ensures steps { StepsTerm env.now now (placed_of term.now) cells.old.slots cells.new.slots
-        result }
-    ensures len { length cells.new.slots ≡ length cells.old.slots }
+    ensures fits { (b : plain.Book) → TermsFit b terms.old → TermsFit b terms.new }
+    ensures steps { StepsTerm env.now now number (placed_of term.now) terms.old terms.new result }
 {
-    cells.refresh(&term.cond, term.at, env, now).holds
+    if !terms.woken.has(number) {
+        return terms.truths[number];
+    }
+    let turn = terms.cells.refresh(&term.cond, term.at, env, now);
+    terms.truths[number] = turn.holds;
+    terms.dues.set(number, turn.due);
+    turn.holds
 }

@@ -1,5 +1,7 @@
 // Lists that are kept from moment to moment, with what turned in them.
-ghost use Rattle.std.specs.Prelude.{◌≡◌, ◌<◌, ◌||◌, false, length, slice_set};
+ghost use Rattle.std.specs.Prelude.{◌≡◌, ◌<◌, ◌||◌, false, not, None, length, slice_set, slice_index_or};
+ghost use Rattle.std.specs.Option.{option_eq};
+ghost use Rattle.std.specs.Ordering.{int_eq};
 
 /// Notes a flag, and answers whether it turned.
 pub fn set_flag(flags: &mut Vec<bool>, place: usize, flag: bool) -> bool
@@ -16,6 +18,8 @@ pub fn set_flag(flags: &mut Vec<bool>, place: usize, flag: bool) -> bool
 pub fn set_value(values: &mut Vec<Option<i64>>, place: usize, value: Option<i64>) -> bool
     requires { place < length values.old.items }
     ensures items { values.new.items ≡ slice_set values.old.items place value }
+    ensures turned { result ≡ not (option_eq int_eq value
+        (slice_index_or values.old.items place None)) }
     ensures kept { result ≡ false → values.new.items ≡ values.old.items }
 {
     let was = values[place];

@@ -1,44 +1,46 @@
 // The flight phase of a moment, by its six inputs.
 ghost use Rattle.std.specs.Prelude.{◌≡◌, ◌<◌, ◌≤◌, ◌^◌, ℕ, suc, length};
-ghost use Rattle.ecam_spec.specs.BookTerms.{terms_of, slots_in};
 ghost use Rattle.ecam_spec.specs.History.{Moment};
 ghost use Rattle.ecam_spec.specs.Situation.{flight, phase_in};
 ghost use Rattle.book_model.specs.Sealed.{the_book};
 ghost use Rattle.book_model.specs.Conditions.{alerts_from};
 ghost use Rattle.flight_phases.specs.Inputs.{AreInputs};
 ghost use Rattle.flight_phases.specs.State as flight_phases;
-ghost use Rattle.fwc_lane.specs.Conditions.{BookHalf};
+ghost use Rattle.fwc_lane.specs.Conditions.{BookHalf, WasPhase};
 ghost use Rattle.fwc_lane.specs.Given.{Lends};
+ghost use Rattle.fwc_lane.specs.TermsFit.{TermsFit};
 
 use crate::conditions::step_term;
+use crate::terms::Terms;
+use crate::waking::{is_other_phase, wake_phase};
 use book_model::Book;
 use ecam_kinds::Phase;
 use flight_phases::{PhaseInputs, PhaseState};
-use term_eval::{Cells, Env};
+use term_eval::Env;
 
-/// Steps the six inputs of the phase by moment `now`, where the phase that the environment lends is 1. Its cost is one
-/// visit of each of their nodes.
-fn step_inputs(cells: &mut Cells, book: &Book, env: &Env<'_>, now: u64) -> PhaseInputs
-    requires cells { length cells.old.slots ≡ slots_in (terms_of (the_book book.now)) }
+/// Steps the six inputs of the phase by moment `now`, where the phase that the environment lends is 1. Its cost is a look at
+/// each, and one visit of each node of those that are woken.
+fn step_inputs(terms: &mut Terms, book: &Book, env: &Env<'_>, now: u64) -> PhaseInputs
+    requires fits { TermsFit (the_book book.now) terms.old }
     requires values { length env.now.values.now ≡ length book.now.params.items }
     requires active { length env.now.active.now ≡ 0 }
     requires phase { env.now.phase.number ≡ 1 }
     requires now { now < 2 ^ 63 }
-    ensures cells { length cells.new.slots ≡ length cells.old.slots }
-    ensures inputs { (m : ℕ → Moment) → Lends (the_book book.now) m now env.now
-        → BookHalf (the_book book.now) m now 0 cells.old.slots
+    ensures fits { TermsFit (the_book book.now) terms.new }
+    ensures inputs { (m : ℕ → Moment) (visits : ℕ) → Lends (the_book book.now) m now env.now
+        → BookHalf (the_book book.now) m now 0 0 visits terms.old
         → AreInputs (flight (the_book book.now) m) now result }
-    ensures stands { (m : ℕ → Moment) → Lends (the_book book.now) m now env.now
-        → BookHalf (the_book book.now) m now 0 cells.old.slots
-        → BookHalf (the_book book.now) m now alerts_from cells.new.slots }
+    ensures stands { (m : ℕ → Moment) (visits : ℕ) → Lends (the_book book.now) m now env.now
+        → BookHalf (the_book book.now) m now 0 0 visits terms.old
+        → BookHalf (the_book book.now) m now alerts_from 0 visits terms.new }
 {
-    let terms = book.phase_terms();
-    let gnd = step_term(cells, &terms.gnd, env, now);
-    let run = step_term(cells, &terms.run, env, now);
-    let tp = step_term(cells, &terms.tp, env, now);
-    let fast = step_term(cells, &terms.fast, env, now);
-    let high = step_term(cells, &terms.high, env, now);
-    let low = step_term(cells, &terms.low, env, now);
+    let inputs = book.phase_terms();
+    let gnd = step_term(terms, 0, &inputs.gnd, env, now);
+    let run = step_term(terms, 1, &inputs.run, env, now);
+    let tp = step_term(terms, 2, &inputs.tp, env, now);
+    let fast = step_term(terms, 3, &inputs.fast, env, now);
+    let high = step_term(terms, 4, &inputs.high, env, now);
+    let low = step_term(terms, 5, &inputs.low, env, now);
     PhaseInputs {
         gnd,
         run,
@@ -50,34 +52,42 @@ fn step_inputs(cells: &mut Cells, book: &Book, env: &Env<'_>, now: u64) -> Phase
 }
 
 /// Steps the inputs of the phase, and the phase, by moment `now`, and answers the phase. The environment lends phase 1 and
-/// no alert: the inputs may ask for neither. Its cost is one visit of each of their nodes.
+/// no alert: the inputs may ask for neither. A phase that is another than it was wakes the conditions that name it. Its cost
+/// is a look at each input, one visit of each node of those that are woken, and a write for each condition that this wakes.
 pub fn step_phase(
-    cells: &mut Cells,
+    terms: &mut Terms,
     state: &mut PhaseState,
     book: &Book,
     env: &Env<'_>,
+    was: Phase,
     now: u64,
 ) -> Phase
-    requires cells { length cells.old.slots ≡ slots_in (terms_of (the_book book.now)) }
+    requires fits { TermsFit (the_book book.now) terms.old }
     requires values { length env.now.values.now ≡ length book.now.params.items }
     requires active { length env.now.active.now ≡ 0 }
     requires phase { env.now.phase.number ≡ 1 }
     requires now { now < 2 ^ 63 }
-    ensures cells { length cells.new.slots ≡ length cells.old.slots }
+    ensures fits { TermsFit (the_book book.now) terms.new }
     ensures first { 1 ≤ result.number }
     ensures last { result.number ≤ 10 }
-    ensures phase { (m : ℕ → Moment) → Lends (the_book book.now) m now env.now
-        → BookHalf (the_book book.now) m now 0 cells.old.slots
+    ensures phase { (m : ℕ → Moment) (visits : ℕ) → Lends (the_book book.now) m now env.now
+        → BookHalf (the_book book.now) m now 0 0 visits terms.old
         → flight_phases.Stands (flight (the_book book.now) m) now state.old
         → result.number ≡ phase_in (the_book book.now) m now }
-    ensures state { (m : ℕ → Moment) → Lends (the_book book.now) m now env.now
-        → BookHalf (the_book book.now) m now 0 cells.old.slots
+    ensures state { (m : ℕ → Moment) (visits : ℕ) → Lends (the_book book.now) m now env.now
+        → BookHalf (the_book book.now) m now 0 0 visits terms.old
         → flight_phases.Stands (flight (the_book book.now) m) now state.old
         → flight_phases.Stands (flight (the_book book.now) m) (suc now) state.new }
-    ensures stands { (m : ℕ → Moment) → Lends (the_book book.now) m now env.now
-        → BookHalf (the_book book.now) m now 0 cells.old.slots
-        → BookHalf (the_book book.now) m now alerts_from cells.new.slots }
+    ensures stands { (m : ℕ → Moment) (visits : ℕ) → Lends (the_book book.now) m now env.now
+        → BookHalf (the_book book.now) m now 0 0 visits terms.old
+        → flight_phases.Stands (flight (the_book book.now) m) now state.old
+        → WasPhase (the_book book.now) m now was
+        → BookHalf (the_book book.now) m now alerts_from 1 visits terms.new }
 {
-    let inputs = step_inputs(cells, book, env, now);
-    state.step(&inputs)
+    book.sealed();
+    let inputs = step_inputs(terms, book, env, now);
+    let phase = state.step(&inputs);
+    let other = is_other_phase(phase, was);
+    wake_phase(&mut terms.woken, &terms.watch, book, other);
+    phase
 }

@@ -1,23 +1,25 @@
 // The running state of one flight warning computer.
-ghost use Rattle.std.specs.Prelude.{◌≡◌, ◌+◌, ℕ, suc, true, List, [], IfOk, if◌then◌else◌};
+ghost use Rattle.std.specs.Prelude.{◌≡◌, ◌+◌, ◌-◌, ◌^◌, ℕ, suc, min, true, false, List, [], length, IfOk, if◌then◌else◌};
 ghost use Rattle.ecam_spec.specs.Book as plain;
 ghost use Rattle.ecam_spec.specs.Value.{BusWord};
 ghost use Rattle.ecam_spec.specs.History.{Flags, Moment, Stroke, Era, empty_era, era_with};
-ghost use Rattle.ecam_spec.specs.Replay.{is_tick};
+ghost use Rattle.ecam_spec.specs.Replay.{is_tick, moment_of};
 ghost use Rattle.ecam_spec.specs.Keys.{IsEvent};
 ghost use Rattle.book_model.specs.Sealed.{the_book};
 ghost use Rattle.fwc_lane.specs.LaneFits.{LaneFits, CanGoOn};
 ghost use Rattle.fwc_lane.specs.LaneStands.{LaneStands, WholeStands, AreUp};
 ghost use Rattle.fwc_lane.specs.Given.{Came};
+ghost use Rattle.fwc_lane.specs.Visits.{visits};
 ghost use Rattle.ecam_kinds.specs.KeyState.{KeysStand};
 ghost use Rattle.param_table.specs.TableState.{ParamsStand};
 
+use crate::begin::begin_moment;
 use crate::counts::FlagCounts;
 use crate::crew::{enters_one, step_crew};
 use crate::drawing::draw;
 use crate::scene::{Scene, Turned};
 use crate::step::step_conditions;
-use crate::values::read_values;
+use crate::terms::Terms;
 use alert_truth::Truths;
 use attention::Attention;
 use book_model::Book;
@@ -27,7 +29,7 @@ use flight_phases::PhaseState;
 use param_table::Params;
 use std::alloc::{AllocError, Global};
 use system_display::Selector;
-use term_eval::{Cells, Env};
+use term_eval::Env;
 
 /// What a computer holds of its era: the words and the keys so far, and of the last whole moment all that the next one
 /// goes by, with its picture. Memory is taken in `new` alone, and nothing grows with the history.
@@ -37,8 +39,8 @@ pub struct Lane {
     pub params: Params,
     /// Per parameter its value in the last moment.
     pub values: Vec<Option<i64>>,
-    /// What the conditions remember.
-    pub cells: Cells,
+    /// What is kept of the conditions.
+    pub terms: Terms,
     /// What the phases so far leave for the next.
     pub phase_state: PhaseState,
     /// The flight phase of the last moment.
@@ -76,10 +78,11 @@ impl Lane {
         ensures stands { IfOk result (λ l. (f : Flags)
             → LaneStands (the_book book.now) (empty_era f) l) }
         ensures moments { IfOk result (λ l. l.moments ≡ 0) }
+        ensures unvisited { IfOk result (λ l. l.terms.cells.visits ≡ 0) }
     {
         let params = Params::new(alloc, book)?;
         let values = vec![in alloc; None; book.params().len()]?;
-        let cells = Cells::new(alloc, book.slots())?;
+        let terms = Terms::new(alloc, book)?;
         let truths = Truths::new(alloc, book)?;
         let marks = Marks::new(alloc, book)?;
         let attention = Attention::new(alloc, book)?;
@@ -88,7 +91,7 @@ impl Lane {
         Ok(Lane {
             params,
             values,
-            cells,
+            terms,
             phase_state: PhaseState::new(),
             phase: Phase { number: 1 },
             truths,
@@ -112,10 +115,11 @@ impl Lane {
         ensures fits { LaneFits (the_book book.now) self.new }
         ensures stands { (f : Flags) → LaneStands (the_book book.now) (empty_era f) self.new }
         ensures moments { self.new.moments ≡ 0 }
+        ensures unvisited { self.new.terms.cells.visits ≡ self.old.terms.cells.visits }
     {
         let _ = book;
         self.params.clear();
-        self.cells.clear();
+        self.terms.clear();
         self.phase_state = PhaseState::new();
         self.phase = Phase { number: 1 };
         self.truths.clear();
@@ -129,7 +133,8 @@ impl Lane {
         self.changed = [false; ROWS];
     }
 
-    /// Takes over all that another lane of the same book holds. Its cost is a copy of each of its lists.
+    /// Takes over all that another lane of the same book holds, but for the count of visits. Its cost is a copy of each of
+    /// its lists.
     pub fn copy_from(&mut self, other: &Lane)
         requires { (b : plain.Book) × LaneFits b self.old × LaneFits b other.now }
         ensures fits { (b : plain.Book) → LaneFits b self.old → LaneFits b other.now
@@ -137,10 +142,11 @@ impl Lane {
         ensures stands { (b : plain.Book) (e : Era) → LaneFits b self.old → LaneStands b e other.now
             → LaneStands b e self.new }
         ensures moments { self.new.moments ≡ other.now.moments }
+        ensures unvisited { self.new.terms.cells.visits ≡ self.old.terms.cells.visits }
     {
         self.params.copy_from(&other.params);
         self.values.copy_from_slice(&other.values);
-        self.cells.copy_from(&other.cells);
+        self.terms.copy_from(&other.terms);
         self.phase_state = other.phase_state;
         self.phase = other.phase;
         self.truths.copy_from(&other.truths);
@@ -158,9 +164,9 @@ impl Lane {
     }
 
     /// Takes one event more, after which these computers are up. A word costs a look at the sources that listen to it, a
-    /// key one write or two; what becomes of the computers themselves changes nothing here. A Tick costs one visit of each
-    /// node of the book's conditions, a look at each source, and a few at each alert, line and memo; a zone of the picture
-    /// is filled only where something that it shows turned.
+    /// key one write or two; what becomes of the computers themselves changes nothing here. A Tick costs a look at each
+    /// condition and at each source, two at each key, one visit of each node of the conditions that the moment wakes, and a
+    /// few looks at each alert, line and memo; a zone of the picture is filled only where something that it shows turned.
     pub fn event(&mut self, book: &Book, event: &Event, one_up: bool, two_up: bool)
         requires fits { LaneFits (the_book book.now) self.old }
         requires event { IsEvent event.now }
@@ -170,6 +176,15 @@ impl Lane {
         ensures stands { (e : Era) → AreUp (era_with e event.now) one_up two_up
             → LaneStands (the_book book.now) e self.old
             → LaneStands (the_book book.now) (era_with e event.now) self.new }
+        // A Tick visits the nodes of the conditions that its moment wakes, and of no others.
+        ensures visits { (e : Era) → is_tick event.now ≡ true
+            → AreUp (era_with e event.now) one_up two_up
+            → LaneStands (the_book book.now) e self.old
+            → self.new.terms.cells.visits ≡ min (self.old.terms.cells.visits
+            + visits (the_book book.now) (moment_of (era_with e event.now)) (length e.moments))
+            (2 ^ 64 - 1) }
+        ensures unvisited { is_tick event.now ≡ false
+            → self.new.terms.cells.visits ≡ self.old.terms.cells.visits }
         ensures moments { self.new.moments ≡ self.old.moments + (if is_tick event.now then 1
             else 0) }
     {
@@ -200,8 +215,23 @@ impl Lane {
             two_up
             → WholeStands (the_book book.now) m self.old.moments self.old
             → WholeStands (the_book book.now) m (suc self.old.moments) self.new }
+        ensures visits { (m : ℕ → Moment)
+            → Came (the_book book.now) m self.old.moments self.old.params self.old.keys one_up
+            two_up
+            → WholeStands (the_book book.now) m self.old.moments self.old
+            → self.new.terms.cells.visits ≡ min (self.old.terms.cells.visits
+            + visits (the_book book.now) m self.old.moments) (2 ^ 64 - 1) }
     {
-        let values = read_values(&mut self.values, &self.params, book);
+        let values = begin_moment(
+            &mut self.terms,
+            &mut self.values,
+            &self.params,
+            &self.keys,
+            book,
+            one_up,
+            two_up,
+            self.moments,
+        );
         let lent = Env {
             values: &self.values,
             phase: Phase { number: 1 },
@@ -211,13 +241,14 @@ impl Lane {
             two_up,
         };
         let stepped = step_conditions(
-            &mut self.cells,
+            &mut self.terms,
             &mut self.phase_state,
             &mut self.truths,
             &mut self.lines,
             &mut self.memos,
             book,
             &lent,
+            self.phase,
             self.moments,
         );
         let normal = self.marks.normal();
@@ -260,6 +291,9 @@ impl Lane {
         self.phase = stepped.phase;
         self.ticked = true;
         self.moments += 1;
+        self.terms.keys = self.keys;
+        self.terms.one_up = one_up;
+        self.terms.two_up = two_up;
         self.params.tick(book);
         self.keys.tick();
     }

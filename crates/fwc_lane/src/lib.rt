@@ -1,10 +1,12 @@
 //! The running state of one flight warning computer: what the words, the keys and the moments so far leave for the next
-//! moment, and the picture of the last one. A Tick steps, in this order, the six inputs of the flight phase, the phase,
-//! the alerts, the procedure lines, the memos, the crew's marks, the lights with the sound, and the selection, and then
-//! mends the rows of the picture that changed.
+//! moment, and the picture of the last one. A Tick reads the values, finds the conditions that the moment wakes, and steps,
+//! in this order, the six inputs of the flight phase, the phase, the alerts, the procedure lines, the memos, the crew's
+//! marks, the lights with the sound, and the selection; then it mends the rows of the picture that changed. Of conditions it
+//! steps those that are woken: all in the first moment, then those that are due, and those that name what moved.
 #![tactic(auto)]
 
 mod alerts;
+mod begin;
 mod conditions;
 mod counts;
 mod crew;
@@ -14,10 +16,13 @@ mod flags;
 mod flight;
 mod lane;
 mod memos;
+mod numbers;
 mod procedures;
 mod scene;
 mod step;
+mod terms;
 mod values;
+mod waking;
 mod zones;
 
 pub use lane::Lane;

@@ -1,8 +1,8 @@
 // The procedure lines of a moment, whether their alerts are shown or not.
-ghost use Rattle.std.specs.Prelude.{◌≡◌, ◌<◌, ◌≤◌, ◌^◌, ◌+◌, ℕ, false, not, ◌&&◌, length, take};
-ghost use Rattle.ecam_spec.specs.BookTerms.{terms_of, slots_in, lines_of};
+ghost use Rattle.std.specs.Prelude.{◌≡◌, ◌<◌, ◌≤◌, ◌^◌, ◌+◌, ℕ, suc, false, not, ◌&&◌, length, take, slice_get, Some};
+ghost use Rattle.ecam_spec.specs.Book as plain;
+ghost use Rattle.ecam_spec.specs.BookTerms.{lines_of};
 ghost use Rattle.ecam_spec.specs.TermNames.{IsWithin};
-ghost use Rattle.ecam_spec.specs.TermSize.{slots};
 ghost use Rattle.ecam_spec.specs.History.{Moment};
 ghost use Rattle.ecam_spec.specs.Situation.{world};
 ghost use Rattle.ecam_spec.specs.Screen.{line_stands};
@@ -10,20 +10,23 @@ ghost use Rattle.term_eval.specs.Shown.{Shows};
 ghost use Rattle.book_model.specs.Sealed.{the_book};
 ghost use Rattle.book_model.specs.Told.{TellsOf};
 ghost use Rattle.book_model.specs.View.{tree_in, placed_of};
-ghost use Rattle.book_model.specs.Conditions.{lines_from, memos_from};
+ghost use Rattle.book_model.specs.Conditions.{places, lines_from, memos_from};
 ghost use Rattle.fwc_lane.specs.Conditions.{BookHalf, LinesHalf, StepsLine};
+ghost use Rattle.fwc_lane.specs.TermsFit.{TermsFit};
 
 use crate::conditions::step_term;
 use crate::flags::{is_either, set_flag};
+use crate::numbers::line_number;
+use crate::terms::Terms;
 use book_model::{Book, Line};
-use term_eval::{Cells, Env};
+use term_eval::Env;
 
-// Steps both conditions of a line, and answers whether it stands.
-fn step_line(cells: &mut Cells, line: &Line, env: &Env<'_>, now: u64) -> bool
-    requires when_range { line.now.when.at + slots (tree_in line.now.when) ≤ length
-        cells.old.slots }
-    requires done_range { line.now.done.at + slots (tree_in line.now.done) ≤ length
-        cells.old.slots }
+// Steps both conditions of a line, of which the first has this number, and answers whether it stands.
+fn step_line(terms: &mut Terms, number: usize, line: &Line, env: &Env<'_>, now: u64) -> bool
+    requires number { number < 2 ^ 32 }
+    requires places { (b : plain.Book) × TermsFit b terms.old
+        × (slice_get (places b) number ≡ Some (placed_of line.now.when))
+        × (slice_get (places b) (suc number) ≡ Some (placed_of line.now.done)) }
     requires when_names { IsWithin (length env.now.values.now) (length env.now.active.now)
         (tree_in line.now.when) }
     requires done_names { IsWithin (length env.now.values.now) (length env.now.active.now)
@@ -31,12 +34,12 @@ fn step_line(cells: &mut Cells, line: &Line, env: &Env<'_>, now: u64) -> bool
     requires first { 1 ≤ env.now.phase.number }
     requires last { env.now.phase.number ≤ 10 }
     requires now { now < 2 ^ 63 }
-    ensures steps { StepsLine env.now now (placed_of line.now.when) (placed_of line.now.done)
-        cells.old.slots cells.new.slots result }
-    ensures len { length cells.new.slots ≡ length cells.old.slots }
+    ensures fits { (b : plain.Book) → TermsFit b terms.old → TermsFit b terms.new }
+    ensures steps { StepsLine env.now now number (placed_of line.now.when)
+        (placed_of line.now.done) terms.old terms.new result }
 {
-    let when = step_term(cells, &line.when, env, now);
-    let done = step_term(cells, &line.done, env, now);
+    let when = step_term(terms, number, &line.when, env, now);
+    let done = step_term(terms, number + 1, &line.done, env, now);
     stands(when, done)
 }
 
@@ -48,14 +51,14 @@ fn stands(when: bool, done: bool) -> bool
 
 // Steps the lines of one alert, and answers whether the flag of any turned.
 fn step_own(
-    cells: &mut Cells,
+    terms: &mut Terms,
     flags: &mut Vec<bool>,
     book: &Book,
     alert: usize,
     env: &Env<'_>,
     now: u64,
 ) -> bool
-    requires cells { length cells.old.slots ≡ slots_in (terms_of (the_book book.now)) }
+    requires fits { TermsFit (the_book book.now) terms.old }
     requires flags { length flags.old.items ≡ length (lines_of (the_book book.now).alerts) }
     requires alert { alert < length book.now.alerts.items }
     requires values { length env.now.values.now ≡ length book.now.params.items }
@@ -63,13 +66,15 @@ fn step_own(
     requires first { 1 ≤ env.now.phase.number }
     requires last { env.now.phase.number ≤ 10 }
     requires now { now < 2 ^ 63 }
-    ensures cells { length cells.new.slots ≡ length cells.old.slots }
+    ensures fits { TermsFit (the_book book.now) terms.new }
     ensures flags { length flags.new.items ≡ length flags.old.items }
-    ensures stands { (m : ℕ → Moment) → Shows env.now (world (the_book book.now) m) now
+    ensures stands { (m : ℕ → Moment) (visits : ℕ)
+        → Shows env.now (world (the_book book.now) m) now
         → LinesHalf (the_book book.now) m now
-        (length (lines_of (take alert (the_book book.now).alerts))) cells.old.slots flags.old.items
+        (length (lines_of (take alert (the_book book.now).alerts))) visits terms.old
+        flags.old.items
         → LinesHalf (the_book book.now) m now
-        (length (lines_of (take (alert + 1) (the_book book.now).alerts))) cells.new.slots
+        (length (lines_of (take (alert + 1) (the_book book.now).alerts))) visits terms.new
         flags.new.items }
     ensures kept { result ≡ false → flags.new.items ≡ flags.old.items }
 {
@@ -77,43 +82,49 @@ fn step_own(
     let first = book.line_at(alert);
     let mut turned = false;
     for i in 0..own.len() {
-        let stands = step_line(cells, &own[i], env, now);
-        let other = set_flag(flags, first + i, stands);
+        let line = first + i;
+        let stands = step_line(terms, line_number(book, line), &own[i], env, now);
+        let other = set_flag(flags, line, stands);
         turned = is_either(turned, other);
     }
     turned
 }
 
 /// Steps all lines by moment `now`: `flags` has, per line, whether it stands. Answers whether any flag turned. Its cost is
-/// one visit of each node of their conditions.
+/// a look at each condition, and one visit of each node of those that are woken.
 pub fn step_lines(
-    cells: &mut Cells,
+    terms: &mut Terms,
     flags: &mut Vec<bool>,
     book: &Book,
     env: &Env<'_>,
     now: u64,
 ) -> bool
-    requires cells { length cells.old.slots ≡ slots_in (terms_of (the_book book.now)) }
+    requires fits { TermsFit (the_book book.now) terms.old }
     requires flags { length flags.old.items ≡ length (lines_of (the_book book.now).alerts) }
     requires values { length env.now.values.now ≡ length book.now.params.items }
     requires active { length env.now.active.now ≡ length book.now.alerts.items }
     requires first { 1 ≤ env.now.phase.number }
     requires last { env.now.phase.number ≤ 10 }
     requires now { now < 2 ^ 63 }
-    ensures cells { length cells.new.slots ≡ length cells.old.slots }
+    ensures fits { TermsFit (the_book book.now) terms.new }
     ensures flags { length flags.new.items ≡ length flags.old.items }
-    ensures told { (m : ℕ → Moment) → Shows env.now (world (the_book book.now) m) now
-        → BookHalf (the_book book.now) m now (lines_from (the_book book.now)) cells.old.slots
+    ensures told { (m : ℕ → Moment) (visits : ℕ)
+        → Shows env.now (world (the_book book.now) m) now
+        → BookHalf (the_book book.now) m now (lines_from (the_book book.now))
+        (suc (length (the_book book.now).alerts)) visits terms.old
         → TellsOf flags.new.items (lines_of (the_book book.now).alerts)
         (line_stands (the_book book.now) m now) }
-    ensures stands { (m : ℕ → Moment) → Shows env.now (world (the_book book.now) m) now
-        → BookHalf (the_book book.now) m now (lines_from (the_book book.now)) cells.old.slots
-        → BookHalf (the_book book.now) m now (memos_from (the_book book.now)) cells.new.slots }
+    ensures stands { (m : ℕ → Moment) (visits : ℕ)
+        → Shows env.now (world (the_book book.now) m) now
+        → BookHalf (the_book book.now) m now (lines_from (the_book book.now))
+        (suc (length (the_book book.now).alerts)) visits terms.old
+        → BookHalf (the_book book.now) m now (memos_from (the_book book.now))
+        (suc (length (the_book book.now).alerts)) visits terms.new }
     ensures kept { result ≡ false → flags.new.items ≡ flags.old.items }
 {
     let mut turned = false;
     for alert in 0..book.alerts().len() {
-        let own = step_own(cells, flags, book, alert, env, now);
+        let own = step_own(terms, flags, book, alert, env, now);
         turned = is_either(turned, own);
     }
     turned

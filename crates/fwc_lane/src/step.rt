@@ -1,6 +1,6 @@
 // All conditions of a moment.
 ghost use Rattle.std.specs.Prelude.{◌≡◌, ◌<◌, ◌≤◌, ◌^◌, ◌+◌, ℕ, suc, false, length};
-ghost use Rattle.ecam_spec.specs.BookTerms.{terms_of, slots_in, lines_of};
+ghost use Rattle.ecam_spec.specs.BookTerms.{lines_of};
 ghost use Rattle.ecam_spec.specs.Term.{holds};
 ghost use Rattle.ecam_spec.specs.History.{Moment};
 ghost use Rattle.ecam_spec.specs.Situation.{world, phase_in};
@@ -8,18 +8,20 @@ ghost use Rattle.ecam_spec.specs.Screen.{line_stands};
 ghost use Rattle.book_model.specs.Sealed.{the_book};
 ghost use Rattle.book_model.specs.Told.{TellsOf};
 ghost use Rattle.alert_truth.specs.TruthsState.{TruthsFit};
-ghost use Rattle.fwc_lane.specs.Conditions.{ConditionsStand};
+ghost use Rattle.fwc_lane.specs.Conditions.{ConditionsWait, ConditionsStepped};
 ghost use Rattle.fwc_lane.specs.Given.{Lends};
+ghost use Rattle.fwc_lane.specs.TermsFit.{TermsFit};
 
 use crate::alerts::step_alerts;
 use crate::flight::step_phase;
 use crate::memos::step_memos;
 use crate::procedures::step_lines;
+use crate::terms::Terms;
 use alert_truth::Truths;
 use book_model::Book;
 use ecam_kinds::Phase;
 use flight_phases::PhaseState;
-use term_eval::{Cells, Env};
+use term_eval::Env;
 
 /// What the conditions of a moment made of it.
 #[derive(Clone, Copy, Debug)]
@@ -31,19 +33,21 @@ pub struct Stepped {
     pub memos: bool,
 }
 
-/// Steps all conditions of the book by moment `now`, in their order. Its cost is one visit of each of their nodes, a look
-/// at each alert, and one at each secondary of the active ones.
+/// Steps the conditions of the book by moment `now`, in their order: those that are woken, while the others hold where they
+/// held. Its cost is a look at each condition and each alert, one visit of each node of the conditions that are woken, and a
+/// write for each that the phase or an alert wakes.
 pub fn step_conditions(
-    cells: &mut Cells,
+    terms: &mut Terms,
     state: &mut PhaseState,
     truths: &mut Truths,
     lines: &mut Vec<bool>,
     memos: &mut Vec<bool>,
     book: &Book,
     env: &Env<'_>,
+    was: Phase,
     now: u64,
 ) -> Stepped
-    requires cells { length cells.old.slots ≡ slots_in (terms_of (the_book book.now)) }
+    requires terms { TermsFit (the_book book.now) terms.old }
     requires truths { TruthsFit (the_book book.now) truths.old }
     requires moments { truths.old.moments ≡ now }
     requires lines { length lines.old.items ≡ length (lines_of (the_book book.now).alerts) }
@@ -52,39 +56,39 @@ pub fn step_conditions(
     requires active { length env.now.active.now ≡ 0 }
     requires phase { env.now.phase.number ≡ 1 }
     requires now { now < 2 ^ 63 }
-    ensures cells { length cells.new.slots ≡ length cells.old.slots }
+    ensures terms { TermsFit (the_book book.now) terms.new }
     ensures truths { TruthsFit (the_book book.now) truths.new }
     ensures moments { truths.new.moments ≡ truths.old.moments + 1 }
     ensures lines { length lines.new.items ≡ length lines.old.items }
     ensures memos { length memos.new.items ≡ length memos.old.items }
     ensures first { 1 ≤ result.phase.number }
     ensures last { result.phase.number ≤ 10 }
-    ensures stands { (m : ℕ → Moment) → Lends (the_book book.now) m now env.now
-        → ConditionsStand (the_book book.now) m now cells.old.slots state.old truths.old
-        → ConditionsStand (the_book book.now) m (suc now) cells.new.slots state.new truths.new }
-    ensures phase { (m : ℕ → Moment) → Lends (the_book book.now) m now env.now
-        → ConditionsStand (the_book book.now) m now cells.old.slots state.old truths.old
+    ensures stands { (m : ℕ → Moment) (visits : ℕ) → Lends (the_book book.now) m now env.now
+        → ConditionsWait (the_book book.now) m now visits terms.old state.old truths.old was
+        → ConditionsStepped (the_book book.now) m now visits terms.new state.new truths.new }
+    ensures phase { (m : ℕ → Moment) (visits : ℕ) → Lends (the_book book.now) m now env.now
+        → ConditionsWait (the_book book.now) m now visits terms.old state.old truths.old was
         → result.phase.number ≡ phase_in (the_book book.now) m now }
-    ensures line_flags { (m : ℕ → Moment) → Lends (the_book book.now) m now env.now
-        → ConditionsStand (the_book book.now) m now cells.old.slots state.old truths.old
+    ensures line_flags { (m : ℕ → Moment) (visits : ℕ) → Lends (the_book book.now) m now env.now
+        → ConditionsWait (the_book book.now) m now visits terms.old state.old truths.old was
         → TellsOf lines.new.items (lines_of (the_book book.now).alerts)
         (line_stands (the_book book.now) m now) }
-    ensures memo_flags { (m : ℕ → Moment) → Lends (the_book book.now) m now env.now
-        → ConditionsStand (the_book book.now) m now cells.old.slots state.old truths.old
+    ensures memo_flags { (m : ℕ → Moment) (visits : ℕ) → Lends (the_book book.now) m now env.now
+        → ConditionsWait (the_book book.now) m now visits terms.old state.old truths.old was
         → TellsOf memos.new.items (the_book book.now).memos
         (λ x. holds (world (the_book book.now) m) x.when now) }
     ensures lines_kept { result.lines ≡ false → lines.new.items ≡ lines.old.items }
     ensures memos_kept { result.memos ≡ false → memos.new.items ≡ memos.old.items }
 {
-    let phase = step_phase(cells, state, book, env, now);
-    step_alerts(cells, truths, book, &Env { phase, ..*env }, now);
+    let phase = step_phase(terms, state, book, env, was, now);
+    step_alerts(terms, truths, book, &Env { phase, ..*env }, now);
     let whole = Env {
         phase,
         active: truths.active(),
         ..*env
     };
-    let lines = step_lines(cells, lines, book, &whole, now);
-    let memos = step_memos(cells, memos, book, &whole, now);
+    let lines = step_lines(terms, lines, book, &whole, now);
+    let memos = step_memos(terms, memos, book, &whole, now);
     Stepped {
         phase,
         lines,

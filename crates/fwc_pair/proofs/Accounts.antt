@@ -1,15 +1,15 @@
 -- Where each alert stands after a history: the accounts of its era's last moment.
-use Rattle.std.proofs.Common.{◌≡◌, ℕ, zero, suc, ◌+◌, ◌-◌, ◌<◌, ◌≤◌, Bool, true, false, not, ◌&&◌, ◌||◌, ◌==◌, List, [], ◌∷◌, ◌++◌, length, get_or, refl, sym, ◌∙◌, ap, subst, cond, arith}
+use Rattle.std.proofs.Common.{◌≡◌, ℕ, zero, suc, ◌-◌, ◌≤◌, Bool, true, false, not, ◌&&◌, ◌||◌, ◌==◌, List, [], ◌∷◌, ◌++◌, length, get_or, refl, sym, ◌∙◌, ap, cond, arith}
 use Rattle.std.specs.Prelude.{count_by}
 use Rattle.std.proofs.lemmas.Bool.{ne_eqb}
 use Rattle.std.proofs.lemmas.List.{get_or_append_left, get_or_at, length-append}
 use Rattle.ecam_spec.specs.declared.kinds.Event.{Event}
 use Rattle.ecam_spec.specs.declared.kinds.Standing.{Standing}
 use Rattle.ecam_spec.specs.declared.kinds.Standing.TheVariants.{Dead, Quiet, Titled}
-use Rattle.ecam_spec.specs.Book.{Text, Book}
-use Rattle.ecam_spec.specs.History.{none_up, flags_after, Moment, Era, era}
-use Rattle.ecam_spec.specs.Picture.{Row, row, blank_row, zone}
-use Rattle.ecam_spec.specs.LeftZone.{LeftRow, title_colour, overflow, has_more, left_zone}
+use Rattle.ecam_spec.specs.Book.{Book}
+use Rattle.ecam_spec.specs.History.{none_up, flags_after, era}
+use Rattle.ecam_spec.specs.Picture.{Row, row, blank_row}
+use Rattle.ecam_spec.specs.LeftZone.{title_colour, overflow, has_more, left_zone}
 use Rattle.ecam_spec.specs.RightZone.{right_beyond, right_zone}
 use Rattle.ecam_spec.specs.StatusPage.{flags, flags_row}
 use Rattle.ecam_spec.specs.Standing.{accounts, has_row, is_counted}

@@ -1,15 +1,14 @@
 -- The picture that stands, mended row by row.
-use Rattle.std.proofs.Common.{◌≡◌, ℕ, zero, suc, ◌+◌, ◌<◌, ◌≤◌, Bool, true, false, not, ◌||◌, List, [], ◌∷◌, ◌++◌, length, take, drop, get_or, replicate, inl, inr, ◌⊎◌, refl, sym, ◌∙◌, ap, subst, arith, add-one}
+use Rattle.std.proofs.Common.{◌≡◌, ℕ, ◌+◌, ◌<◌, Bool, true, false, not, ◌||◌, List, [], ◌∷◌, ◌++◌, length, take, get_or, replicate, refl, sym, ◌∙◌, ap, subst, arith}
 use Rattle.std.proofs.lemmas.List.{take_more, length-take, append-nil, drop_all, get_or-replicate}
-use Rattle.std.proofs.lemmas.Bool.{cases_lt}
 use Rattle.std.proofs.Math.Seq.{drop-cons}
-use Rattle.ecam_spec.specs.Picture.{Row, row, blank_row, Picture, dead, zone, same_row}
-use Rattle.zone_rows.specs.Tracked.{TrackedRows, IsWhole, changed_at, row_at, TellsChanges}
-use Rattle.zone_rows.specs.Mended.{put_rows, Mends}
-use Rattle.zone_rows.specs.Zones.{StandAt, IsMended}
+use Rattle.ecam_spec.specs.Picture.{Row, row, blank_row, same_row}
+use Rattle.zone_rows.specs.Tracked.{TrackedRows}
+use Rattle.zone_rows.specs.Mended.{Mends}
+use Rattle.zone_rows.specs.Zones.{IsMended}
 use Rattle.fwc_pair.specs.Faces.{IsShown}
 use Rattle.zone_rows.proofs.Mending.{mends-both, mends_kept}
-use Rattle.zone_rows.proofs.Places.{row-behind, put-none}
+use Rattle.zone_rows.proofs.Places.{row-behind}
 
 -- nothing is mended yet
 pub mended-none : (picture : List Row) (t : TrackedRows) → Mends 0 (take 0 picture) t t

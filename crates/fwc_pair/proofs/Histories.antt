@@ -1,13 +1,12 @@
 -- One more event of a history: the rows that changed, the picture of an era, and what two histories come to.
-use Rattle.std.proofs.Common.{◌≡◌, ℕ, zero, suc, ◌+◌, ◌-◌, inl, inr, ◌⊎◌, ◌<◌, ◌≤◌, Bool, true, false, not, ◌&&◌, ◌||◌, ◌==◌, List, [], ◌∷◌, ◌++◌, length, refl, sym, ◌∙◌, ap, subst, cond, arith, add-one, append_assoc}
+use Rattle.std.proofs.Common.{◌≡◌, ℕ, zero, suc, ◌-◌, inl, inr, ◌⊎◌, ◌<◌, Bool, true, false, not, ◌&&◌, ◌||◌, ◌==◌, List, [], ◌∷◌, ◌++◌, length, refl, sym, ◌∙◌, ap, subst, cond, arith, add-one, append_assoc}
 use Rattle.std.proofs.lemmas.List.{append-nil}
 use Rattle.ecam_spec.specs.declared.kinds.Event.{Event}
 use Rattle.ecam_spec.specs.declared.kinds.Event.TheVariants.{Word, Tick, Press, Release, Fail, Up, End}
-use Rattle.ecam_spec.specs.declared.kinds.Standing.{Standing}
 use Rattle.ecam_spec.specs.declared.kinds.Standing.TheVariants.{Dead, Quiet}
 use Rattle.ecam_spec.specs.Book.{Book}
 use Rattle.ecam_spec.specs.History.{Flags, none_up, set_flag, flags_with, flags_after, comes_up, Era, empty_era, era_with, era, begun}
-use Rattle.ecam_spec.specs.Picture.{Picture, dead}
+use Rattle.ecam_spec.specs.Picture.{Picture}
 use Rattle.ecam_spec.specs.Output.{picture_before}
 use Rattle.ecam_spec.specs.Screen.{picture_in}
 use Rattle.ecam_spec.specs.Replay.{is_tick, tick_count, through, moment_of, picture_at, picture, last_picture, standing_in, standing}

@@ -4,3 +4,4 @@ pub mod Titles
 pub mod Faces
 pub mod Pairs
 pub mod Stood
+pub mod VisitSteps

@@ -1,11 +1,11 @@
 -- One event more for the two computers: which era each goes on in, and what the picture shows.
-use Rattle.std.proofs.Common.{◌≡◌, ℕ, zero, suc, ◌+◌, ◌<◌, ◌≤◌, ◌==◌, Bool, true, false, not, ◌&&◌, ◌||◌, List, [], ◌∷◌, ◌++◌, length, get_or, replicate, refl, sym, ◌∙◌, ap, subst, cond, arith}
+use Rattle.std.proofs.Common.{◌≡◌, ℕ, zero, suc, ◌<◌, ◌==◌, Bool, true, false, not, ◌&&◌, ◌||◌, List, [], ◌∷◌, ◌++◌, length, get_or, replicate, refl, sym, ◌∙◌, ap, subst, cond, arith}
 use Rattle.std.proofs.lemmas.List.{get_or-replicate}
 use Rattle.ecam_spec.specs.declared.kinds.Event.{Event}
 use Rattle.ecam_spec.specs.declared.kinds.Event.TheVariants.{Word, Tick, Press, Release, Fail, Up, End}
 use Rattle.ecam_spec.specs.Book.{Book}
-use Rattle.ecam_spec.specs.History.{Flags, both_up, none_up, set_flag, flags_with, flags_after, comes_up, Era, empty_era, era_with, era, begun}
-use Rattle.ecam_spec.specs.Picture.{Picture, blank_row, same_row, blank, dead}
+use Rattle.ecam_spec.specs.History.{Flags, both_up, none_up, flags_with, flags_after, comes_up, Era, empty_era, era_with, era, begun}
+use Rattle.ecam_spec.specs.Picture.{Picture, blank_row, blank, dead}
 use Rattle.ecam_spec.specs.Output.{picture_before}
 use Rattle.ecam_spec.specs.Screen.{picture_in}
 use Rattle.ecam_spec.specs.Replay.{is_tick, tick_count, moment_of, picture_at, picture, last_picture}

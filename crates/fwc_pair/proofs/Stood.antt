@@ -1,9 +1,9 @@
 -- What a lane that stands for its moments tells of an alert.
-use Rattle.std.proofs.Common.{◌≡◌, ℕ, zero, suc, ◌+◌, ◌-◌, ◌<◌, ◌==◌, Bool, true, false, not, ◌&&◌, ◌||◌, List, length, get_or, Option, Some, None, refl, sym, ◌∙◌, ap, subst, cond, leb}
-use Rattle.std.specs.Prelude.{filter, find, is_some}
+use Rattle.std.proofs.Common.{◌≡◌, ℕ, zero, suc, ◌-◌, ◌<◌, ◌==◌, Bool, true, false, not, ◌&&◌, List, length, get_or, Option, Some, None, refl, sym, ◌∙◌, ap, subst, cond, leb}
+use Rattle.std.specs.Prelude.{find, is_some}
 use Rattle.std.specs.List.{list_any}
 use Rattle.ecam_spec.specs.declared.kinds.Standing.{Standing}
-use Rattle.ecam_spec.specs.declared.kinds.Standing.TheVariants.{Dead, Quiet, Waiting, Starred, Cancelled, Cleared, Titled, Counted}
+use Rattle.ecam_spec.specs.declared.kinds.Standing.TheVariants.{Dead, Quiet, Waiting, Cancelled, Cleared, Titled, Counted}
 use Rattle.ecam_spec.specs.Past.{previous}
 use Rattle.ecam_spec.specs.Book.{Book}
 use Rattle.ecam_spec.specs.declared.kinds.Event.{Event}
@@ -12,14 +12,14 @@ use Rattle.ecam_spec.specs.Alert as alert
 use Rattle.ecam_spec.specs.Crew.{is_shown, shown, normal}
 use Rattle.ecam_spec.specs.LeftZone.{title_row}
 use Rattle.ecam_spec.specs.Standing.{Facts, standing_by_row, standing_by_primary, standing_of}
-use Rattle.ecam_spec.specs.Situation.{primaries, inhibited, condition_in, present_knowing, present_in, active_knowing, active_in, phase_in}
-use Rattle.ecam_spec.specs.Screen.{order, cockpit, shown_in, is_shown_in, cleared_in, cancelled_in, line_stands, memo_rows, left_in}
+use Rattle.ecam_spec.specs.Situation.{primaries, inhibited, condition_in, present_knowing, present_in, active_knowing, active_in}
+use Rattle.ecam_spec.specs.Screen.{order, cockpit, shown_in, is_shown_in, cleared_in, cancelled_in, line_stands, left_in}
 use Rattle.ecam_spec.specs.Replay.{moment_of, standing_in, standing}
 use Rattle.ecam_spec.proofs.CrewLaws.{shown_filter}
 use Rattle.ecam_spec.proofs.OrderLaws.{order-below}
 use Rattle.book_model.specs.Told.{flagged}
 use Rattle.alert_truth.specs.Runs.{previously}
-use Rattle.alert_truth.specs.Alerts.{starred_where, starred_by_where}
+use Rattle.alert_truth.specs.Alerts.{starred_by_where}
 use Rattle.alert_truth.proofs.Listings.{find-is_some}
 use Rattle.warning_display.specs.LeftRows.{in_order, blocks}
 use Rattle.warning_display.proofs.Passing.{filter_told}

@@ -1,6 +1,6 @@
 -- The row of an alert's title among the rows of the shown alerts.
-use Rattle.std.proofs.Common.{◌≡◌, ◌≢◌, ℕ, zero, suc, ◌+◌, ◌<◌, ◌≤◌, Bool, true, false, not, ◌||◌, ◌==◌, List, [], ◌∷◌, ◌++◌, map, length, take, drop, get_or, slice_get, Option, Some, None, refl, sym, ◌∙◌, ap, cond, ltb, leb, eqb, arith, append_assoc}
-use Rattle.std.specs.Prelude.{filter, option_map, position, flat_map, count_by}
+use Rattle.std.proofs.Common.{◌≡◌, ℕ, suc, ◌+◌, ◌<◌, ◌≤◌, Bool, true, false, not, ◌||◌, List, [], ◌∷◌, ◌++◌, map, length, take, drop, slice_get, Some, None, refl, sym, ◌∙◌, ap, cond, ltb, arith, append_assoc}
+use Rattle.std.specs.Prelude.{filter, option_map, count_by}
 use Rattle.std.specs.List.{list_any, position_or_len}
 use Rattle.std.proofs.lemmas.Bool.{lt-ltb, le-leb, lt-leb, ne_eqb}
 use Rattle.std.proofs.lemmas.List.{append-nil, take-append-drop, length-append, length-map}

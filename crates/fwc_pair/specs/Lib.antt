@@ -4,3 +4,4 @@ pub mod Lasts
 pub mod Faces
 pub mod TitlePlaces
 pub mod Standings
+pub mod PairVisits

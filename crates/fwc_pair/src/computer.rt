@@ -1,11 +1,13 @@
 // One computer of the pair, beside the other.
-ghost use Rattle.std.specs.Prelude.{◌≡◌, ◌||◌, ◌+◌, true, false, if◌then◌else◌};
+ghost use Rattle.std.specs.Prelude.{◌≡◌, ◌||◌, ◌+◌, true, false, length, if◌then◌else◌};
 ghost use Rattle.ecam_spec.specs.Keys.{IsEvent};
 ghost use Rattle.ecam_spec.specs.History.{Flags, Era, empty_era, era_with};
-ghost use Rattle.ecam_spec.specs.Replay.{is_tick};
+ghost use Rattle.ecam_spec.specs.Replay.{is_tick, moment_of};
 ghost use Rattle.book_model.specs.Sealed.{the_book};
 ghost use Rattle.fwc_lane.specs.LaneFits.{LaneFits, CanGoOn};
 ghost use Rattle.fwc_lane.specs.LaneStands.{LaneStands, AreUp};
+ghost use Rattle.fwc_lane.specs.Visits.{visits};
+ghost use Rattle.fwc_pair.specs.PairVisits.{visited, Visits};
 
 use book_model::Book;
 use ecam_kinds::Event;
@@ -24,6 +26,7 @@ pub(crate) fn wake(lane: &mut Lane, up: bool, other: &Lane, other_up: bool, book
         → LaneStands (the_book book.now) (empty_era f) lane.new }
     ensures together { (up ≡ true → lane.old.moments ≡ other.now.moments) → other_up ≡ true
         → lane.new.moments ≡ other.now.moments }
+    ensures unvisited { visited lane.new ≡ visited lane.old }
 {
     if up {
         return;
@@ -53,6 +56,12 @@ pub(crate) fn step(
         → LaneStands (the_book book.now) (era_with e event.now) lane.new }
     ensures moments { up ≡ true
         → lane.new.moments ≡ lane.old.moments + (if is_tick event.now then 1 else 0) }
+    ensures visits { (e : Era) → is_tick event.now ≡ true
+        → AreUp (era_with e event.now) one_up two_up
+        → (up ≡ true → LaneStands (the_book book.now) e lane.old)
+        → Visits up (visits (the_book book.now) (moment_of (era_with e event.now))
+        (length e.moments)) lane.old lane.new }
+    ensures unvisited { is_tick event.now ≡ false → visited lane.new ≡ visited lane.old }
 {
     if up {
         lane.event(book, event, one_up, two_up);

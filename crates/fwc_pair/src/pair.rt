@@ -12,6 +12,7 @@ ghost use Rattle.book_model.specs.Sealed.{the_book};
 ghost use Rattle.fwc_lane.specs.ChangedRows.{TellsRows};
 ghost use Rattle.fwc_lane.specs.LaneStands.{LaneStands};
 ghost use Rattle.fwc_pair.specs.PairState.{flags_of, moments_of, PairFits, UpStand, PairStands};
+ghost use Rattle.fwc_pair.specs.PairVisits.{Visits, NoVisits, tick_visits};
 
 use crate::computer::{step, wake};
 use crate::face::show;
@@ -58,6 +59,7 @@ impl Pair {
         requires { PairFits (the_book book.now) self.old }
         ensures fits { PairFits (the_book book.now) self.new }
         ensures stands { PairStands (the_book book.now) [] self.new }
+        ensures unvisited { NoVisits self.old self.new }
     {
         self.one.cold(book);
         self.two.cold(book);
@@ -82,6 +84,13 @@ impl Pair {
         // The end of a record is no event of a history.
         ensures end { event.now ≡ End → (h : List Event) → PairStands (the_book book.now) h self.old
             → PairStands (the_book book.now) h self.new }
+        // A Tick visits, on each computer that is up, the nodes of the conditions that its moment wakes, and of no others.
+        ensures visits { (h : List Event) → PairStands (the_book book.now) h self.old
+            → is_tick event.now ≡ true
+            → Visits self.old.one_up (tick_visits (the_book book.now) h) self.old.one self.new.one
+            × Visits self.old.two_up (tick_visits (the_book book.now) h) self.old.two
+            self.new.two }
+        ensures unvisited { is_tick event.now ≡ false → NoVisits self.old self.new }
     {
         self.note_health(book, event);
         step(
@@ -122,6 +131,7 @@ impl Pair {
         ensures stands { (h : List Event) → flags_of self.old ≡ flags_after h
             → UpStand (the_book book.now) (era h) self.old
             → UpStand (the_book book.now) (begun h event.now) self.new }
+        ensures unvisited { NoVisits self.old self.new }
     {
         match *event {
             Event::Fail(computer) => self.fail(computer),
@@ -158,6 +168,7 @@ impl Pair {
         ensures stands { (h : List Event) → flags_of self.old ≡ flags_after h
             → UpStand (the_book book.now) (era h) self.old
             → UpStand (the_book book.now) (begun h (Up computer)) self.new }
+        ensures unvisited { NoVisits self.old self.new }
     {
         if computer == 1 {
             wake(&mut self.one, self.one_up, &self.two, self.two_up, book);

@@ -1,46 +1,82 @@
-use Rattle.std.proofs.Common.{◌≡◌, ◌<◌, length, take, get_or, ap, arith, length-take}
+use Rattle.std.proofs.Common.{◌≡◌, ◌<◌, false, length, take, get_or, slice_get, ap, ◌∙◌, arith, length-take}
+use Rattle.std.proofs.lemmas.List.{get_or_default}
 use Rattle.ecam_spec.specs.Situation.{condition_in, phase_in}
 use Rattle.book_model.specs.Sealed.{the_book}
+use Rattle.book_model.specs.Conditions.{places}
 use Rattle.book_model.proofs.BookLists.{many-alerts}
+use Rattle.book_model.proofs.BookLimits.{sizes}
 use Rattle.book_model.proofs.ConditionPlaces.{own-place}
-use Rattle.book_model.proofs.ConditionRanges.{range}
 use Rattle.book_model.proofs.ConditionNames.{own-names}
-use Rattle.fwc_lane.proofs.AlertSteps.{own-truth, own-stands}
+use Rattle.fwc_lane.proofs.Showing.{active-is}
+use Rattle.fwc_lane.proofs.AlertSteps.{own-truth, own-stands, was-active, alert-known}
 use Rattle.fwc_lane.proofs.alerts.step_alert.Goals as goal
 
-pub slice_bounds-earlier-end : goal.slice_bounds-earlier-end
-slice_bounds-earlier-end c = omega (arith, length-take c.args.alert c.active.result.now, ap length c.active.ensures.value, c.requires.fits.active, many-alerts c.args.book.now, c.requires.alert)
+pub bounds-active-alert : goal.bounds-active-alert
+bounds-active-alert c = omega (arith, ap length c.active.ensures.value, c.requires.fits.active, many-alerts c.args.book.now, c.requires.alert)
 
-pub step_term-holds-requires-clause-range : goal.step_term-holds-requires-clause-range
-step_term-holds-requires-clause-range c =
+pub slice_bounds-earlier-end : goal.slice_bounds-earlier-end
+slice_bounds-earlier-end c = omega (arith, length-take c.args.alert c.active-2.result.now, ap length c.active-2.ensures.value, c.requires.fits.active, many-alerts c.args.book.now, c.requires.alert)
+
+pub alert_number-requires : goal.alert_number-requires
+alert_number-requires c = omega (arith, c.requires.alert, (sizes c.args.book.now c.alerts.ensures.sealed).alerts)
+
+pub step_term-holds-requires-clause-place : goal.step_term-holds-requires-clause-place
+step_term-holds-requires-clause-place c =
     let d = c.args.book.now in
     let xs = c.alerts.result.now in
     let lt : c.args.alert < length xs = omega (arith, c.requires.alert, ap length c.alerts.ensures.value) in
     let place = own-place d c.alerts.ensures.sealed xs c.args.alert (get_or xs c.args.alert c.index-alerts-alert.result) c.alerts.ensures.value lt (ap (get_or xs c.args.alert) c.index-alerts-alert.is) in
-    omega (arith, c.requires.cells, range (the_book d) _ _ place)
+    (the_book d, c.requires.terms, ap (slice_get (places (the_book d))) c.alert_number.ensures ∙ place)
 
 pub step_term-holds-requires-clause-names : goal.step_term-holds-requires-clause-names
 step_term-holds-requires-clause-names c =
     let d = c.args.book.now in
     let xs = c.alerts.result.now in
     let lt : c.args.alert < length xs = omega (arith, c.requires.alert, ap length c.alerts.ensures.value) in
-    let some : length (take c.args.alert c.active.result.now) ≡ c.args.alert = omega (arith, length-take c.args.alert c.active.result.now, ap length c.active.ensures.value, c.requires.fits.active, many-alerts d, c.requires.alert) in
+    let some : length (take c.args.alert c.active-2.result.now) ≡ c.args.alert = omega (arith, length-take c.args.alert c.active-2.result.now, ap length c.active-2.ensures.value, c.requires.fits.active, many-alerts d, c.requires.alert) in
     rw (c.requires.values, some) (own-names d c.alerts.ensures.sealed xs c.args.alert (get_or xs c.args.alert c.index-alerts-alert.result) c.alerts.ensures.value lt (ap (get_or xs c.args.alert) c.index-alerts-alert.is))
 
+pub wake_alert-requires-clause-alert : goal.wake_alert-requires-clause-alert
+wake_alert-requires-clause-alert c = omega (arith, c.requires.alert, many-alerts c.args.book.now)
+
+pub wake_alert-requires-clause-watch : goal.wake_alert-requires-clause-watch
+wake_alert-requires-clause-watch c = (c.step_term-holds.ensures.fits (the_book c.args.book.now) c.requires.terms).watch
+
+pub wake_alert-requires-clause-room : goal.wake_alert-requires-clause-room
+wake_alert-requires-clause-room c = (c.step_term-holds.ensures.fits (the_book c.args.book.now) c.requires.terms).room
+
+pub returns-clause-terms : goal.returns-clause-terms
+returns-clause-terms c =
+    let fits = c.step_term-holds.ensures.fits (the_book c.args.book.now) c.requires.terms in
+    record {
+      slots = fits.slots;
+      visits = fits.visits;
+      truths = fits.truths;
+      dues = fits.dues;
+      room = omega (arith, fits.room, c.wake_alert.ensures.room);
+      watch = fits.watch;
+    }
+
 pub returns-clause-stands : goal.returns-clause-stands
-returns-clause-stands c = λ m lends phase half.
+returns-clause-stands c = λ m visits lends phase half.
     let d = c.args.book.now in
     let b = the_book d in
+    let k = c.args.now in
+    let a = c.args.alert in
     let xs = c.alerts.result.now in
-    let lt : c.args.alert < length xs = omega (arith, c.requires.alert, ap length c.alerts.ensures.value) in
-    let x = get_or xs c.args.alert c.index-alerts-alert.result in
-    let here = ap (get_or xs c.args.alert) c.index-alerts-alert.is in
-    let actives = ap (take c.args.alert) c.active.ensures.value in
+    let lt : a < length xs = omega (arith, c.requires.alert, ap length c.alerts.ensures.value) in
+    let there : a < length b.alerts = omega (arith, c.requires.alert, many-alerts d) in
+    let x = get_or xs a c.index-alerts-alert.result in
+    let here = ap (get_or xs a) c.index-alerts-alert.is in
+    let actives = ap (take a) c.active-2.ensures.value in
+    let truth = own-truth d c.alerts.ensures.sealed xs a x c.alerts.ensures.value lt here m k _ (record { values = lends.values; pressed = lends.pressed; one_up = lends.one_up; two_up = lends.two_up })
+    c.args.truths.now phase actives visits _ c.alert_number.ensures _ _ _ c.step_term-holds.ensures.steps half in
     record {
-      cells = own-stands d c.alerts.ensures.sealed xs c.args.alert x c.alerts.ensures.value lt here m c.args.now _ (record { values = lends.values; pressed = lends.pressed; one_up = lends.one_up; two_up = lends.two_up })
-          c.args.truths.now phase actives _ _ _ c.step_term-holds.ensures.steps half;
-      truths = c.step_one.ensures.stands (condition_in b m) (phase_in b m) c.args.now
-          (own-truth d c.alerts.ensures.sealed xs c.args.alert x c.alerts.ensures.value lt here m c.args.now _ (record { values = lends.values; pressed = lends.pressed; one_up = lends.one_up; two_up = lends.two_up })
-          c.args.truths.now phase actives _ _ _ c.step_term-holds.ensures.steps half)
-          phase half.truths;
+      terms = alert-known d c.alerts.ensures.sealed m k a visits c.step_term-holds.new.terms c.wake_alert.new.woken c.differ-other.result c.step_one-active.result _ there c.differ-other.ensures
+          (c.step_one-active.ensures.answer (condition_in b m) (phase_in b m) k truth phase half.alerts ∙ active-is b m a k)
+          (λ h e. get_or_default c.active.result.now a _ false (omega (arith, ap length c.active.ensures.value, c.requires.fits.active, there)) ∙ ap (λ ys. get_or ys a false) c.active.ensures.value ∙ was-active b m k h a c.args.truths.now e there half.alerts)
+          c.wake_alert.ensures.wakes
+          (own-stands d c.alerts.ensures.sealed xs a x c.alerts.ensures.value lt here m k _ (record { values = lends.values; pressed = lends.pressed; one_up = lends.one_up; two_up = lends.two_up })
+          c.args.truths.now phase actives visits _ c.alert_number.ensures _ _ _ c.step_term-holds.ensures.steps half);
+      alerts = c.step_one-active.ensures.stands (condition_in b m) (phase_in b m) k truth phase half.alerts;
     }

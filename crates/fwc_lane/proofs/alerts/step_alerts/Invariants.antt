@@ -1,17 +1,18 @@
-use Rattle.std.proofs.Common.{◌≡◌, ℕ, length}
+use Rattle.std.proofs.Common.{◌≡◌, ℕ}
 use Rattle.ecam_spec.specs.History.{Moment}
 use Rattle.ecam_spec.specs.Situation.{phase_in}
 use Rattle.book_model.specs.Sealed.{the_book}
 use Rattle.alert_truth.specs.TruthsState.{TruthsFit}
 use Rattle.fwc_lane.specs.Conditions.{AlertsHalf}
 use Rattle.fwc_lane.specs.Given.{Lends}
+use Rattle.fwc_lane.specs.TermsFit.{TermsFit}
 use Rattle.fwc_lane.proofs.alerts.step_alerts.Given as goal
 
 abbrev pub invariant-loop-alert : goal.invariant-loop-alert
 invariant-loop-alert l = record {
-  cells : length l.cells.slots ≡ length l.fn.cells.slots;
+  terms : TermsFit (the_book l.book) l.terms;
   fits : TruthsFit (the_book l.book) l.truths;
   moments : l.truths.moments ≡ l.fn.truths.moments;
-  stands : (m : ℕ → Moment) → Lends (the_book l.book) m l.now l.env → l.env.phase.number ≡ phase_in (the_book l.book) m l.now
-      → AlertsHalf (the_book l.book) m l.now 0 l.fn.cells.slots l.fn.truths → AlertsHalf (the_book l.book) m l.now l.alert l.cells.slots l.truths;
+  stands : (m : ℕ → Moment) (visits : ℕ) → Lends (the_book l.book) m l.now l.env → l.env.phase.number ≡ phase_in (the_book l.book) m l.now
+      → AlertsHalf (the_book l.book) m l.now 0 visits l.fn.terms l.fn.truths → AlertsHalf (the_book l.book) m l.now l.alert visits l.terms l.truths;
 }

@@ -1,88 +1,96 @@
 use Rattle.std.proofs.Common.{refl, arith}
 use Rattle.book_model.specs.View.{placed_of}
 use Rattle.book_model.specs.Sealed.{the_book}
-use Rattle.book_model.proofs.ConditionRanges.{range}
 use Rattle.fwc_lane.proofs.FlightSteps.{input-place, input-names, input-truth, input-stands, inputs-are}
 use Rattle.fwc_lane.proofs.flight.step_inputs.Goals as goal
 
-pub step_term-gnd-requires-clause-range : goal.step_term-gnd-requires-clause-range
-step_term-gnd-requires-clause-range c =
-    omega (arith, c.requires.cells, range (the_book c.args.book.now) _ _ (input-place c.args.book.now c.phase_terms-terms.ensures.sealed c.phase_terms-terms.result.now c.phase_terms-terms.ensures.value 0 _ refl))
+pub step_term-gnd-requires-clause-place : goal.step_term-gnd-requires-clause-place
+step_term-gnd-requires-clause-place c =
+    let d = c.args.book.now in
+    (the_book d, c.requires.fits, input-place d c.phase_terms-inputs.ensures.sealed c.phase_terms-inputs.result.now c.phase_terms-inputs.ensures.value 0 _ refl)
 
 pub step_term-gnd-requires-clause-names : goal.step_term-gnd-requires-clause-names
 step_term-gnd-requires-clause-names c =
-    rw (c.requires.values, c.requires.active) (input-names c.args.book.now c.phase_terms-terms.ensures.sealed c.phase_terms-terms.result.now c.phase_terms-terms.ensures.value 0 _ refl)
+    rw (c.requires.values, c.requires.active) (input-names c.args.book.now c.phase_terms-inputs.ensures.sealed c.phase_terms-inputs.result.now c.phase_terms-inputs.ensures.value 0 _ refl)
 
-pub step_term-run-requires-clause-range : goal.step_term-run-requires-clause-range
-step_term-run-requires-clause-range c =
-    omega (arith, c.requires.cells, c.step_term-gnd.ensures.len, range (the_book c.args.book.now) _ _ (input-place c.args.book.now c.phase_terms-terms.ensures.sealed c.phase_terms-terms.result.now c.phase_terms-terms.ensures.value 1 _ refl))
+pub step_term-run-requires-clause-place : goal.step_term-run-requires-clause-place
+step_term-run-requires-clause-place c =
+    let d = c.args.book.now in
+    (the_book d, c.step_term-gnd.ensures.fits (the_book c.args.book.now) c.requires.fits, input-place d c.phase_terms-inputs.ensures.sealed c.phase_terms-inputs.result.now c.phase_terms-inputs.ensures.value 1 _ refl)
 
 pub step_term-run-requires-clause-names : goal.step_term-run-requires-clause-names
 step_term-run-requires-clause-names c =
-    rw (c.requires.values, c.requires.active) (input-names c.args.book.now c.phase_terms-terms.ensures.sealed c.phase_terms-terms.result.now c.phase_terms-terms.ensures.value 1 _ refl)
+    rw (c.requires.values, c.requires.active) (input-names c.args.book.now c.phase_terms-inputs.ensures.sealed c.phase_terms-inputs.result.now c.phase_terms-inputs.ensures.value 1 _ refl)
 
-pub step_term-tp-requires-clause-range : goal.step_term-tp-requires-clause-range
-step_term-tp-requires-clause-range c =
-    omega (arith, c.requires.cells, c.step_term-gnd.ensures.len, c.step_term-run.ensures.len, range (the_book c.args.book.now) _ _ (input-place c.args.book.now c.phase_terms-terms.ensures.sealed c.phase_terms-terms.result.now c.phase_terms-terms.ensures.value 2 _ refl))
+pub step_term-tp-requires-clause-place : goal.step_term-tp-requires-clause-place
+step_term-tp-requires-clause-place c =
+    let d = c.args.book.now in
+    (the_book d, c.step_term-run.ensures.fits (the_book c.args.book.now) (c.step_term-gnd.ensures.fits (the_book c.args.book.now) c.requires.fits), input-place d c.phase_terms-inputs.ensures.sealed c.phase_terms-inputs.result.now c.phase_terms-inputs.ensures.value 2 _ refl)
 
 pub step_term-tp-requires-clause-names : goal.step_term-tp-requires-clause-names
 step_term-tp-requires-clause-names c =
-    rw (c.requires.values, c.requires.active) (input-names c.args.book.now c.phase_terms-terms.ensures.sealed c.phase_terms-terms.result.now c.phase_terms-terms.ensures.value 2 _ refl)
+    rw (c.requires.values, c.requires.active) (input-names c.args.book.now c.phase_terms-inputs.ensures.sealed c.phase_terms-inputs.result.now c.phase_terms-inputs.ensures.value 2 _ refl)
 
-pub step_term-fast-requires-clause-range : goal.step_term-fast-requires-clause-range
-step_term-fast-requires-clause-range c =
-    omega (arith, c.requires.cells, c.step_term-gnd.ensures.len, c.step_term-run.ensures.len, c.step_term-tp.ensures.len, range (the_book c.args.book.now) _ _ (input-place c.args.book.now c.phase_terms-terms.ensures.sealed c.phase_terms-terms.result.now c.phase_terms-terms.ensures.value 3 _ refl))
+pub step_term-fast-requires-clause-place : goal.step_term-fast-requires-clause-place
+step_term-fast-requires-clause-place c =
+    let d = c.args.book.now in
+    (the_book d, c.step_term-tp.ensures.fits (the_book c.args.book.now) (c.step_term-run.ensures.fits (the_book c.args.book.now) (c.step_term-gnd.ensures.fits (the_book c.args.book.now) c.requires.fits)), input-place d c.phase_terms-inputs.ensures.sealed c.phase_terms-inputs.result.now c.phase_terms-inputs.ensures.value 3 _ refl)
 
 pub step_term-fast-requires-clause-names : goal.step_term-fast-requires-clause-names
 step_term-fast-requires-clause-names c =
-    rw (c.requires.values, c.requires.active) (input-names c.args.book.now c.phase_terms-terms.ensures.sealed c.phase_terms-terms.result.now c.phase_terms-terms.ensures.value 3 _ refl)
+    rw (c.requires.values, c.requires.active) (input-names c.args.book.now c.phase_terms-inputs.ensures.sealed c.phase_terms-inputs.result.now c.phase_terms-inputs.ensures.value 3 _ refl)
 
-pub step_term-high-requires-clause-range : goal.step_term-high-requires-clause-range
-step_term-high-requires-clause-range c =
-    omega (arith, c.requires.cells, c.step_term-gnd.ensures.len, c.step_term-run.ensures.len, c.step_term-tp.ensures.len, c.step_term-fast.ensures.len, range (the_book c.args.book.now) _ _ (input-place c.args.book.now c.phase_terms-terms.ensures.sealed c.phase_terms-terms.result.now c.phase_terms-terms.ensures.value 4 _ refl))
+pub step_term-high-requires-clause-place : goal.step_term-high-requires-clause-place
+step_term-high-requires-clause-place c =
+    let d = c.args.book.now in
+    (the_book d, c.step_term-fast.ensures.fits (the_book c.args.book.now) (c.step_term-tp.ensures.fits (the_book c.args.book.now) (c.step_term-run.ensures.fits (the_book c.args.book.now) (c.step_term-gnd.ensures.fits (the_book c.args.book.now) c.requires.fits))), input-place d c.phase_terms-inputs.ensures.sealed c.phase_terms-inputs.result.now c.phase_terms-inputs.ensures.value 4 _ refl)
 
 pub step_term-high-requires-clause-names : goal.step_term-high-requires-clause-names
 step_term-high-requires-clause-names c =
-    rw (c.requires.values, c.requires.active) (input-names c.args.book.now c.phase_terms-terms.ensures.sealed c.phase_terms-terms.result.now c.phase_terms-terms.ensures.value 4 _ refl)
+    rw (c.requires.values, c.requires.active) (input-names c.args.book.now c.phase_terms-inputs.ensures.sealed c.phase_terms-inputs.result.now c.phase_terms-inputs.ensures.value 4 _ refl)
 
-pub step_term-low-requires-clause-range : goal.step_term-low-requires-clause-range
-step_term-low-requires-clause-range c =
-    omega (arith, c.requires.cells, c.step_term-gnd.ensures.len, c.step_term-run.ensures.len, c.step_term-tp.ensures.len, c.step_term-fast.ensures.len, c.step_term-high.ensures.len, range (the_book c.args.book.now) _ _ (input-place c.args.book.now c.phase_terms-terms.ensures.sealed c.phase_terms-terms.result.now c.phase_terms-terms.ensures.value 5 _ refl))
+pub step_term-low-requires-clause-place : goal.step_term-low-requires-clause-place
+step_term-low-requires-clause-place c =
+    let d = c.args.book.now in
+    (the_book d, c.step_term-high.ensures.fits (the_book c.args.book.now) (c.step_term-fast.ensures.fits (the_book c.args.book.now) (c.step_term-tp.ensures.fits (the_book c.args.book.now) (c.step_term-run.ensures.fits (the_book c.args.book.now) (c.step_term-gnd.ensures.fits (the_book c.args.book.now) c.requires.fits)))), input-place d c.phase_terms-inputs.ensures.sealed c.phase_terms-inputs.result.now c.phase_terms-inputs.ensures.value 5 _ refl)
 
 pub step_term-low-requires-clause-names : goal.step_term-low-requires-clause-names
 step_term-low-requires-clause-names c =
-    rw (c.requires.values, c.requires.active) (input-names c.args.book.now c.phase_terms-terms.ensures.sealed c.phase_terms-terms.result.now c.phase_terms-terms.ensures.value 5 _ refl)
+    rw (c.requires.values, c.requires.active) (input-names c.args.book.now c.phase_terms-inputs.ensures.sealed c.phase_terms-inputs.result.now c.phase_terms-inputs.ensures.value 5 _ refl)
+
+pub returns-clause-fits : goal.returns-clause-fits
+returns-clause-fits c = c.step_term-low.ensures.fits (the_book c.args.book.now) (c.step_term-high.ensures.fits (the_book c.args.book.now) (c.step_term-fast.ensures.fits (the_book c.args.book.now) (c.step_term-tp.ensures.fits (the_book c.args.book.now) (c.step_term-run.ensures.fits (the_book c.args.book.now) (c.step_term-gnd.ensures.fits (the_book c.args.book.now) c.requires.fits)))))
 
 pub returns-clause-inputs : goal.returns-clause-inputs
-returns-clause-inputs c = λ m lends half.
+returns-clause-inputs c = λ m visited lends half.
     let d = c.args.book.now in
-    let t = c.phase_terms-terms.result.now in
-    let same = c.phase_terms-terms.ensures.value in
-    let sealed = c.phase_terms-terms.ensures.sealed in
-    let h1 = input-stands d sealed t same m c.args.now c.args.env.now lends c.requires.phase c.requires.active 0 (omega arith) (placed_of t.gnd) refl _ _ _ c.step_term-gnd.ensures.steps half in
-    let h2 = input-stands d sealed t same m c.args.now c.args.env.now lends c.requires.phase c.requires.active 1 (omega arith) (placed_of t.run) refl _ _ _ c.step_term-run.ensures.steps h1 in
-    let h3 = input-stands d sealed t same m c.args.now c.args.env.now lends c.requires.phase c.requires.active 2 (omega arith) (placed_of t.tp) refl _ _ _ c.step_term-tp.ensures.steps h2 in
-    let h4 = input-stands d sealed t same m c.args.now c.args.env.now lends c.requires.phase c.requires.active 3 (omega arith) (placed_of t.fast) refl _ _ _ c.step_term-fast.ensures.steps h3 in
-    let h5 = input-stands d sealed t same m c.args.now c.args.env.now lends c.requires.phase c.requires.active 4 (omega arith) (placed_of t.high) refl _ _ _ c.step_term-high.ensures.steps h4 in
+    let t = c.phase_terms-inputs.result.now in
+    let same = c.phase_terms-inputs.ensures.value in
+    let sealed = c.phase_terms-inputs.ensures.sealed in
+    let h1 = input-stands d sealed t same m c.args.now c.args.env.now lends c.requires.phase c.requires.active 0 (omega arith) (placed_of t.gnd) refl visited _ _ _ c.step_term-gnd.ensures.steps half in
+    let h2 = input-stands d sealed t same m c.args.now c.args.env.now lends c.requires.phase c.requires.active 1 (omega arith) (placed_of t.run) refl visited _ _ _ c.step_term-run.ensures.steps h1 in
+    let h3 = input-stands d sealed t same m c.args.now c.args.env.now lends c.requires.phase c.requires.active 2 (omega arith) (placed_of t.tp) refl visited _ _ _ c.step_term-tp.ensures.steps h2 in
+    let h4 = input-stands d sealed t same m c.args.now c.args.env.now lends c.requires.phase c.requires.active 3 (omega arith) (placed_of t.fast) refl visited _ _ _ c.step_term-fast.ensures.steps h3 in
+    let h5 = input-stands d sealed t same m c.args.now c.args.env.now lends c.requires.phase c.requires.active 4 (omega arith) (placed_of t.high) refl visited _ _ _ c.step_term-high.ensures.steps h4 in
     inputs-are d m c.args.now t _ _ _ _ _ _ same record {
-      gnd_is = input-truth d sealed t same m c.args.now c.args.env.now lends c.requires.phase c.requires.active 0 (omega arith) (placed_of t.gnd) refl _ _ _ c.step_term-gnd.ensures.steps half;
-      run_is = input-truth d sealed t same m c.args.now c.args.env.now lends c.requires.phase c.requires.active 1 (omega arith) (placed_of t.run) refl _ _ _ c.step_term-run.ensures.steps h1;
-      tp_is = input-truth d sealed t same m c.args.now c.args.env.now lends c.requires.phase c.requires.active 2 (omega arith) (placed_of t.tp) refl _ _ _ c.step_term-tp.ensures.steps h2;
-      fast_is = input-truth d sealed t same m c.args.now c.args.env.now lends c.requires.phase c.requires.active 3 (omega arith) (placed_of t.fast) refl _ _ _ c.step_term-fast.ensures.steps h3;
-      high_is = input-truth d sealed t same m c.args.now c.args.env.now lends c.requires.phase c.requires.active 4 (omega arith) (placed_of t.high) refl _ _ _ c.step_term-high.ensures.steps h4;
-      low_is = input-truth d sealed t same m c.args.now c.args.env.now lends c.requires.phase c.requires.active 5 (omega arith) (placed_of t.low) refl _ _ _ c.step_term-low.ensures.steps h5;
+      gnd_is = input-truth d sealed t same m c.args.now c.args.env.now lends c.requires.phase c.requires.active 0 (omega arith) (placed_of t.gnd) refl visited _ _ _ c.step_term-gnd.ensures.steps half;
+      run_is = input-truth d sealed t same m c.args.now c.args.env.now lends c.requires.phase c.requires.active 1 (omega arith) (placed_of t.run) refl visited _ _ _ c.step_term-run.ensures.steps h1;
+      tp_is = input-truth d sealed t same m c.args.now c.args.env.now lends c.requires.phase c.requires.active 2 (omega arith) (placed_of t.tp) refl visited _ _ _ c.step_term-tp.ensures.steps h2;
+      fast_is = input-truth d sealed t same m c.args.now c.args.env.now lends c.requires.phase c.requires.active 3 (omega arith) (placed_of t.fast) refl visited _ _ _ c.step_term-fast.ensures.steps h3;
+      high_is = input-truth d sealed t same m c.args.now c.args.env.now lends c.requires.phase c.requires.active 4 (omega arith) (placed_of t.high) refl visited _ _ _ c.step_term-high.ensures.steps h4;
+      low_is = input-truth d sealed t same m c.args.now c.args.env.now lends c.requires.phase c.requires.active 5 (omega arith) (placed_of t.low) refl visited _ _ _ c.step_term-low.ensures.steps h5;
     }
 
 pub returns-clause-stands : goal.returns-clause-stands
-returns-clause-stands c = λ m lends half.
+returns-clause-stands c = λ m visited lends half.
     let d = c.args.book.now in
-    let t = c.phase_terms-terms.result.now in
-    let same = c.phase_terms-terms.ensures.value in
-    let sealed = c.phase_terms-terms.ensures.sealed in
-    let h1 = input-stands d sealed t same m c.args.now c.args.env.now lends c.requires.phase c.requires.active 0 (omega arith) (placed_of t.gnd) refl _ _ _ c.step_term-gnd.ensures.steps half in
-    let h2 = input-stands d sealed t same m c.args.now c.args.env.now lends c.requires.phase c.requires.active 1 (omega arith) (placed_of t.run) refl _ _ _ c.step_term-run.ensures.steps h1 in
-    let h3 = input-stands d sealed t same m c.args.now c.args.env.now lends c.requires.phase c.requires.active 2 (omega arith) (placed_of t.tp) refl _ _ _ c.step_term-tp.ensures.steps h2 in
-    let h4 = input-stands d sealed t same m c.args.now c.args.env.now lends c.requires.phase c.requires.active 3 (omega arith) (placed_of t.fast) refl _ _ _ c.step_term-fast.ensures.steps h3 in
-    let h5 = input-stands d sealed t same m c.args.now c.args.env.now lends c.requires.phase c.requires.active 4 (omega arith) (placed_of t.high) refl _ _ _ c.step_term-high.ensures.steps h4 in
-    let h6 = input-stands d sealed t same m c.args.now c.args.env.now lends c.requires.phase c.requires.active 5 (omega arith) (placed_of t.low) refl _ _ _ c.step_term-low.ensures.steps h5 in
+    let t = c.phase_terms-inputs.result.now in
+    let same = c.phase_terms-inputs.ensures.value in
+    let sealed = c.phase_terms-inputs.ensures.sealed in
+    let h1 = input-stands d sealed t same m c.args.now c.args.env.now lends c.requires.phase c.requires.active 0 (omega arith) (placed_of t.gnd) refl visited _ _ _ c.step_term-gnd.ensures.steps half in
+    let h2 = input-stands d sealed t same m c.args.now c.args.env.now lends c.requires.phase c.requires.active 1 (omega arith) (placed_of t.run) refl visited _ _ _ c.step_term-run.ensures.steps h1 in
+    let h3 = input-stands d sealed t same m c.args.now c.args.env.now lends c.requires.phase c.requires.active 2 (omega arith) (placed_of t.tp) refl visited _ _ _ c.step_term-tp.ensures.steps h2 in
+    let h4 = input-stands d sealed t same m c.args.now c.args.env.now lends c.requires.phase c.requires.active 3 (omega arith) (placed_of t.fast) refl visited _ _ _ c.step_term-fast.ensures.steps h3 in
+    let h5 = input-stands d sealed t same m c.args.now c.args.env.now lends c.requires.phase c.requires.active 4 (omega arith) (placed_of t.high) refl visited _ _ _ c.step_term-high.ensures.steps h4 in
+    let h6 = input-stands d sealed t same m c.args.now c.args.env.now lends c.requires.phase c.requires.active 5 (omega arith) (placed_of t.low) refl visited _ _ _ c.step_term-low.ensures.steps h5 in
     h6

@@ -1,17 +1,19 @@
-use Rattle.std.proofs.Common.{◌≡◌, ℕ, false, length}
+use Rattle.std.proofs.Common.{◌≡◌, ℕ, suc, false, length}
 use Rattle.ecam_spec.specs.History.{Moment}
 use Rattle.ecam_spec.specs.Situation.{world}
 use Rattle.book_model.specs.Sealed.{the_book}
 use Rattle.book_model.specs.Conditions.{memos_from}
 use Rattle.term_eval.specs.Shown.{Shows}
 use Rattle.fwc_lane.specs.Conditions.{BookHalf, MemosHalf}
+use Rattle.fwc_lane.specs.TermsFit.{TermsFit}
 use Rattle.fwc_lane.proofs.memos.step_memos.Given as goal
 
 abbrev pub invariant-loop-i : goal.invariant-loop-i
 invariant-loop-i l = record {
-  cells : length l.cells.slots ≡ length l.fn.cells.slots;
+  fits : TermsFit (the_book l.book) l.terms;
   flags : length l.flags.items ≡ length l.fn.flags.items;
-  stands : (m : ℕ → Moment) → Shows l.env (world (the_book l.book) m) l.now → BookHalf (the_book l.book) m l.now (memos_from (the_book l.book)) l.fn.cells.slots
-      → MemosHalf (the_book l.book) m l.now l.i l.cells.slots l.flags.items;
+  stands : (m : ℕ → Moment) (visits : ℕ) → Shows l.env (world (the_book l.book) m) l.now
+      → BookHalf (the_book l.book) m l.now (memos_from (the_book l.book)) (suc (length (the_book l.book).alerts)) visits l.fn.terms
+      → MemosHalf (the_book l.book) m l.now l.i visits l.terms l.flags.items;
   kept : l.turned ≡ false → l.flags.items ≡ l.fn.flags.items;
 }

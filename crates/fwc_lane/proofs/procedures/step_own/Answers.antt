@@ -1,41 +1,72 @@
-use Rattle.std.proofs.Common.{◌≡◌, ◌+◌, ◌<◌, false, length, take, get_or, refl, sym, ap, ◌∙◌, arith}
+use Rattle.std.proofs.Common.{◌≡◌, suc, ◌+◌, ◌*◌, ◌<◌, false, length, take, get_or, slice_get, refl, sym, ap, subst, ◌∙◌, arith}
 use Rattle.ecam_spec.specs.BookTerms.{lines_of}
+use Rattle.book_model.specs.View.{placed_of}
 use Rattle.book_model.specs.Sealed.{the_book}
+use Rattle.book_model.specs.Conditions.{places, lines_from}
 use Rattle.book_model.proofs.BookLines.{lines-fit, few-lines-in-all}
+use Rattle.book_model.proofs.BookLists.{many-alerts}
+use Rattle.book_model.proofs.BookLimits.{sizes}
 use Rattle.book_model.proofs.ConditionPlaces.{line-when, line-done}
-use Rattle.book_model.proofs.ConditionRanges.{range}
 use Rattle.book_model.proofs.ConditionNames.{when-names, done-names}
+use Rattle.fwc_lane.specs.Conditions.{StepsLine}
 use Rattle.fwc_lane.proofs.FlagSteps.{set-length, left-false, right-false}
 use Rattle.fwc_lane.proofs.ProcedureSteps.{line-on, own-begin, own-end}
 use Rattle.fwc_lane.proofs.procedures.step_own.Goals as goal
 
 pub loop-i-init : goal.loop-i-init
 loop-i-init c = record {
-  cells = refl;
+  fits = c.requires.fits;
   flags = refl;
-  stands = λ m shows half. own-begin (the_book c.args.book.now) m c.args.now _ _ _ half;
+  stands = λ m visits shows half. own-begin (the_book c.args.book.now) m c.args.now _ visits _ _ half;
   kept = λ e. refl;
 }
 
-pub step_line-stands-requires-clause-when_range : goal.step_line-stands-requires-clause-when_range
-step_line-stands-requires-clause-when_range c =
+pub overflow_add-line : goal.overflow_add-line
+overflow_add-line c =
     let d = c.args.book.now in
     let xs = c.alerts.result.now in
     let lt : c.args.alert < length xs = omega (arith, c.requires.alert, ap length c.alerts.ensures.value) in
     let x = get_or xs c.args.alert c.index-alerts-alert.result in
     let here = ap (get_or xs c.args.alert) c.index-alerts-alert.is in
     let inside : c.loop-i.i < length x.lines.items = omega (arith, c.loop-i-test.true, c.len-i-end.ensures, x.lines.ok.0) in
-    omega (arith, c.requires.cells, c.loop-i.invariant.cells, range (the_book d) _ _ (line-when d c.alerts.ensures.sealed xs c.args.alert x c.alerts.ensures.value lt here x.lines.items c.loop-i.i c.index.result.now refl inside c.index.ensures))
+    omega (arith, inside, c.line_at-first.ensures.value, lines-fit d xs c.args.alert x c.alerts.ensures.value lt here, few-lines-in-all d c.alerts.ensures.sealed)
 
-pub step_line-stands-requires-clause-done_range : goal.step_line-stands-requires-clause-done_range
-step_line-stands-requires-clause-done_range c =
+pub line_number-requires : goal.line_number-requires
+line_number-requires c =
     let d = c.args.book.now in
     let xs = c.alerts.result.now in
     let lt : c.args.alert < length xs = omega (arith, c.requires.alert, ap length c.alerts.ensures.value) in
     let x = get_or xs c.args.alert c.index-alerts-alert.result in
     let here = ap (get_or xs c.args.alert) c.index-alerts-alert.is in
     let inside : c.loop-i.i < length x.lines.items = omega (arith, c.loop-i-test.true, c.len-i-end.ensures, x.lines.ok.0) in
-    omega (arith, c.requires.cells, c.loop-i.invariant.cells, range (the_book d) _ _ (line-done d c.alerts.ensures.sealed xs c.args.alert x c.alerts.ensures.value lt here x.lines.items c.loop-i.i c.index.result.now refl inside c.index.ensures))
+    omega (arith, inside, c.line_at-first.ensures.value, lines-fit d xs c.args.alert x c.alerts.ensures.value lt here, few-lines-in-all d c.alerts.ensures.sealed)
+
+pub step_line-stands-requires-clause-number : goal.step_line-stands-requires-clause-number
+step_line-stands-requires-clause-number c =
+    let d = c.args.book.now in
+    let xs = c.alerts.result.now in
+    let lt : c.args.alert < length xs = omega (arith, c.requires.alert, ap length c.alerts.ensures.value) in
+    let x = get_or xs c.args.alert c.index-alerts-alert.result in
+    let here = ap (get_or xs c.args.alert) c.index-alerts-alert.is in
+    let inside : c.loop-i.i < length x.lines.items = omega (arith, c.loop-i-test.true, c.len-i-end.ensures, x.lines.ok.0) in
+    omega (arith, inside, c.line_number.ensures, c.line_at-first.ensures.value, lines-fit d xs c.args.alert x c.alerts.ensures.value lt here, few-lines-in-all d c.alerts.ensures.sealed, many-alerts d, (sizes d c.alerts.ensures.sealed).alerts)
+
+pub step_line-stands-requires-clause-places : goal.step_line-stands-requires-clause-places
+step_line-stands-requires-clause-places c =
+    let d = c.args.book.now in
+    let xs = c.alerts.result.now in
+    let lt : c.args.alert < length xs = omega (arith, c.requires.alert, ap length c.alerts.ensures.value) in
+    let x = get_or xs c.args.alert c.index-alerts-alert.result in
+    let here = ap (get_or xs c.args.alert) c.index-alerts-alert.is in
+    let inside : c.loop-i.i < length x.lines.items = omega (arith, c.loop-i-test.true, c.len-i-end.ensures, x.lines.ok.0) in
+    let at : c.line_number.result ≡ lines_from (the_book d) + 2 * (length (lines_of (take c.args.alert (the_book d).alerts)) + c.loop-i.i) =
+    omega (arith, c.line_number.ensures, c.line_at-first.ensures.value) in
+    let next : suc c.line_number.result ≡ lines_from (the_book d) + 2 * (length (lines_of (take c.args.alert (the_book d).alerts)) + c.loop-i.i) + 1 = omega (arith, at) in (
+      the_book d,
+      c.loop-i.invariant.fits,
+      ap (slice_get (places (the_book d))) at ∙ line-when d c.alerts.ensures.sealed xs c.args.alert x c.alerts.ensures.value lt here x.lines.items c.loop-i.i c.index.result.now refl inside c.index.ensures,
+      ap (slice_get (places (the_book d))) next ∙ line-done d c.alerts.ensures.sealed xs c.args.alert x c.alerts.ensures.value lt here x.lines.items c.loop-i.i c.index.result.now refl inside c.index.ensures,
+    )
 
 pub step_line-stands-requires-clause-when_names : goal.step_line-stands-requires-clause-when_names
 step_line-stands-requires-clause-when_names c =
@@ -56,16 +87,6 @@ step_line-stands-requires-clause-done_names c =
     let here = ap (get_or xs c.args.alert) c.index-alerts-alert.is in
     let inside : c.loop-i.i < length x.lines.items = omega (arith, c.loop-i-test.true, c.len-i-end.ensures, x.lines.ok.0) in
     rw (c.requires.values, c.requires.active) (done-names d c.alerts.ensures.sealed xs c.args.alert x c.alerts.ensures.value lt here x.lines.items c.loop-i.i c.index.result.now refl inside c.index.ensures)
-
-pub overflow_add-first : goal.overflow_add-first
-overflow_add-first c =
-    let d = c.args.book.now in
-    let xs = c.alerts.result.now in
-    let lt : c.args.alert < length xs = omega (arith, c.requires.alert, ap length c.alerts.ensures.value) in
-    let x = get_or xs c.args.alert c.index-alerts-alert.result in
-    let here = ap (get_or xs c.args.alert) c.index-alerts-alert.is in
-    let inside : c.loop-i.i < length x.lines.items = omega (arith, c.loop-i-test.true, c.len-i-end.ensures, x.lines.ok.0) in
-    omega (arith, inside, c.line_at-first.ensures.value, lines-fit d xs c.args.alert x c.alerts.ensures.value lt here, few-lines-in-all d c.alerts.ensures.sealed)
 
 pub set_flag-other-requires : goal.set_flag-other-requires
 set_flag-other-requires c =
@@ -88,23 +109,26 @@ loop-i-preserved c =
     let is = c.set_flag-other.ensures.items in
     let first = length (lines_of (take c.args.alert (the_book d).alerts)) in
     let room : first + c.loop-i.i < length c.loop-i.flags.items = omega (arith, inside, lines-fit d xs c.args.alert x c.alerts.ensures.value lt here, c.loop-i.invariant.flags, c.requires.flags) in
+    let at : c.line_number.result ≡ lines_from (the_book d) + 2 * (first + c.loop-i.i) = omega (arith, c.line_number.ensures, c.line_at-first.ensures.value) in
+    let steps =
+    subst (λ n. StepsLine c.args.env.now c.args.now n (placed_of c.index.result.now.when) (placed_of c.index.result.now.done) c.loop-i.terms c.step_line-stands.new.terms c.step_line-stands.result) at c.step_line-stands.ensures.steps in
     record {
-      cells = c.step_line-stands.ensures.len ∙ c.loop-i.invariant.cells;
+      fits = c.step_line-stands.ensures.fits (the_book d) c.loop-i.invariant.fits;
       flags = set-length _ _ _ _ false is ∙ c.loop-i.invariant.flags;
-      stands = λ m shows half.
-          line-on d c.alerts.ensures.sealed xs c.args.alert x c.alerts.ensures.value lt here x.lines.items c.loop-i.i c.index.result.now refl inside c.index.ensures m c.args.now c.args.env.now shows c.loop-i.cells.slots c.step_line-stands.new.cells.slots c.step_line-stands.result
-          c.step_line-stands.ensures.steps c.loop-i.flags.items c.set_flag-other.new.flags.items (rw c.line_at-first.ensures.value at is) room (c.loop-i.invariant.stands m shows half);
+      stands = λ m visits shows half.
+          line-on d c.alerts.ensures.sealed xs c.args.alert x c.alerts.ensures.value lt here x.lines.items c.loop-i.i c.index.result.now refl inside c.index.ensures m c.args.now c.args.env.now shows visits c.loop-i.terms c.step_line-stands.new.terms c.step_line-stands.result
+          steps c.loop-i.flags.items c.set_flag-other.new.flags.items (rw c.line_at-first.ensures.value at is) room (c.loop-i.invariant.stands m visits shows half);
       kept = λ off.
           let none = sym c.is_either-turned.ensures ∙ off in
           c.set_flag-other.ensures.kept (right-false _ _ none) ∙ c.loop-i.invariant.kept (left-false _ _ none);
     }
 
 pub returns-clause-stands : goal.returns-clause-stands
-returns-clause-stands c = λ m shows half.
+returns-clause-stands c = λ m visits shows half.
     let d = c.args.book.now in
     let xs = c.alerts.result.now in
     let lt : c.args.alert < length xs = omega (arith, c.requires.alert, ap length c.alerts.ensures.value) in
     let x = get_or xs c.args.alert c.index-alerts-alert.result in
     let here = ap (get_or xs c.args.alert) c.index-alerts-alert.is in
     let all : c.loop-i.i ≡ length x.lines.items = omega (arith, c.loop-i-test.false, c.loop-i.auto.i-end, c.len-i-end.ensures, x.lines.ok.0) in
-    own-end d xs c.args.alert x c.alerts.ensures.value lt here m c.args.now c.loop-i.i _ _ all (c.loop-i.invariant.stands m shows half)
+    own-end d xs c.args.alert x c.alerts.ensures.value lt here m c.args.now c.loop-i.i visits _ _ all (c.loop-i.invariant.stands m visits shows half)

@@ -1,8 +1,6 @@
 use Rattle.std.proofs.Common.{length, ap, arith}
 use Rattle.book_model.specs.Sealed.{the_book}
-use Rattle.book_model.specs.Conditions.{places, world_of}
 use Rattle.book_model.proofs.BookLists.{many-alerts}
-use Rattle.fwc_lane.proofs.Stepping.{half-none}
 use Rattle.fwc_lane.proofs.Showing.{shows-whole}
 use Rattle.fwc_lane.proofs.step.step_conditions.Goals as goal
 
@@ -13,43 +11,38 @@ pub step_memos-memos-requires-clause-active : goal.step_memos-memos-requires-cla
 step_memos-memos-requires-clause-active c = omega (arith, ap length c.active.ensures.value, c.step_alerts.ensures.fits.active, many-alerts c.args.book.now)
 
 pub returns-clause-stands : goal.returns-clause-stands
-returns-clause-stands c = λ m lends was.
+returns-clause-stands c = λ m visits lends was.
     let b = the_book c.args.book.now in
-    let start = half-none (places b) (world_of b m) c.args.now c.args.cells.now.slots was.cells in
-    let phase = c.step_phase-phase.ensures.phase m lends start was.phases in
-    let alerts = c.step_phase-phase.ensures.stands m lends start in
-    let truths = c.step_alerts.ensures.truths m (record { values = lends.values; pressed = lends.pressed; one_up = lends.one_up; two_up = lends.two_up }) phase alerts was.truths in
-    let lines = c.step_alerts.ensures.stands m (record { values = lends.values; pressed = lends.pressed; one_up = lends.one_up; two_up = lends.two_up }) phase alerts was.truths in
+    let phase = c.step_phase-phase.ensures.phase m visits lends was.terms was.phases in
+    let alerts = c.step_phase-phase.ensures.stands m visits lends was.terms was.phases was.was in
+    let truths = c.step_alerts.ensures.truths m visits (record { values = lends.values; pressed = lends.pressed; one_up = lends.one_up; two_up = lends.two_up }) phase alerts was.truths in
+    let lines = c.step_alerts.ensures.stands m visits (record { values = lends.values; pressed = lends.pressed; one_up = lends.one_up; two_up = lends.two_up }) phase alerts was.truths in
     let shows = shows-whole b m c.args.now c.args.env.now lends _ c.step_phase-phase.result c.active.result phase c.active.ensures.value truths in
     record {
-      cells = c.step_memos-memos.ensures.stands m shows (c.step_lines-lines.ensures.stands m shows lines);
-      phases = c.step_phase-phase.ensures.state m lends start was.phases;
+      terms = c.step_memos-memos.ensures.stands m visits shows (c.step_lines-lines.ensures.stands m visits shows lines);
+      phases = c.step_phase-phase.ensures.state m visits lends was.terms was.phases;
       truths = truths;
     }
 
 pub returns-clause-phase : goal.returns-clause-phase
-returns-clause-phase c = λ m lends was.
-    let b = the_book c.args.book.now in
-    c.step_phase-phase.ensures.phase m lends (half-none (places b) (world_of b m) c.args.now c.args.cells.now.slots was.cells) was.phases
+returns-clause-phase c = λ m visits lends was. c.step_phase-phase.ensures.phase m visits lends was.terms was.phases
 
 pub returns-clause-line_flags : goal.returns-clause-line_flags
-returns-clause-line_flags c = λ m lends was.
+returns-clause-line_flags c = λ m visits lends was.
     let b = the_book c.args.book.now in
-    let start = half-none (places b) (world_of b m) c.args.now c.args.cells.now.slots was.cells in
-    let phase = c.step_phase-phase.ensures.phase m lends start was.phases in
-    let alerts = c.step_phase-phase.ensures.stands m lends start in
-    let truths = c.step_alerts.ensures.truths m (record { values = lends.values; pressed = lends.pressed; one_up = lends.one_up; two_up = lends.two_up }) phase alerts was.truths in
-    let lines = c.step_alerts.ensures.stands m (record { values = lends.values; pressed = lends.pressed; one_up = lends.one_up; two_up = lends.two_up }) phase alerts was.truths in
+    let phase = c.step_phase-phase.ensures.phase m visits lends was.terms was.phases in
+    let alerts = c.step_phase-phase.ensures.stands m visits lends was.terms was.phases was.was in
+    let truths = c.step_alerts.ensures.truths m visits (record { values = lends.values; pressed = lends.pressed; one_up = lends.one_up; two_up = lends.two_up }) phase alerts was.truths in
+    let lines = c.step_alerts.ensures.stands m visits (record { values = lends.values; pressed = lends.pressed; one_up = lends.one_up; two_up = lends.two_up }) phase alerts was.truths in
     let shows = shows-whole b m c.args.now c.args.env.now lends _ c.step_phase-phase.result c.active.result phase c.active.ensures.value truths in
-    c.step_lines-lines.ensures.told m shows lines
+    c.step_lines-lines.ensures.told m visits shows lines
 
 pub returns-clause-memo_flags : goal.returns-clause-memo_flags
-returns-clause-memo_flags c = λ m lends was.
+returns-clause-memo_flags c = λ m visits lends was.
     let b = the_book c.args.book.now in
-    let start = half-none (places b) (world_of b m) c.args.now c.args.cells.now.slots was.cells in
-    let phase = c.step_phase-phase.ensures.phase m lends start was.phases in
-    let alerts = c.step_phase-phase.ensures.stands m lends start in
-    let truths = c.step_alerts.ensures.truths m (record { values = lends.values; pressed = lends.pressed; one_up = lends.one_up; two_up = lends.two_up }) phase alerts was.truths in
-    let lines = c.step_alerts.ensures.stands m (record { values = lends.values; pressed = lends.pressed; one_up = lends.one_up; two_up = lends.two_up }) phase alerts was.truths in
+    let phase = c.step_phase-phase.ensures.phase m visits lends was.terms was.phases in
+    let alerts = c.step_phase-phase.ensures.stands m visits lends was.terms was.phases was.was in
+    let truths = c.step_alerts.ensures.truths m visits (record { values = lends.values; pressed = lends.pressed; one_up = lends.one_up; two_up = lends.two_up }) phase alerts was.truths in
+    let lines = c.step_alerts.ensures.stands m visits (record { values = lends.values; pressed = lends.pressed; one_up = lends.one_up; two_up = lends.two_up }) phase alerts was.truths in
     let shows = shows-whole b m c.args.now c.args.env.now lends _ c.step_phase-phase.result c.active.result phase c.active.ensures.value truths in
-    c.step_memos-memos.ensures.told m shows (c.step_lines-lines.ensures.stands m shows lines)
+    c.step_memos-memos.ensures.told m visits shows (c.step_lines-lines.ensures.stands m visits shows lines)

@@ -1,5 +1,5 @@
 use Rattle.book_model.specs.Sealed.{the_book}
-use Rattle.fwc_lane.proofs.Lanes.{word-lane, press-lane, release-lane, fail-lane, up-lane, end-lane, tick-lane}
+use Rattle.fwc_lane.proofs.Lanes.{word-lane, press-lane, release-lane, fail-lane, up-lane, end-lane, tick-lane, tick-visits}
 use Rattle.fwc_lane.proofs.lane.Lane.event.Goals as goal
 
 pub returns-in-Word-clause-stands : goal.returns-in-Word-clause-stands
@@ -28,3 +28,9 @@ returns-in-Up-clause-stands c = λ e up stands. rw c.in-Up.is (up-lane (the_book
 
 pub returns-in-End-clause-stands : goal.returns-in-End-clause-stands
 returns-in-End-clause-stands c = λ e up stands. rw c.in-End.is (end-lane (the_book c.args.book.now) e c.args.self.now stands)
+
+pub returns-in-Tick-clause-visits : goal.returns-in-Tick-clause-visits
+returns-in-Tick-clause-visits c = λ e tick up stands.
+    rw c.in-Tick.is
+    (tick-visits (the_book c.args.book.now) e c.args.one_up c.args.two_up (rw c.in-Tick.is at up) c.args.self.now c.tick.new.self stands
+    (record { params = c.tick.ensures.params; keys = c.tick.ensures.keys; whole = c.tick.ensures.whole }) c.tick.ensures.visits)

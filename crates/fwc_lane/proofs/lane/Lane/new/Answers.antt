@@ -1,4 +1,4 @@
-use Rattle.std.proofs.Common.{false, length, refl, ap, ◌∙◌, arith}
+use Rattle.std.proofs.Common.{false, length, refl, ap, arith}
 use Rattle.std.specs.Prelude.{replicate}
 use Rattle.book_model.specs.Sealed.{the_book}
 use Rattle.book_model.proofs.BookLists.{many-parameters, many-memos}
@@ -13,7 +13,7 @@ returns-clause-fits c = record {
   attention = c.in_ok-attention.ensures.fits;
   selector = c.new-7.ensures.fits (the_book c.args.book.now);
   values = omega (arith, c.in_ok-values.ensures.len, c.in_ok-values.values.ok.0, ap length c.params.ensures.value, many-parameters c.args.book.now);
-  cells = c.in_ok-cells.ensures.len ∙ c.slots.ensures.value;
+  terms = c.in_ok-terms.ensures.fits;
   lines = omega (arith, c.in_ok-lines.ensures.len, c.in_ok-lines.lines.ok.0, c.line_count.ensures.value);
   memos = omega (arith, c.in_ok-memos.ensures.len, c.in_ok-memos.memos.ok.0, ap length c.memos.ensures.value, many-memos c.args.book.now);
   truths_moments = c.in_ok-truths.ensures.moments;
@@ -29,7 +29,7 @@ returns-clause-stands c = λ f.
       ticked = refl;
       params = c.in_ok-params.ensures.stands;
       keys = c.new-8.ensures.stands;
-      cells = c.in_ok-cells.ensures.stands;
+      cells = c.in_ok-terms.ensures.stands;
       phases = c.new-6.ensures;
       truths = c.in_ok-truths.ensures.stands;
       marks = c.in_ok-marks.ensures.stands;

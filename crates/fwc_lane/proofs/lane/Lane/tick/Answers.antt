@@ -8,32 +8,32 @@ use Rattle.book_model.specs.Told.{TellsOf}
 use Rattle.book_model.specs.Sealed.{the_book}
 use Rattle.book_model.proofs.BookLists.{many-parameters}
 use Rattle.fwc_lane.specs.Scenes.{AreTurned}
-use Rattle.fwc_lane.proofs.Ticks.{of-last, are-turned, lends-from, values-told}
+use Rattle.fwc_lane.proofs.Ticks.{of-last, are-turned, lends-from, values-told, terms-after}
 use Rattle.fwc_lane.proofs.lane.Lane.tick.Goals as goal
 
 pub step_conditions-stepped-requires-clause-values : goal.step_conditions-stepped-requires-clause-values
-step_conditions-stepped-requires-clause-values c = ap length c.deref.ensures.value ∙ c.read_values-values.ensures.many ∙ c.requires.fits.values ∙ many-parameters c.args.book.now
+step_conditions-stepped-requires-clause-values c = ap length c.deref.ensures.value ∙ c.begin_moment-values.ensures.many ∙ c.requires.fits.values ∙ many-parameters c.args.book.now
 
 pub returns-clause-whole : goal.returns-clause-whole
 returns-clause-whole c = λ m came was.
     let b = the_book c.args.book.now in
     let k = c.args.self.now.moments in
-    let all = c.read_values-values.ensures.many ∙ c.requires.fits.values in
-    let values = values-told b m k c.read_values-values.new.values.items (c.read_values-values.ensures.values (words_in b m) k came.words) in
+    let all = c.begin_moment-values.ensures.many ∙ c.requires.fits.values in
+    let values = values-told b m k c.begin_moment-values.new.values.items (c.begin_moment-values.ensures.values (words_in b m) k came.words) in
     let told : (i : ℕ) → i < length c.deref.result.now → get_or c.deref.result.now i None ≡ value_in b m i k =
     λ i lt. ap (λ vs. get_or vs i None) c.deref.ensures.value ∙ values i (omega (arith, ap length c.deref.ensures.value, all)) in
-    let stepped = c.step_conditions-stepped.ensures.stands m (lends-from b m k _ _ _ _ _ _ c.args.self.now.params c.args.self.now.keys refl came told) (record { cells = was.cells; phases = was.phases; truths = was.truths }) in
-    let phase = c.step_conditions-stepped.ensures.phase m (lends-from b m k _ _ _ _ _ _ c.args.self.now.params c.args.self.now.keys refl came told) (record { cells = was.cells; phases = was.phases; truths = was.truths }) in
-    let lines = c.step_conditions-stepped.ensures.line_flags m (lends-from b m k _ _ _ _ _ _ c.args.self.now.params c.args.self.now.keys refl came told) (record { cells = was.cells; phases = was.phases; truths = was.truths }) in
-    let memos = c.step_conditions-stepped.ensures.memo_flags m (lends-from b m k _ _ _ _ _ _ c.args.self.now.params c.args.self.now.keys refl came told) (record { cells = was.cells; phases = was.phases; truths = was.truths }) in
+    let stepped = c.step_conditions-stepped.ensures.stands m c.args.self.now.terms.cells.visits (lends-from b m k _ _ _ _ _ _ c.args.self.now.params c.args.self.now.keys refl came told) (record { terms = c.begin_moment-values.ensures.begins m came was.terms was.values; phases = was.phases; truths = was.truths; was = was.phase }) in
+    let phase = c.step_conditions-stepped.ensures.phase m c.args.self.now.terms.cells.visits (lends-from b m k _ _ _ _ _ _ c.args.self.now.params c.args.self.now.keys refl came told) (record { terms = c.begin_moment-values.ensures.begins m came was.terms was.values; phases = was.phases; truths = was.truths; was = was.phase }) in
+    let lines = c.step_conditions-stepped.ensures.line_flags m c.args.self.now.terms.cells.visits (lends-from b m k _ _ _ _ _ _ c.args.self.now.params c.args.self.now.keys refl came told) (record { terms = c.begin_moment-values.ensures.begins m came was.terms was.values; phases = was.phases; truths = was.truths; was = was.phase }) in
+    let memos = c.step_conditions-stepped.ensures.memo_flags m c.args.self.now.terms.cells.visits (lends-from b m k _ _ _ _ _ _ c.args.self.now.params c.args.self.now.keys refl came told) (record { terms = c.begin_moment-values.ensures.begins m came was.terms was.values; phases = was.phases; truths = was.truths; was = was.phase }) in
     let enters = c.enters_one.ensures b m k was.ticked phase was.phase in
     let crew = c.step_crew.ensures.stands m k stepped.truths came.strokes enters (record { marks = was.marks; lights = was.attention; selection = was.selector }) in
     let turned : AreTurned b m k c.of-turned.result =
-    are-turned b m k c.args.self.now c.of-turned.result c.step_conditions-stepped.result.phase c.read_values-values.new.values.items c.step_conditions-stepped.new.lines.items c.step_conditions-stepped.new.memos.items
+    are-turned b m k c.args.self.now c.of-turned.result c.step_conditions-stepped.result.phase c.begin_moment-values.new.values.items c.step_conditions-stepped.new.lines.items c.step_conditions-stepped.new.memos.items
     c.step_crew.new.marks c.normal-normal.result c.normal.result was (record {
       first = c.of-turned.ensures.first;
       phase_kept = c.of-turned.ensures.phase;
-      values_kept = λ off. c.read_values-values.ensures.kept (sym c.of-turned.ensures.values ∙ off);
+      values_kept = λ off. c.begin_moment-values.ensures.kept (sym c.of-turned.ensures.values ∙ off);
       lines_kept = λ off. c.step_conditions-stepped.ensures.lines_kept (sym c.of-turned.ensures.lines ∙ off);
       memos_kept = λ off. c.step_conditions-stepped.ensures.memos_kept (sym c.of-turned.ensures.memos ∙ off);
       marks_kept = λ off. c.step_crew.ensures.kept (sym c.changed.ensures ∙ sym c.of-turned.ensures.marks ∙ off);
@@ -49,14 +49,14 @@ returns-clause-whole c = λ m came was.
     record {
       counted = add-one k;
       ticked = sym (lt-ltb 0 (suc k) (omega arith));
-      cells = stepped.cells;
+      terms = terms-after b m k c.args.self.now.terms.cells.visits c.step_conditions-stepped.new.terms c.args.self.now.params c.args.self.now.keys c.args.one_up c.args.two_up stepped.terms came;
       phases = stepped.phases;
       truths = stepped.truths;
       marks = crew.marks;
       attention = crew.lights;
       selector = crew.selection;
       phase = of-last (λ j. c.step_conditions-stepped.result.phase.number ≡ phase_in b m j) k phase;
-      values = of-last (λ j. (p : ℕ) → p < length b.parameters → get_or c.read_values-values.new.values.items p None ≡ value_in b m p j) k values;
+      values = of-last (λ j. (p : ℕ) → p < length b.parameters → get_or c.begin_moment-values.new.values.items p None ≡ value_in b m p j) k values;
       lines = of-last (λ j. TellsOf c.step_conditions-stepped.new.lines.items (lines_of b.alerts) (line_stands b m j)) k lines;
       memos = of-last (λ j. TellsOf c.step_conditions-stepped.new.memos.items b.memos (λ x. holds (world b m) x.when j)) k memos;
       drawn = c.draw-self.ensures.drawn m k (record {
@@ -80,3 +80,14 @@ returns-clause-whole c = λ m came was.
         selector = crew.selection;
       }) turned was.drawn;
     }
+
+pub returns-clause-visits : goal.returns-clause-visits
+returns-clause-visits c = λ m came was.
+    let b = the_book c.args.book.now in
+    let k = c.args.self.now.moments in
+    let all = c.begin_moment-values.ensures.many ∙ c.requires.fits.values in
+    let values = values-told b m k c.begin_moment-values.new.values.items (c.begin_moment-values.ensures.values (words_in b m) k came.words) in
+    let told : (i : ℕ) → i < length c.deref.result.now → get_or c.deref.result.now i None ≡ value_in b m i k =
+    λ i lt. ap (λ vs. get_or vs i None) c.deref.ensures.value ∙ values i (omega (arith, ap length c.deref.ensures.value, all)) in
+    let stepped = c.step_conditions-stepped.ensures.stands m c.args.self.now.terms.cells.visits (lends-from b m k _ _ _ _ _ _ c.args.self.now.params c.args.self.now.keys refl came told) (record { terms = c.begin_moment-values.ensures.begins m came was.terms was.values; phases = was.phases; truths = was.truths; was = was.phase }) in
+    stepped.terms.counted

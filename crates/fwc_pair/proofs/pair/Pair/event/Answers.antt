@@ -1,11 +1,13 @@
-use Rattle.std.proofs.Common.{◌≡◌, ◌+◌, ◌∷◌, [], ◌++◌, refl, sym, ap, cond, ◌∙◌, subst}
-use Rattle.ecam_spec.specs.History.{flags_with, begun}
+use Rattle.std.proofs.Common.{◌+◌, ◌∷◌, [], ◌++◌, refl, sym, ap, cond, ◌∙◌, subst}
+use Rattle.ecam_spec.specs.History.{changes_computers, flags_with, begun}
 use Rattle.ecam_spec.specs.Replay.{is_tick}
 use Rattle.ecam_kinds.specs.Shown.{picture_of}
 use Rattle.book_model.specs.Sealed.{the_book}
 use Rattle.fwc_pair.specs.PairState.{PairStands}
 use Rattle.fwc_pair.specs.declared.pair.Pair.{Pair}
 use Rattle.fwc_pair.proofs.Pairs.{ShowsUp, are-up, went-on, ended}
+use Rattle.fwc_pair.specs.PairVisits.{Visits, tick_visits}
+use Rattle.fwc_pair.proofs.VisitSteps.{is-tick, visits-are}
 use Rattle.fwc_pair.proofs.pair.Pair.event.Goals as goal
 
 pub returns-clause-stands : goal.returns-clause-stands
@@ -39,3 +41,21 @@ returns-clause-end c = λ is h st.
     let mid = c.note_health.new.self in
     let new : Pair = record { one = c.step.new.lane; two = c.step-2.new.lane; one_up = mid.one_up; two_up = mid.two_up; face = c.show.new.face; changed = c.show.new.changed } in
     ended b h new (subst (λ x. PairStands b (h ++ x ∷ []) new) is (returns-clause-stands c h st))
+
+pub returns-clause-visits : goal.returns-clause-visits
+returns-clause-visits c = λ h st tick.
+    let b = the_book c.args.book.now in
+    let x = c.args.event.now in
+    let mid = c.note_health.new.self in
+    let is = is-tick x tick in
+    let up = c.note_health.ensures.stands h st.flags st.up in
+    let here = are-up h x mid.one_up mid.two_up (c.note_health.ensures.flags ∙ ap (λ f. flags_with f x) st.flags) in
+    let kept = c.note_health.ensures.kept (ap changes_computers is) in (
+      subst (λ (p : Pair). Visits p.one_up (tick_visits b h) p.one c.step.new.lane) kept
+          (subst (λ n. Visits mid.one_up n mid.one c.step.new.lane) (visits-are b h x is) (c.step.ensures.visits (begun h x) tick here up.one)),
+      subst (λ (p : Pair). Visits p.two_up (tick_visits b h) p.two c.step-2.new.lane) kept
+          (subst (λ n. Visits mid.two_up n mid.two c.step-2.new.lane) (visits-are b h x is) (c.step-2.ensures.visits (begun h x) tick here up.two)),
+    )
+
+pub returns-clause-unvisited : goal.returns-clause-unvisited
+returns-clause-unvisited c = λ quiet. (c.step.ensures.unvisited quiet ∙ c.note_health.ensures.unvisited.0, c.step-2.ensures.unvisited quiet ∙ c.note_health.ensures.unvisited.1)

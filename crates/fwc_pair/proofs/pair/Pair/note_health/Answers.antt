@@ -2,6 +2,7 @@ use Rattle.std.proofs.Common.{refl, ap}
 use Rattle.ecam_spec.specs.History.{flags_with, comes_up}
 use Rattle.book_model.specs.Sealed.{the_book}
 use Rattle.fwc_pair.proofs.Pairs.{failed, fail-flags, quiet-up}
+use Rattle.fwc_pair.proofs.VisitSteps.{fail-visits}
 use Rattle.fwc_pair.proofs.pair.Pair.note_health.Goals as goal
 
 pub returns-in-Fail-clause-flags : goal.returns-in-Fail-clause-flags
@@ -49,3 +50,6 @@ returns-in-End-clause-flags c = rw c.in-End.is refl
 
 pub returns-in-End-clause-stands : goal.returns-in-End-clause-stands
 returns-in-End-clause-stands c = λ h same up. quiet-up (the_book c.args.book.now) h c.args.event.now c.args.self.now (ap comes_up c.in-End.is) up
+
+pub returns-in-Fail-clause-unvisited : goal.returns-in-Fail-clause-unvisited
+returns-in-Fail-clause-unvisited c = fail-visits c.in-Fail.computer c.args.self.now c.fail.new.self c.fail.ensures

@@ -1,0 +1,98 @@
+-- Conditions that are woken by the numbers of operands.
+use Rattle.std.proofs.Common.{◌≡◌, ℕ, ◌+◌, ◌<◌, Bool, true, false, ◌&&◌, ◌||◌, eqb, List, [], ◌∷◌, length, slice_get, Option, Some, None, refl, sym, ap, ◌∙◌}
+use Rattle.std.specs.List.{list_any}
+use Rattle.std.specs.Option.{option_map_or}
+use Rattle.std.proofs.lemmas.Option.{slice_get_within}
+use Rattle.ecam_spec.specs.Book.{Book}
+use Rattle.ecam_spec.specs.TermSize.{Placed}
+use Rattle.book_model.specs.declared.draft.Draft.{Draft}
+use Rattle.book_model.specs.Sealed.{the_book}
+use Rattle.book_model.specs.Conditions.{places}
+use Rattle.book_model.proofs.BookLists.{many-parameters, many-alerts}
+use Rattle.term_eval.specs.Woken.{operands}
+use Rattle.watch_lists.specs.declared.number.Sizes.{Sizes}
+use Rattle.watch_lists.specs.Naming.{sizes_of, operand_count, operand_number, names, names_at}
+use Rattle.watch_lists.specs.Listed.{has_term}
+use Rattle.watch_lists.proofs.Lines.{sizes-are}
+use Rattle.wakes.specs.Marks.{is_marked}
+use Rattle.fwc_lane.specs.Waking.{sizes_in, WakesBy}
+use Rattle.fwc_lane.proofs.Ranges.{or-none}
+
+-- ---- some of a list pass a test
+
+four : (a b c d : Bool) → ((a || b) || (c || d)) ≡ ((a || c) || (b || d))
+four true b c d = refl
+four false true true d = refl
+four false true false d = refl
+four false false c d = refl
+
+or-or : (a b c : Bool) → ((a || b) || c) ≡ (a || (b || c))
+or-or true b c = refl
+or-or false b c = refl
+
+pub any-alike : {X : Type 0} (f g : X → Bool) → ((x : X) → f x ≡ g x) → (xs : List X) → list_any f xs ≡ list_any g xs
+any-alike f g same [] = refl
+any-alike f g same (x ∷ xs) = ap (λ b. b || list_any f xs) (same x) ∙ ap (λ b. g x || b) (any-alike f g same xs)
+
+pub any-or : {X : Type 0} (f g : X → Bool) (xs : List X) → list_any (λ x. f x || g x) xs ≡ (list_any f xs || list_any g xs)
+any-or f g [] = refl
+any-or f g (x ∷ xs) = ap (λ b. (f x || g x) || b) (any-or f g xs) ∙ four (f x) (g x) (list_any f xs) (list_any g xs)
+
+pub any-none : {X : Type 0} (f : X → Bool) → ((x : X) → f x ≡ false) → (xs : List X) → list_any f xs ≡ false
+any-none f none [] = refl
+any-none f none (x ∷ xs) = ap (λ b. b || list_any f xs) (none x) ∙ any-none f none xs
+
+-- ---- what wakes
+
+pub wakes-as : (b : Book) (f g : ℕ → Bool) (old new : List ℕ) → ((o : ℕ) → f o ≡ g o) → WakesBy b f old new → WakesBy b g old new
+wakes-as b f g old new same wakes = λ j p is.
+    wakes j p is
+    ∙ ap (λ x. is_marked old j || x) (any-alike (λ x. f (operand_number (sizes_in b) x)) (λ x. g (operand_number (sizes_in b) x)) (λ x. same (operand_number (sizes_in b) x)) (operands p.tree))
+
+pub wakes-none : (b : Book) (f : ℕ → Bool) (marks : List ℕ) → ((o : ℕ) → f o ≡ false) → WakesBy b f marks marks
+wakes-none b f marks none = λ j p is.
+    sym (ap (λ x. is_marked marks j || x) (any-none (λ x. f (operand_number (sizes_in b) x)) (λ x. none (operand_number (sizes_in b) x)) (operands p.tree)) ∙ or-none (is_marked marks j))
+
+-- first by one test, then by another
+pub wakes-then : (b : Book) (f g h : ℕ → Bool) (old mid new : List ℕ) → ((o : ℕ) → h o ≡ (f o || g o)) → WakesBy b f old mid → WakesBy b g mid new → WakesBy b h old new
+wakes-then b f g h old mid new both first second = λ j p is.
+    let n = sizes_in b in
+    second j p is
+    ∙ ap (λ x. x || list_any (λ y. g (operand_number n y)) (operands p.tree)) (first j p is)
+    ∙ or-or (is_marked old j) (list_any (λ y. f (operand_number n y)) (operands p.tree)) (list_any (λ y. g (operand_number n y)) (operands p.tree))
+    ∙ ap (λ x. is_marked old j || x)
+    (sym (any-or (λ y. f (operand_number n y)) (λ y. g (operand_number n y)) (operands p.tree))
+    ∙ any-alike (λ y. f (operand_number n y) || g (operand_number n y)) (λ y. h (operand_number n y)) (λ y. sym (both (operand_number n y))) (operands p.tree))
+
+-- ---- the watch's lists
+
+pub sizes-same : (d : Draft) → sizes_of d ≡ sizes_in (the_book d)
+sizes-same d = sym (sizes-are d (length (the_book d).parameters) (length (the_book d).alerts) (many-parameters d) (many-alerts d))
+
+pub count-same : (d : Draft) (b : Book) → the_book d ≡ b → operand_count (sizes_of d) ≡ length b.parameters + length b.alerts + 28
+count-same d b e = ap operand_count (sizes-same d) ∙ ap (λ c. operand_count (sizes_in c)) e
+
+-- what names an operand is a condition
+pub named-within : (n : Sizes) (ps : List Placed) (j o : ℕ) → names_at n ps j o ≡ true → j < length ps
+unfolding names_at
+named-within n ps j o named = by (slice_get ps j) refl where
+  by : (found : Option Placed) → slice_get ps j ≡ found → j < length ps
+  by None none = absurd (let w : ⊥ = (let clash : false ≡ true = sym (ap (λ f. option_map_or (λ (p : Placed). names n p.tree o) f false) none) ∙ named in cc) in w)
+  by (Some p) is = slice_get_within ps j p is
+
+pub wakes-listed : (d : Draft) (operand : ℕ) (listed old new : List ℕ) (other : Bool) → other ≡ true
+    → ((j : ℕ) → has_term listed j ≡ names_at (sizes_of d) (places (the_book d)) j operand)
+    → ((j : ℕ) → is_marked new j ≡ (is_marked old j || has_term listed j))
+    → WakesBy (the_book d) (λ o. other && eqb o operand) old new
+unfolding names_at
+wakes-listed d operand listed old new other on lists marks = λ j p is.
+    let n = sizes_in (the_book d) in
+    marks j
+    ∙ ap (λ x. is_marked old j || x)
+    (lists j
+    ∙ ap (λ found. option_map_or (λ (q : Placed). names (sizes_of d) q.tree operand) found false) is
+    ∙ ap (λ (m : Sizes). names m p.tree operand) (sizes-same d)
+    ∙ any-alike (λ x. eqb (operand_number n x) operand) (λ x. other && eqb (operand_number n x) operand) (λ x. sym (ap (λ c. c && eqb (operand_number n x) operand) on)) (operands p.tree))
+
+pub wakes-off : (b : Book) (operand : ℕ) (marks : List ℕ) (other : Bool) → other ≡ false → WakesBy b (λ o. other && eqb o operand) marks marks
+wakes-off b operand marks other off = wakes-none b (λ o. other && eqb o operand) marks (λ o. ap (λ c. c && eqb o operand) off)

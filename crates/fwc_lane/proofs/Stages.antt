@@ -1,0 +1,150 @@
+-- What a moment knows of its world grows: the phase, and one alert after another. What is another then wakes those that name
+-- it.
+use Rattle.std.proofs.Common.{◌≡◌, ◌≢◌, ℕ, suc, ◌+◌, ◌-◌, ◌<◌, ◌≤◌, Bool, true, false, not, ◌&&◌, ◌||◌, eqb, List, length, get_or, slice_get, Some, refl, sym, ap, ◌∙◌, inl, inr, arith}
+use Rattle.std.specs.List.{list_any}
+use Rattle.std.proofs.lemmas.Bool.{cases_eq, cases_lt, eq-eqb, ne_eqb}
+use Rattle.std.proofs.lemmas.List.{get_or_past}
+use Rattle.ecam_spec.specs.Keys.{key_number}
+use Rattle.ecam_spec.specs.Past.{Signal}
+use Rattle.ecam_spec.specs.Book.{Book}
+use Rattle.ecam_spec.specs.Term.{World}
+use Rattle.ecam_spec.specs.TermSize.{Placed}
+use Rattle.ecam_spec.specs.History.{Moment}
+use Rattle.ecam_spec.specs.Situation.{phase_in, active_in, known_below, world}
+use Rattle.ecam_spec.proofs.WorldLaws.{known-at, known-length}
+use Rattle.book_model.specs.declared.draft.Draft.{Draft}
+use Rattle.book_model.specs.Sealed.{the_book, IsSealed}
+use Rattle.book_model.specs.Conditions.{places, world_of}
+use Rattle.term_eval.specs.Woken.{Operand, operands, differ, turned, moved}
+use Rattle.term_eval.specs.Woken.Operand.{value, phase, activity, key, health}
+use Rattle.watch_lists.specs.Naming.{IsOperand, operand_number}
+use Rattle.watch_lists.proofs.Scope.{any_same}
+use Rattle.wakes.specs.Marks.{is_marked}
+use Rattle.fwc_lane.specs.declared.terms.Terms.{Terms}
+use Rattle.fwc_lane.specs.Waking.{sizes_in, WakesBy}
+use Rattle.fwc_lane.specs.Conditions.{HalfStepped, TellsMoved, known_world, BookHalf}
+use Rattle.fwc_lane.proofs.FlagSteps.{left-false}
+use Rattle.fwc_lane.proofs.Ranges.{and-none, and-all, or-none}
+use Rattle.fwc_lane.proofs.Hitting.{any-or}
+use Rattle.fwc_lane.proofs.NamesWithin.{names-within}
+
+-- ---- more is marked
+
+or-swap : (a b c : Bool) → ((a || b) || c) ≡ ((a || c) || b)
+or-swap true b c = refl
+or-swap false true true = refl
+or-swap false true false = refl
+or-swap false false true = refl
+or-swap false false false = refl
+
+pub half-more : (ps : List Placed) (worlds : ℕ → World) (hit hit' : Operand → Bool) (k i visited : ℕ) (t : Terms) (marks : List ℕ) (more : Placed → Bool)
+    → ((j : ℕ) (p : Placed) → slice_get ps j ≡ Some p → is_marked marks j ≡ (is_marked t.woken j || more p))
+    → ((h : ℕ) → k ≡ suc h → (j : ℕ) (p : Placed) → slice_get ps j ≡ Some p → list_any hit' (operands p.tree) ≡ (list_any hit (operands p.tree) || more p))
+    → HalfStepped ps worlds hit k i visited t → HalfStepped ps worlds hit' k i visited (record t { woken = marks })
+half-more ps worlds hit hit' k i visited t marks more marked hits half = record {
+  stepped = λ j p lt is. let was = half.stepped j p lt is in (record { stands = was.stands; told = was.told; next = was.next });
+  left = λ j p le is.
+      let was = half.left j p le is in (record {
+        stands = was.stands;
+        first = λ e. marked j p is ∙ ap (λ b. b || more p) (was.first e);
+        later = λ h e.
+            let own = was.later h e in (record {
+              due = own.due;
+              told = own.told;
+              next = own.next;
+              marks = marked j p is ∙ ap (λ b. b || more p) own.marks ∙ or-swap (list_any hit (operands p.tree)) (eqb own.due (suc h)) (more p) ∙ ap (λ b. b || eqb own.due (suc h)) (sym (hits h e j p is));
+              kept = λ off. own.kept (left-false (is_marked t.woken j) (more p) (sym (marked j p is) ∙ off));
+            });
+      });
+  counted = half.counted;
+}
+
+-- ---- what moved of what is known
+
+module _ (b : Book) (m : ℕ → Moment) where
+  abbrev params : ℕ
+  params = length b.parameters
+
+  abbrev alerts : ℕ
+  alerts = length b.alerts
+
+  off-or : (f other : Bool) (n o : ℕ) → n ≢ o → f ≡ (f || (other && eqb n o))
+  off-or f other n o ne = sym (ap (λ c. f || (other && c)) (ne_eqb n o ne) ∙ ap (λ c. f || c) (and-none other) ∙ or-none f)
+
+  -- the phase is known
+  pub phase-moves : (k h phase-now phase-was : ℕ) (other : Bool) → k ≡ suc h → other ≡ not (eqb phase-now phase-was) → phase-now ≡ phase_in b m k → phase-was ≡ phase_in b m h
+      → (x : Operand) → IsOperand (sizes_in b) x
+      → moved (known_world b m 1) k x ≡ (moved (known_world b m 0) k x || (other && eqb (operand_number (sizes_in b) x) (params + alerts)))
+  unfolding moved known_below
+  phase-moves k h now was other e is now-is was-is (value p) at = off-or _ other p (params + alerts) (λ e. absurd (omega (arith, at, e)))
+  phase-moves k h now was other e is now-is was-is phase at =
+      let back : k - 1 ≡ h = omega (arith, e) in
+      sym (ap (λ c. other && c) (eq-eqb (params + alerts) (params + alerts) refl) ∙ and-all other ∙ is
+      ∙ ap (λ n. not (eqb n was)) now-is ∙ ap (λ n. not (eqb (phase_in b m k) n)) (was-is ∙ ap (phase_in b m) (sym back)))
+  phase-moves k h now was other e is now-is was-is (activity a) at = off-or false other (params + a) (params + alerts) (λ e. absurd (omega (arith, at, e)))
+  phase-moves k h now was other e is now-is was-is (key x) at = off-or _ other (params + alerts + 1 + key_number x) (params + alerts) (λ e. absurd (omega (arith, e)))
+  phase-moves k h now was other e is now-is was-is (health c) at = off-or _ other (params + alerts + 25 + c) (params + alerts) (λ e. absurd (omega (arith, e)))
+
+  -- one alert more is known
+  beyond : (n i : ℕ) → n ≤ i → get_or (known_below b m n) i (λ k. false) ≡ (λ k. false)
+  beyond n i le = get_or_past (known_below b m n) i (λ k. false) (omega (arith, known-length b m n))
+
+  pub alert-moves : (k h a : ℕ) (other now was : Bool) → k ≡ suc h → other ≡ differ now was → now ≡ active_in b m a k → was ≡ active_in b m a h → a < alerts
+      → (x : Operand) → IsOperand (sizes_in b) x
+      → moved (known_world b m (suc (suc a))) k x ≡ (moved (known_world b m (suc a)) k x || (other && eqb (operand_number (sizes_in b) x) (params + a)))
+  unfolding moved
+  alert-moves k h a other now was at-k is now-is was-is lt (value p) at = off-or _ other p (params + a) (λ e. absurd (omega (arith, at, e)))
+  alert-moves k h a other now was at-k is now-is was-is lt phase at = off-or _ other (params + alerts) (params + a) (λ e. absurd (omega (arith, lt, e)))
+  alert-moves k h a other now was at-k is now-is was-is lt (key x) at = off-or _ other (params + alerts + 1 + key_number x) (params + a) (λ e. absurd (omega (arith, lt, e)))
+  alert-moves k h a other now was at-k is now-is was-is lt (health c) at = off-or _ other (params + alerts + 25 + c) (params + a) (λ e. absurd (omega (arith, lt, e)))
+  alert-moves k h a other now was at-k is now-is was-is lt (activity i) at =
+      let off : Signal = λ k. false in
+      let back : k - 1 ≡ h = omega (arith, at-k) in
+      elim (cases_lt i a) [
+        | inl low ↦
+            ap (λ (p : Signal). turned p k) (known-at b m (suc a) i off (omega arith) ∙ sym (known-at b m a i off low))
+            ∙ off-or _ other (params + i) (params + a) (λ e. absurd (omega (arith, low, e)))
+        | inr high ↦ elim (cases_eq i a) [
+          | inl e ↦
+              ap (λ (p : Signal). turned p k) (known-at b m (suc a) i off (omega (arith, e)) ∙ ap (active_in b m) e)
+              ∙ ap (λ n. differ (active_in b m a k) (active_in b m a n)) back
+              ∙ sym (ap (λ (p : Signal). turned p k || (other && eqb (params + i) (params + a))) (beyond a i high)
+              ∙ ap (λ c. other && c) (eq-eqb (params + i) (params + a) (ap (λ n. params + n) e)) ∙ and-all other ∙ is
+              ∙ ap (λ c. differ c was) now-is ∙ ap (λ c. differ (active_in b m a k) c) was-is)
+          | inr ne ↦
+              ap (λ (p : Signal). turned p k) (beyond (suc a) i (omega (arith, high, ne)) ∙ sym (beyond a i high))
+              ∙ off-or _ other (params + i) (params + a) (λ e. ne (omega (arith, e)))
+        ]
+      ]
+
+  -- all are known
+  pub all-move : (k : ℕ) (x : Operand) → IsOperand (sizes_in b) x → moved (known_world b m (suc alerts)) k x ≡ moved (world b m) k x
+  unfolding moved world
+  all-move k (value p) at = refl
+  all-move k phase at = refl
+  all-move k (key x) at = refl
+  all-move k (health c) at = refl
+  all-move k (activity i) at = ap (λ (p : Signal). turned p k) (known-at b m alerts i (λ j. false) at)
+
+-- ---- in a book
+
+module _ (d : Draft) (sealed : IsSealed d) (m : ℕ → Moment) (k i known visited : ℕ) (t : Terms) (marks : List ℕ) (hit : ℕ → Bool) (wakes : WakesBy (the_book d) hit t.woken marks)
+    (moves : (h : ℕ) → k ≡ suc h → (x : Operand) → IsOperand (sizes_in (the_book d)) x
+    → moved (known_world (the_book d) m (suc known)) k x ≡ (moved (known_world (the_book d) m known) k x || hit (operand_number (sizes_in (the_book d)) x)))
+    (half : BookHalf (the_book d) m k i known visited t) where
+  pub more-known : BookHalf (the_book d) m k i (suc known) visited (record t { woken = marks })
+  more-known =
+      let b = the_book d in
+      half-more (places b) (world_of b m) (moved (known_world b m known) k) (moved (known_world b m (suc known)) k) k i visited t marks
+      (λ p. list_any (λ x. hit (operand_number (sizes_in b) x)) (operands p.tree)) wakes
+      (λ h e j p is.
+      any_same (sizes_in b) (moved (known_world b m (suc known)) k) (λ x. moved (known_world b m known) k x || hit (operand_number (sizes_in b) x)) (moves h e) p.tree (names-within d sealed j p is)
+      ∙ any-or (moved (known_world b m known) k) (λ x. hit (operand_number (sizes_in b) x)) (operands p.tree))
+      half
+
+-- a line or a memo, for which all is known
+pub rest-tells : (d : Draft) (sealed : IsSealed d) (m : ℕ → Moment) (k j : ℕ) (p : Placed) → slice_get (places (the_book d)) j ≡ Some p
+    → TellsMoved (moved (known_world (the_book d) m (suc (length (the_book d).alerts))) k) (world (the_book d) m) k p
+rest-tells d sealed m k j p is =
+    let b = the_book d in
+    any_same (sizes_in b) (moved (known_world b m (suc (length b.alerts))) k) (moved (world b m) k) (all-move b m k) p.tree (names-within d sealed j p is)

@@ -1,0 +1,13 @@
+use Rattle.std.proofs.Common.{length, refl, ap, ◌∙◌, arith}
+use Rattle.std.proofs.lemmas.List.{length-replicate}
+use Rattle.fwc_lane.proofs.terms.Terms.new.Goals as goal
+
+pub returns-clause-fits : goal.returns-clause-fits
+returns-clause-fits c = record {
+  slots = c.in_ok-cells.ensures.len ∙ c.slots.ensures.value;
+  visits = omega (arith, c.in_ok-cells.ensures.visits);
+  truths = omega (arith, c.in_ok-truths.ensures.len, c.in_ok-truths.truths.ok.0, c.condition_count-count.ensures.count);
+  dues = ap length c.in_ok-dues.ensures ∙ length-replicate c.condition_count-count.result _ ∙ c.condition_count-count.ensures.count;
+  room = omega (arith, c.in_ok-woken.ensures.room, c.condition_count-count.ensures.count);
+  watch = (c.args.book.now, refl, c.in_ok-watch.ensures);
+}

@@ -1,0 +1,20 @@
+use Rattle.std.proofs.Common.{◌≡◌, ◌+◌, ◌&&◌, ◌==◌, length, ap, subst, arith}
+use Rattle.book_model.specs.Sealed.{the_book}
+use Rattle.book_model.proofs.BookLists.{many-parameters, many-alerts}
+use Rattle.book_model.proofs.BookLimits.{sizes}
+use Rattle.fwc_lane.specs.Waking.{WakesBy}
+use Rattle.fwc_lane.proofs.waking.wake_alert.Goals as goal
+
+pub overflow_add-params : goal.overflow_add-params
+overflow_add-params c =
+    let few = sizes c.args.book.now c.params.ensures.sealed in
+    omega (arith, c.requires.alert, few.params, few.alerts, ap length c.params.ensures.value, many-alerts c.args.book.now)
+
+pub wake-requires-clause-operand : goal.wake-requires-clause-operand
+wake-requires-clause-operand c = omega (arith, c.requires.alert, ap length c.params.ensures.value, many-parameters c.args.book.now)
+
+pub returns-clause-wakes : goal.returns-clause-wakes
+returns-clause-wakes c =
+    let b = the_book c.args.book.now in
+    let e : length c.params.result.now + c.args.alert ≡ length b.parameters + c.args.alert = omega (arith, ap length c.params.ensures.value, many-parameters c.args.book.now) in
+    subst (λ n. WakesBy b (λ o. c.args.other && (o == n)) c.args.woken.now c.wake.new.woken) e c.wake.ensures.wakes

@@ -1,0 +1,33 @@
+-- When what a lane keeps of the conditions was made for a book.
+use Rattle.std.specs.Prelude.{◌≡◌, ◌≤◌, ◌-◌, ◌^◌, length}
+use Rattle.ecam_spec.specs.Book.{Book}
+use Rattle.ecam_spec.specs.BookTerms.{terms_of, slots_in}
+use Rattle.book_model.specs.declared.draft.Draft.{Draft}
+use Rattle.book_model.specs.Sealed.{the_book}
+use Rattle.book_model.specs.Conditions.{places}
+use Rattle.watch_lists.specs.declared.watch.Watch.{Watch}
+use Rattle.watch_lists.specs.Watching.{IsWatch}
+use Rattle.wakes.specs.Marks.{room}
+use Rattle.fwc_lane.specs.declared.terms.Terms.{Terms}
+
+-- the lists tell which of the book's conditions name which operand
+abbrev pub Watches : Book → Watch → Type 0
+Watches b w = (d : Draft) × (the_book d ≡ b) × IsWatch d w
+
+-- it has room for the book's slots and conditions, and the lists are the book's. Nothing is said of any history
+pub record TermsFit (b : Book) (t : Terms) : Type 0 where
+  pub slots : length t.cells.slots ≡ slots_in (terms_of b)
+  pub visits : t.cells.visits ≤ 2 ^ 64 - 1
+  pub truths : length t.truths.items ≡ length (places b)
+  pub dues : length t.dues ≡ length (places b)
+  pub room : length (places b) ≤ room t.woken
+  pub watch : Watches b t.watch
+
+-- all that is kept of the moments so far was taken over from another's
+pub record TookTerms (other t : Terms) : Type 0 where
+  pub slots : t.cells.slots ≡ other.cells.slots
+  pub truths : t.truths.items ≡ other.truths.items
+  pub dues : t.dues ≡ other.dues
+  pub keys : t.keys ≡ other.keys
+  pub one_up : t.one_up ≡ other.one_up
+  pub two_up : t.two_up ≡ other.two_up

@@ -1,0 +1,62 @@
+// What a moment brings is read, and wakes the conditions that name what of it is another.
+ghost use Rattle.std.specs.Prelude.{◌≡◌, ◌<◌, ◌≤◌, ◌^◌, ℕ, suc, List, false, None, length, slice_index_or};
+ghost use Rattle.ecam_spec.specs.Value.{BusWord, value};
+ghost use Rattle.ecam_spec.specs.History.{Moment};
+ghost use Rattle.ecam_spec.specs.Situation.{parameter_at, value_in};
+ghost use Rattle.book_model.specs.Sealed.{the_book};
+ghost use Rattle.param_table.specs.TableState.{ParamsFit, ParamsStand};
+ghost use Rattle.system_display.specs.Pages.{AreShort};
+ghost use Rattle.fwc_lane.specs.Conditions.{TermsStand, BookHalf};
+ghost use Rattle.fwc_lane.specs.Given.{Came};
+ghost use Rattle.fwc_lane.specs.TermsFit.{TermsFit};
+
+use crate::terms::Terms;
+use crate::values::read_values;
+use crate::waking::{differ, wake_computers, wake_first, wake_keys};
+use book_model::Book;
+use ecam_kinds::Keys;
+use param_table::Params;
+
+/// Begins the end of moment `now`: reads its values, and marks the conditions that are due, and those that name a value, a
+/// key or a computer that is another than it was. Answers whether some value is. Its cost is a look at each source of each
+/// parameter, two at each key, and a write for each condition that names what is another, or is due.
+pub fn begin_moment(
+    terms: &mut Terms,
+    values: &mut Vec<Option<i64>>,
+    params: &Params,
+    keys: &Keys,
+    book: &Book,
+    one_up: bool,
+    two_up: bool,
+    now: u64,
+) -> bool
+    requires fits { TermsFit (the_book book.now) terms.old }
+    requires params { ParamsFit (the_book book.now) params.now }
+    requires many { length values.old.items ≡ length (the_book book.now).parameters }
+    requires now { now < 2 ^ 63 }
+    ensures fits { TermsFit (the_book book.now) terms.new }
+    ensures many { length values.new.items ≡ length values.old.items }
+    ensures values { (words : ℕ → List BusWord) (k : ℕ)
+        → ParamsStand (the_book book.now) words k params.now
+        → (p : ℕ) → p < length (the_book book.now).parameters
+        → slice_index_or values.new.items p None
+        ≡ value (parameter_at (the_book book.now) p) words k }
+    ensures short { AreShort values.new.items }
+    ensures kept { result ≡ false → values.new.items ≡ values.old.items }
+    ensures begins { (m : ℕ → Moment)
+        → Came (the_book book.now) m now params.now keys.now one_up two_up
+        → TermsStand (the_book book.now) m now terms.old
+        → ((h : ℕ) → now ≡ suc h → (p : ℕ) → p < length (the_book book.now).parameters
+        → slice_index_or values.old.items p None ≡ value_in (the_book book.now) m p h)
+        → BookHalf (the_book book.now) m now 0 0 terms.old.cells.visits terms.new }
+    ensures visits { terms.new.cells.visits ≡ terms.old.cells.visits }
+{
+    book.sealed();
+    wake_first(&mut terms.woken, &mut terms.dues, terms.truths.len(), now);
+    let turned = read_values(values, &mut terms.woken, &terms.watch, params, book);
+    wake_keys(&mut terms.woken, &terms.watch, book, &terms.keys, keys);
+    let one = differ(one_up, terms.one_up);
+    let two = differ(two_up, terms.two_up);
+    wake_computers(&mut terms.woken, &terms.watch, book, one, two);
+    turned
+}

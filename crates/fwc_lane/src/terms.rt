@@ -1,0 +1,97 @@
+// What a lane keeps of the book's conditions from moment to moment.
+ghost use Rattle.std.specs.Prelude.{◌≡◌, ◌<◌, ◌^◌, length, IfOk};
+ghost use Rattle.ecam_spec.specs.Book as plain;
+ghost use Rattle.book_model.specs.Sealed.{the_book};
+ghost use Rattle.book_model.specs.Conditions.{places};
+ghost use Rattle.term_eval.specs.CellState.{StandForNone};
+ghost use Rattle.fwc_lane.specs.TermsFit.{TermsFit, TookTerms};
+
+use book_model::Book;
+use ecam_kinds::Keys;
+use std::alloc::{AllocError, Global};
+use term_eval::Cells;
+use wakes::{Marked, Wakes};
+use watch_lists::Watch;
+
+/// All that is kept of the conditions, each under its number in stepping order: what it remembers, what it said, and when
+/// it turns by itself; and of what they name what the lane has nowhere else.
+#[derive(Drop)]
+pub struct Terms {
+    /// What the conditions remember.
+    pub cells: Cells,
+    /// Per condition whether it held in the last moment.
+    pub truths: Vec<bool>,
+    /// Per condition the moment in which it turns by itself.
+    pub dues: Wakes,
+    /// The conditions that the moment that is stepped wakes. Between moments it says nothing.
+    pub woken: Marked,
+    /// Which conditions name what. Nothing changes it.
+    pub watch: Watch,
+    /// The keys as they were in the last moment.
+    pub keys: Keys,
+    /// Computer 1 was up in the last moment.
+    pub one_up: bool,
+    /// Computer 2 was up in the last moment.
+    pub two_up: bool,
+}
+
+impl Terms {
+    /// Of conditions that no moment has stepped. Its cost is a few writes a condition and a slot, and one visit of each
+    /// node. An error is want of memory.
+    pub fn new(alloc: Global, book: &Book) -> Result<Terms, AllocError>
+        ensures fits { IfOk result (TermsFit (the_book book.now)) }
+        ensures stands { IfOk result (λ t. StandForNone t.cells.slots) }
+        ensures visits { IfOk result (λ t. t.cells.visits ≡ 0) }
+    {
+        let count = condition_count(book);
+        let cells = Cells::new(alloc, book.slots())?;
+        let truths = vec![in alloc; false; count]?;
+        let dues = Wakes::new(alloc, count)?;
+        let woken = Marked::new(alloc, count)?;
+        let watch = Watch::new(alloc, book)?;
+        Ok(Terms {
+            cells,
+            truths,
+            dues,
+            woken,
+            watch,
+            keys: Keys::new(),
+            one_up: false,
+            two_up: false,
+        })
+    }
+
+    /// Forgets all moments. What is told of the last one says nothing then: the first moment asks each condition. Its cost
+    /// is one write a slot.
+    pub fn clear(&mut self)
+        ensures fits { (b : plain.Book) → TermsFit b self.old → TermsFit b self.new }
+        ensures stands { StandForNone self.new.cells.slots }
+        ensures visits { self.new.cells.visits ≡ self.old.cells.visits }
+    {
+        self.cells.clear();
+    }
+
+    /// Takes over what is kept of the same book's conditions by another lane, but for the count of visits. Its cost is a
+    /// write a slot and a few a condition.
+    pub fn copy_from(&mut self, other: &Terms)
+        requires { (b : plain.Book) × TermsFit b self.old × TermsFit b other.now }
+        ensures fits { (b : plain.Book) → TermsFit b self.old → TermsFit b self.new }
+        ensures took { TookTerms other.now self.new }
+        ensures visits { self.new.cells.visits ≡ self.old.cells.visits }
+    {
+        self.cells.copy_from(&other.cells);
+        self.truths.copy_from_slice(&other.truths);
+        self.dues.copy_from(&other.dues);
+        self.keys = other.keys;
+        self.one_up = other.one_up;
+        self.two_up = other.two_up;
+    }
+}
+
+// How many conditions a book has.
+fn condition_count(book: &Book) -> usize
+    ensures count { result ≡ length (places (the_book book.now)) }
+    ensures few { result < 2 ^ 32 }
+{
+    6 + book.alerts().len() + 2 * book.line_count() + book.memos().len()
+}
