@@ -13,7 +13,7 @@ use std::alloc::{AllocError, Global};
 const KEYS: usize = 4096;
 
 /// The places of the sources that listen to each bus and label, as chains: from the last of them down to the
-/// first. It is made once for a book.
+/// first. It is made once for a table.
 #[derive(Drop)]
 pub struct Index {
     // By 256 times the bus and the label: the last place.

@@ -56,7 +56,7 @@ impl Params {
         })
     }
 
-    /// Forgets all words and moments. Its cost is three writes a source.
+    /// Forgets all words and moments. Its cost is a few writes a source.
     pub fn clear(&mut self)
         ensures fits { (b : plain.Book) → ParamsFit b self.old → ParamsFit b self.new }
         ensures stands { (b : plain.Book) (words : ℕ → List BusWord) → ParamsFit b self.old
@@ -69,8 +69,8 @@ impl Params {
         self.held.dues.clear();
     }
 
-    /// Takes over the words and the moments of another table of the same book. Its cost is one write a source, and a few
-    /// more for each whose word is to be looked at.
+    /// Takes over the words and the moments of another table of the same book. Its cost is one write a source, and
+    /// one `set` of the time at which it is looked at.
     pub fn copy_from(&mut self, other: &Params)
         requires { (b : plain.Book) × ParamsFit b self.old × ParamsFit b other.now }
         ensures fits { (b : plain.Book) → ParamsFit b self.old → ParamsFit b other.now
