@@ -29,7 +29,8 @@ fn keep(places: &mut Places, place: u16, kept: bool)
 pub(crate) fn gather(places: &mut Places, book: &Book, active: &[bool])
     requires none { places.old.items ≡ [] }
     requires active { length active.now ≡ length book.now.alerts.items }
-    ensures places { places.new.items ≡ filter (flagged active.now) (alert_numbers (the_book book.now)) }
+    ensures places { places.new.items
+        ≡ filter (flagged active.now) (alert_numbers (the_book book.now)) }
     ensures within { All (λ a. a < length book.now.alerts.items) places.new.items }
     ensures few { length places.new.items ≤ ALERTS }
 {

@@ -31,7 +31,8 @@ pub(crate) fn count_rows(book: &Book, places: &[u16], cancelled: &[bool]) -> u32
     requires within { All (λ a. a < length book.now.alerts.items) places.now }
     requires cancelled { length cancelled.now ≡ length book.now.alerts.items }
     ensures few { result ≤ STATUS_LINES * ALERTS + ALERTS + 1 }
-    ensures rows { result ≡ length (rows_at (the_book book.now) places.now (flagged cancelled.now)) }
+    ensures rows { result
+        ≡ length (rows_at (the_book book.now) places.now (flagged cancelled.now)) }
 {
     let alerts = book.alerts();
     let mut lines = 0u32;
