@@ -13,8 +13,6 @@ mod play;
 mod replay;
 mod standings;
 mod summary;
-#[cfg(test)]
-mod tests;
 mod words;
 
 pub use commands::ecam;
