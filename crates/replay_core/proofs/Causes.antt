@@ -1,22 +1,18 @@
 -- How the commands end, from how their steps do.
-use Rattle.std.proofs.Common.{◌≡◌, Result, Ok, Err, ℕ, ◌≤◌, [], List, Option, Some, None, IsSomeAnd, sym, ap, ◌∙◌, subst, inl, inr}
+use Rattle.std.proofs.Common.{◌≡◌, Result, Ok, Err, ℕ, ◌≤◌, [], Option, Some, None, IsSomeAnd, sym, ap, ◌∙◌, subst, inl, inr}
 use Rattle.ecam_io.specs.Outside.{raised, Rose, FileHas, MayRefuse, IsClosed}
 use Rattle.ecam_io.proofs.Calls.{Rose-earlier, FileHas-weaker}
-use Rattle.ecam_spec.specs.declared.kinds.Event.{Event}
 use Rattle.ecam_spec.specs.Book.{Text, Book}
 use Rattle.ecam_spec.specs.Command.{no_limit}
-use Rattle.ecam_spec.specs.Record.{events}
-use Rattle.ecam_spec.specs.Replay.{standing_lines}
 use Rattle.book_spec.specs.BookBytes.{book}
 use Rattle.book_model.specs.Sealed.{the_book}
-use Rattle.fwc_pair.specs.PairState.{PairStands}
 use Rattle.fwc_pair.specs.declared.pair.Pair.{Pair}
 use Rattle.replay_core.specs.Calls.{Files, ShelfCall, OpenedOne, OpenedBoth, SinkCall, Writes, WritesPart, WritesNothing, HasFailedToWrite}
 use Rattle.replay_core.specs.Runs.{HasStopped}
 use Rattle.replay_core.specs.Loading.{BookHas, IsUnopened, HasLoaded, Loads, Readies}
 use Rattle.replay_core.specs.Play.{RepliesInPart, Plays}
 use Rattle.replay_core.specs.Answers.{ByBook, ByRecord, BookTold, BookUntold}
-use Rattle.replay_core.specs.ReadEndings.{Endings, RepliesWhole, RepliesTo, replaying, Explains, ExplainsInPart, ExplainsNothing, BreaksOff, explaining}
+use Rattle.replay_core.specs.ReadEndings.{Endings, RepliesWhole, RepliesTo, replaying, ExplainsNothing, BreaksOff, explaining}
 use Rattle.replay_core.specs.Outcomes.{outcome_of, refusal_of}
 use Rattle.replay_core.specs.declared.load.Loaded.{Loaded}
 use Rattle.replay_core.specs.declared.load.Unready.{Unready}
@@ -165,25 +161,6 @@ module _ (a c : ShelfCall) (name record' : Text) (l : Loaded) (on : Follows a c 
     unexplained (Record g) plays kept = record {
       count = both;
       both = of-both _ (ExplainsNothing out g) (λ text h. record { fault_is = h.fault_is; kept = kept; took = h.took }) plays;
-    }
-
-    -- and then the standings were written
-    pub explained : (n : ℕ) → Plays c dropped (the_book l.book) pair record' no_limit (Ok n)
-        → ((h : List Event) → PairStands (the_book l.book) h pair → Writes out (standing_lines (the_book l.book) h))
-        → ByRecord (joined a c) out name record' (explaining out) outcomes.Done
-    explained n plays written = record {
-      count = both;
-      both = of-both _ (Explains out) (λ text h. record { faultless = h.faultless; written = written (events text no_limit) h.stands; spent = h.spent }) plays;
-    }
-
-    -- or a prefix of them, and writing failed
-    pub explained-in-part : (n : ℕ) → Plays c dropped (the_book l.book) pair record' no_limit (Ok n) → HasFailedToWrite out
-        → ((h : List Event) → PairStands (the_book l.book) h pair → WritesPart out (standing_lines (the_book l.book) h))
-        → ByRecord (joined a c) out name record' (explaining out) outcomes.WriteFault
-    explained-in-part n plays cause part = record {
-      count = both;
-      cause = cause;
-      both = of-both _ (ExplainsInPart out) (λ text h. record { faultless = h.faultless; written = part (events text no_limit) h.stands; spent = h.spent }) plays;
     }
 
 -- ---- what isn't told as a fault counts none

@@ -7,6 +7,7 @@ mod commands;
 mod drill;
 mod file;
 mod gather;
+pub mod laws;
 mod load;
 mod outcome;
 mod play;
