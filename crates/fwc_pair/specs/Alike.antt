@@ -8,13 +8,15 @@ use Rattle.ecam_kinds.specs.Shown.{picture_of}
 use Rattle.fwc_pair.specs.declared.pair.Pair.{Pair}
 use Rattle.fwc_pair.specs.PairState.{flags_of}
 
--- the same computers are up, the same picture stands, and where a computer is up the era is the same
+-- the same computers are up, the same picture stands, and where a computer is up the era is the
+-- same
 pub record ComeToTheSame (b : Book) (g h : List Event) : Type 0 where
   pub flags : flags_after g ≡ flags_after h
   pub face : last_picture b g ≡ last_picture b h
   pub era : none_up (flags_after h) ≡ false → era g ≡ era h
 
--- two pairs have the same computers up and show the same picture, and where a computer is up their eras are the same
+-- two pairs have the same computers up and show the same picture, and where a computer is up
+-- their eras are the same
 pub record AgreeWhereUp (g h : List Event) (p q : Pair) : Type 0 where
   pub flags : flags_of p ≡ flags_of q
   pub face : picture_of p.face ≡ picture_of q.face

@@ -13,7 +13,8 @@ use Rattle.fwc_pair.specs.declared.pair.Pair.{Pair}
 abbrev pub flags_of : Pair → Flags
 flags_of p = record { one = p.one_up; two = p.two_up }
 
--- its lanes were made for the book, and those that are up have counted the same moments. Nothing is said of any history
+-- its lanes were made for the book, and those that are up have counted the same moments. Nothing
+-- is said of any history
 pub record PairFits (b : Book) (p : Pair) : Type 0 where
   pub one : LaneFits b p.one
   pub two : LaneFits b p.two
@@ -28,8 +29,9 @@ pub record UpStand (b : Book) (e : Era) (p : Pair) : Type 0 where
   pub one : p.one_up ≡ true → LaneStands b e p.one
   pub two : p.two_up ≡ true → LaneStands b e p.two
 
--- the flags tell which computers are up after the history, the face is the picture of its last Tick, blank without
--- one, `changed` tells which rows that Tick changed, and each computer that is up stands for the era
+-- the flags tell which computers are up after the history, the face is the picture of its last
+-- Tick, blank without one, `changed` tells which rows that Tick changed, and each computer that
+-- is up stands for the era
 pub record PairStands (b : Book) (h : List Event) (p : Pair) : Type 0 where
   pub fits : PairFits b p
   pub flags : flags_of p ≡ flags_after h

@@ -13,7 +13,8 @@ pub record TellsFacts (b : Book) (l : Lane) (a : ℕ) (f : Facts) : Type 0 where
   pub present : get_or l.truths.present.items a false ≡ f.present
   pub active : get_or l.truths.active.items a false ≡ f.active
   pub shown : get_or l.marks.sets.shown a false ≡ f.shown
-  pub starred_by : get_or l.truths.stars.primaries.items a None ≡ (if f.active then f.starred_by else None)
+  pub starred_by : get_or l.truths.stars.primaries.items a None
+      ≡ (if f.active then f.starred_by else None)
   pub cancelled : get_or l.marks.sets.cancelled a false ≡ f.cancelled
   pub cleared : get_or l.marks.sets.cleared a false ≡ f.cleared
   pub stands : Line → Bool

@@ -7,8 +7,6 @@ mod face;
 pub mod laws;
 mod pair;
 mod standing;
-#[cfg(test)]
-mod tests;
 mod title;
 
 pub use fwc_lane::Lane;

@@ -1,5 +1,5 @@
--- The draws: numbers of 64 bits, each made from the one before by three shifts (Marsaglia's xorshift generator with
--- the shifts 13, 7 and 17).
+-- The draws: numbers of 64 bits, each made from the one before by three shifts (Marsaglia's
+-- xorshift generator with the shifts 13, 7 and 17).
 use Rattle.std.specs.Prelude.{ℕ, zero, suc, ◌*◌, ◌/◌, ◌%◌, ◌^◌, ◌==◌, bit_xor, if◌then◌else◌}
 
 -- the bits moved left by so many places, of which the lowest 64 are kept, and moved right

@@ -1,5 +1,5 @@
--- The flight that a made record goes through again and again, 6000 moments long: which of the flags of its phases are
--- set in each moment. It is this project's own.
+-- The flight that a made record goes through again and again, 6000 moments long: which of the
+-- flags of its phases are set in each moment. It is this project's own.
 use Rattle.std.specs.Prelude.{ℕ, nat_le, List, [], ◌∷◌, find}
 use Rattle.std.specs.Option.{option_map_or}
 

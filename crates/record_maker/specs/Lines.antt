@@ -1,5 +1,6 @@
 -- The lines of a made moment, without their line feeds.
-use Rattle.std.specs.Prelude.{ℕ, ◌+◌, ◌-◌, ◌/◌, ◌%◌, ◌^◌, ◌==◌, nat_le, List, [], ◌∷◌, ◌++◌, map, get_or, if◌then◌else◌, codes, decimal}
+use Rattle.std.specs.Prelude.{ℕ, ◌+◌, ◌-◌, ◌/◌, ◌%◌, ◌^◌, ◌==◌, nat_le, List, [], ◌∷◌, ◌++◌, map}
+use Rattle.std.specs.Prelude.{get_or, if◌then◌else◌, codes, decimal}
 use Rattle.ecam_spec.specs.declared.kinds.Key.TheVariants.{Clr}
 use Rattle.ecam_spec.specs.Book.{Text}
 use Rattle.ecam_spec.specs.Places.{below}
@@ -9,7 +10,8 @@ use Rattle.record_maker.specs.Words.{flags_word, drawn_word}
 
 -- eight hexadecimal digits, highest first, in lower case
 unfoldable pub word_digits : ℕ → Text
-word_digits word = map (λ i. get_or (codes "0123456789abcdef") (word / 16 ^ (7 - i) % 16) 0) (below 8)
+word_digits word =
+    map (λ i. get_or (codes "0123456789abcdef") (word / 16 ^ (7 - i) % 16) 0) (below 8)
 
 unfoldable pub word_line : ℕ → ℕ → Text
 word_line bus word = codes "W " ++ decimal bus ++ 32 ∷ word_digits word
@@ -22,7 +24,8 @@ key_word n = (get_or key_words n ([], Clr)).0
 unfoldable pub key_lines : ℕ → List Text
 key_lines r =
     if r % 50 == 0
-    then ((if moved_right r 32 % 2 == 0 then codes "P " else codes "R ") ++ key_word (r / 50 % 24)) ∷ []
+    then ((if moved_right r 32 % 2 == 0 then codes "P " else codes "R ")
+    ++ key_word (r / 50 % 24)) ∷ []
     else []
 
 -- of 400 draws one makes a computer fail, and eight make one come up

@@ -6,7 +6,8 @@ use Rattle.record_maker.specs.Record.{moments}
 
 -- what it hasn't made yet: the moments to come, and the end
 abbrev pub unmade : Maker → List ℕ
-unmade m = moments m.moment m.draw (m.moments - m.moment) ++ (if m.ended then [] else line (codes "E"))
+unmade m =
+    moments m.moment m.draw (m.moments - m.moment) ++ (if m.ended then [] else line (codes "E"))
 
 -- and before it what it made and hasn't given
 abbrev pub left_of : Maker → List ℕ

@@ -12,7 +12,8 @@ text_of lines = flat_map line lines
 
 -- so many moments, the first of them with this number, by three draws each after this one
 unfoldable pub moments : ℕ → ℕ → ℕ → Text
-moments first s count = flat_map (λ i. text_of (moment_lines (first + i) (draw s (3 * i)))) (below count)
+moments first s count =
+    flat_map (λ i. text_of (moment_lines (first + i) (draw s (3 * i)))) (below count)
 
 -- the whole record
 unfoldable pub made : ℕ → ℕ → Text

@@ -4,16 +4,15 @@ use Rattle.ecam_io.specs.Outside.{raised, Rose, FileHas, MayRefuse, IsClosed}
 use Rattle.ecam_io.proofs.Calls.{Rose-earlier, FileHas-weaker}
 use Rattle.ecam_spec.specs.Book.{Text, Book}
 use Rattle.ecam_spec.specs.Command.{no_limit}
-use Rattle.ecam_spec.specs.Record.{events}
 use Rattle.book_spec.specs.BookBytes.{book}
 use Rattle.book_model.specs.Sealed.{the_book}
 use Rattle.fwc_pair.specs.declared.pair.Pair.{Pair}
 use Rattle.replay_core.specs.Calls.{Files, ShelfCall, OpenedOne, OpenedBoth, SinkCall, Writes, WritesPart, WritesNothing, HasFailedToWrite}
 use Rattle.replay_core.specs.Runs.{HasStopped}
 use Rattle.replay_core.specs.Loading.{BookHas, IsUnopened, HasLoaded, Loads, Readies}
-use Rattle.replay_core.specs.Play.{RepliesInPart, Plays, Tells}
+use Rattle.replay_core.specs.Play.{RepliesInPart, Plays}
 use Rattle.replay_core.specs.Answers.{ByBook, ByRecord, BookTold, BookUntold}
-use Rattle.replay_core.specs.ReadEndings.{Endings, RepliesWhole, RepliesTo, replaying, Explains, ExplainsInPart, ExplainsNothing, BreaksOff, explaining}
+use Rattle.replay_core.specs.ReadEndings.{Endings, RepliesWhole, RepliesTo, replaying, ExplainsNothing, BreaksOff, explaining}
 use Rattle.replay_core.specs.Outcomes.{outcome_of, refusal_of}
 use Rattle.replay_core.specs.declared.load.Loaded.{Loaded}
 use Rattle.replay_core.specs.declared.load.Unready.{Unready}
@@ -163,24 +162,6 @@ module _ (a c : ShelfCall) (name record' : Text) (l : Loaded) (on : Follows a c 
       count = both;
       both = of-both _ (ExplainsNothing out g) (λ text h. record { fault_is = h.fault_is; kept = kept; took = h.took }) plays;
     }
-
-    -- and then the standings were written, or a prefix of them
-    pub explained : (n : ℕ) → Plays c dropped (the_book l.book) pair record' no_limit (Ok n) → (o : Outcome) → Tells out (the_book l.book) pair o
-        → ByRecord (joined a c) out name record' (explaining out) o
-    explained n plays outcomes.Done written = record {
-      count = both;
-      both = of-both _ (Explains out) (λ text h. record { faultless = h.faultless; written = written (events text no_limit) h.stands; spent = h.spent }) plays;
-    }
-    explained n plays outcomes.WriteFault (cause, part) = record {
-      count = both;
-      cause = cause;
-      both = of-both _ (ExplainsInPart out) (λ text h. record { faultless = h.faultless; written = part (events text no_limit) h.stands; spent = h.spent }) plays;
-    }
-    explained n plays outcomes.Usage never = absurd never
-    explained n plays (outcomes.BookRefused g) never = absurd never
-    explained n plays (outcomes.RecordRefused g) never = absurd never
-    explained n plays outcomes.ReadFault never = absurd never
-    explained n plays outcomes.NoMemory never = absurd never
 
 -- ---- what isn't told as a fault counts none
 

@@ -9,6 +9,7 @@ mod PictureRows
 mod PairMoments
 mod Endings
 mod Unchanged
+mod BareRecords
 mod StandingLines
 mod Drilled
 pub mod Feeding

@@ -2,11 +2,11 @@
 use Rattle.std.specs.Prelude.{◌≡◌, ◌⊎◌, true, [], Option, Some, None}
 use Rattle.ecam_io.specs.Outside.{FileHas}
 use Rattle.ecam_spec.specs.declared.kinds.BookFault.{BookFault}
-use Rattle.ecam_spec.specs.declared.kinds.RecordFault.{RecordFault}
 use Rattle.ecam_spec.specs.Book.{Text, Book}
 use Rattle.ecam_spec.specs.Summary.{summary}
 use Rattle.ecam_spec.specs.Command.{Command, check, replay, why, drill}
-use Rattle.replay_core.specs.Calls.{ShelfCall, OpenedOne, OpenedBoth, HasFailed, SinkCall, Writes, WritesPart, WritesNothing, HasFailedToWrite}
+use Rattle.replay_core.specs.Calls.{ShelfCall, OpenedOne, OpenedBoth, HasFailed, SinkCall, Writes}
+use Rattle.replay_core.specs.Calls.{WritesPart, WritesNothing, HasFailedToWrite}
 use Rattle.replay_core.specs.Drill.{drill_line}
 use Rattle.replay_core.specs.Loading.{BookHas, BookTaken, HasFault, IsUnopened, IsUnread}
 use Rattle.replay_core.specs.ReadEndings.{Endings, replaying, explaining}

@@ -9,8 +9,8 @@ use Rattle.ecam_spec.specs.Book.{Text}
 abbrev pub Files : Type 0
 Files = Option (List (Text × Text))
 
--- Of a shelf: its files, which no call changes; its counts of opens and of faults before the call and now; whether a
--- file is open now, and what it tells to be left of it.
+-- Of a shelf: its files, which no call changes; its counts of opens and of faults before the call
+-- and now; whether a file is open now, and what it tells to be left of it.
 pub record ShelfCall : Type 0 where
   pub files : Files
   pub opens : ℕ
@@ -42,7 +42,8 @@ OpenedOne s = s.opens_now ≡ raised s.opens
 abbrev pub OpenedBoth : ShelfCall → Type 0
 OpenedBoth s = s.opens_now ≡ raised (raised s.opens)
 
--- Of a sink: what its states agree with, the states before the call and now, and its counts of faults.
+-- Of a sink: what its states agree with, the states before the call and now, and its counts of
+-- faults.
 pub record SinkCall (S : Type 0) : Type 1 where
   pub agrees : S → Text → Type 0
   pub old : S

@@ -33,18 +33,22 @@ pub record DecidesUsage (words : List Text) (result : Status) : Type 0 where
   pub usage : command_of words ≡ None → result ≡ statuses.Usage
   pub form : result ≡ statuses.Usage → command_of words ≡ None
 
--- where a shelf tells its files, and neither it nor the sink counted a fault, the words and the files say how the program
--- ends: by the book's fault, by the record's, or with everything done
+-- where a shelf tells its files, and neither it nor the sink counted a fault, the words and the
+-- files say how the program ends: by the book's fault, by the record's, or with everything done
 pub record Decides (words : List Text) (files : List (Text × Text)) (result : Status) : Type 0 where
   pub refused : (c : Command) → command_of words ≡ Some c
-      → (bytes : Text) → file_named files (book_asked c) ≡ Some bytes → (f : BookFault) → book_fault bytes ≡ Some f → IsButForMemory statuses.BookRefused result
+      → (bytes : Text) → file_named files (book_asked c) ≡ Some bytes
+      → (f : BookFault) → book_fault bytes ≡ Some f → IsButForMemory statuses.BookRefused result
   pub told : (c : Command) → command_of words ≡ Some c → record_asked c ≡ None
-      → (bytes : Text) → file_named files (book_asked c) ≡ Some bytes → book_fault bytes ≡ None → IsButForMemory statuses.Done result
+      → (bytes : Text) → file_named files (book_asked c) ≡ Some bytes
+      → book_fault bytes ≡ None → IsButForMemory statuses.Done result
   pub record_refused : (c : Command) → command_of words ≡ Some c
       → (bytes : Text) → file_named files (book_asked c) ≡ Some bytes → book_fault bytes ≡ None
-      → (name : Text) (limit : ℕ) → record_asked c ≡ Some (name, limit) → (text : Text) → file_named files name ≡ Some text
+      → (name : Text) (limit : ℕ) → record_asked c ≡ Some (name, limit)
+      → (text : Text) → file_named files name ≡ Some text
       → (f : RecordFault) → fault text limit ≡ Some f → IsButForMemory statuses.RecordRefused result
   pub replayed : (c : Command) → command_of words ≡ Some c
       → (bytes : Text) → file_named files (book_asked c) ≡ Some bytes → book_fault bytes ≡ None
-      → (name : Text) (limit : ℕ) → record_asked c ≡ Some (name, limit) → (text : Text) → file_named files name ≡ Some text
+      → (name : Text) (limit : ℕ) → record_asked c ≡ Some (name, limit)
+      → (text : Text) → file_named files name ≡ Some text
       → fault text limit ≡ None → IsButForMemory statuses.Done result

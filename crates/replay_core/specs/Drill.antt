@@ -7,7 +7,8 @@ use Rattle.ecam_spec.specs.Output.{line}
 use Rattle.ecam_spec.specs.Replay.{reply}
 use Rattle.record_maker.specs.Record.{made}
 
--- the counts of an output: its blocks, which are the lines that begin with `@`, its lines, and its bytes
+-- the counts of an output: its blocks, which are the lines that begin with `@`, its lines, and
+-- its bytes
 unfoldable pub counts_line : ℕ → Text → Text
 counts_line moments output =
     line (

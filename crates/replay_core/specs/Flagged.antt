@@ -1,5 +1,6 @@
 -- The rows of a picture that are told as changed.
-use Rattle.std.specs.Prelude.{◌≡◌, ℕ, ◌<◌, Bool, false, List, [], ◌∷◌, ◌++◌, length, get_or, if◌then◌else◌}
+use Rattle.std.specs.Prelude.{◌≡◌, ℕ, ◌<◌, Bool, false, List, [], ◌∷◌, ◌++◌, length, get_or}
+use Rattle.std.specs.Prelude.{if◌then◌else◌}
 use Rattle.ecam_spec.specs.Book.{Text}
 use Rattle.ecam_spec.specs.Picture.{Picture}
 use Rattle.ecam_spec.specs.Output.{row_line}
@@ -7,7 +8,8 @@ use Rattle.fwc_lane.specs.ChangedRows.{row_differs}
 
 -- the lines of the rows whose flag is set
 unfoldable pub flagged_lines : List Text → List Bool → Picture → Text
-flagged_lines (name ∷ names) (flag ∷ flags) (r ∷ rows) = (if flag then row_line name r else []) ++ flagged_lines names flags rows
+flagged_lines (name ∷ names) (flag ∷ flags) (r ∷ rows) =
+    (if flag then row_line name r else []) ++ flagged_lines names flags rows
 flagged_lines _ _ _ = []
 
 -- the flags name exactly the rows in which a picture differs from the old one

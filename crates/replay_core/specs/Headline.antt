@@ -10,9 +10,11 @@ use Rattle.ecam_spec.specs.Command.{command_of, replay}
 use Rattle.book_spec.specs.BookBytes.{book}
 use Rattle.replay_core.specs.Calls.{Files}
 
--- the words ask for the replay of this whole history by this accepted book: the shelf tells its files, the one that the
--- words name first is the book, and the events of the other one are the history
-pub record Replays (files : Files) (words : List Text) (b : Book) (history : List Event) : Type 0 where
+-- the words ask for the replay of this whole history by this accepted book: the shelf tells its
+-- files, the one that the words name first is the book, and the events of the other one are the
+-- history
+pub record Replays (files : Files) (words : List Text) (b : Book) (history : List Event)
+    : Type 0 where
   pub told : List (Text × Text)
   pub files_are : files ≡ Some told
   pub book_name : Text
@@ -26,7 +28,8 @@ pub record Replays (files : Files) (words : List Text) (b : Book) (history : Lis
   pub record_file : file_named told record_name ≡ Some record_bytes
   pub history_is : history ≡ events record_bytes limit
 
--- the blocks of the changes between the pictures that the book's definitions give for the whole history, and the line that
--- ends it
+-- the blocks of the changes between the pictures that the book's definitions give for the whole
+-- history, and the line that ends it
 abbrev pub all_changes : Book → List Event → Text
-all_changes b history = blocks (picture b history) (tick_count history) ++ end_line (tick_count history)
+all_changes b history =
+    blocks (picture b history) (tick_count history) ++ end_line (tick_count history)

@@ -2,6 +2,7 @@ pub mod Calls
 pub mod Flagged
 pub mod Runs
 pub mod Unaffected
+pub mod RecordLines
 pub mod Loading
 pub mod Play
 pub mod Words

@@ -1,5 +1,6 @@
 -- How loading a book ends, each ending with its cause.
-use Rattle.std.specs.Prelude.{◌≡◌, ◌⊎◌, ℕ, ◌≤◌, ◌<◌, ◌++◌, length, true, false, [], Option, Some, Result, Ok, Err, IsSomeAnd}
+use Rattle.std.specs.Prelude.{◌≡◌, ◌⊎◌, ℕ, ◌≤◌, ◌<◌, ◌++◌, length, true, false, [], Option, Some}
+use Rattle.std.specs.Prelude.{Result, Ok, Err, IsSomeAnd}
 use Rattle.ecam_io.specs.Outside.{FileHas, MayRefuse, IsClosed}
 use Rattle.ecam_spec.specs.declared.kinds.BookFault.{BookFault}
 use Rattle.ecam_spec.specs.Book.{Text, Book}
@@ -16,7 +17,8 @@ use Rattle.replay_core.specs.declared.load.Loaded.{Loaded}
 abbrev pub BookHas : Files → Text → (Book → Type 0) → Type 0
 BookHas files name P = FileHas files name (λ bytes. IsSomeAnd (book bytes) P)
 
--- the first bytes of a file, up to one more than a book may have, and what is left behind them; fewer come only where nothing is
+-- the first bytes of a file, up to one more than a book may have, and what is left behind them;
+-- fewer come only where nothing is
 pub record IsFront (bytes front : Text) (left : Option Text) : Type 0 where
   pub behind : Text
   pub parts : bytes ≡ front ++ behind
@@ -32,11 +34,13 @@ pub record TookAtMost (most : ℕ) (bytes : Text) (left : Option Text) : Type 0 
   pub rest : left ≡ Some behind
   pub few : length taken ≤ most
 
--- where a shelf tells its files, one has that name, and at most one byte more than a book may have was taken of it
+-- where a shelf tells its files, one has that name, and at most one byte more than a book may
+-- have was taken of it
 abbrev pub BookTaken : Files → Text → Option Text → Type 0
 BookTaken files name left = FileHas files name (λ bytes. TookAtMost 4194305 bytes left)
 
--- the bytes of a book's file have this fault, and it was read no further than one byte more than a book may have
+-- the bytes of a book's file have this fault, and it was read no further than one byte more than
+-- a book may have
 pub record HasFault (bytes : Text) (f : BookFault) (left : Option Text) : Type 0 where
   pub fault_is : book_fault bytes ≡ Some f
   pub took : TookAtMost 4194305 bytes left
@@ -48,7 +52,8 @@ module _ (s : ShelfCall) (name : Text) where
     pub shut : s.is_open ≡ false
     pub closed : IsClosed s.files s.left
 
-  -- a book's file is open, and reading it failed, no further than one byte more than a book may have
+  -- a book's file is open, and reading it failed, no further than one byte more than a book may
+  -- have
   pub record IsBrokenOff : Type 0 where
     pub cause : HasFailed s
     pub opened : s.is_open ≡ true

@@ -56,4 +56,5 @@ refusal_of (runs.Record f) = outcomes.RecordRefused f
 -- the line was written and no fault was counted, or writing failed and a prefix of it was
 abbrev pub Complains : {S : Type 0} → SinkCall S → Outcome → Type 0
 Complains err outcome =
-    (Writes err (complaint outcome) × (err.faults_now ≡ err.faults)) ⊎ (HasFailedToWrite err × WritesPart err (complaint outcome))
+    (Writes err (complaint outcome) × (err.faults_now ≡ err.faults))
+    ⊎ (HasFailedToWrite err × WritesPart err (complaint outcome))

@@ -1,4 +1,5 @@
--- How `replay` and `why` end that read a record by a book: what is written, and how far the record was read.
+-- How `replay` and `why` end that read a record by a book: what is written, and how far the
+-- record was read.
 use Rattle.std.specs.Prelude.{◌≡◌, ℕ, [], ◌++◌, Option, Some, None}
 use Rattle.ecam_spec.specs.declared.kinds.RecordFault.{RecordFault}
 use Rattle.ecam_spec.specs.Book.{Text, Book}
@@ -9,8 +10,8 @@ use Rattle.replay_core.specs.Calls.{SinkCall, Writes, WritesPart, WritesNothing}
 use Rattle.replay_core.specs.Play.{RepliesInPart}
 use Rattle.replay_core.specs.Runs.{TookNear, HasStopped}
 
--- what holds of the book, of the record's bytes and of what is left of them: where the record was read to its end, where
--- it has this fault, where reading it failed, and where writing failed
+-- what holds of the book, of the record's bytes and of what is left of them: where the record was
+-- read to its end, where it has this fault, where reading it failed, and where writing failed
 pub record Endings : Type 1 where
   pub whole : Book → Text → Option Text → Type 0
   pub refused : RecordFault → Book → Text → Option Text → Type 0
@@ -26,8 +27,10 @@ module _ {S : Type 0} (out : SinkCall S) (limit : ℕ) where
     pub written : Writes out (reply b text limit)
     pub spent : left ≡ Some []
 
-  -- the record has this fault, its reply is written, and no more than a piece was taken from the first wrong byte on
-  pub record RepliesTo (g : RecordFault) (b : Book) (text : Text) (left : Option Text) : Type 0 where
+  -- the record has this fault, its reply is written, and no more than a piece was taken from the
+  -- first wrong byte on
+  pub record RepliesTo (g : RecordFault) (b : Book) (text : Text) (left : Option Text)
+      : Type 0 where
     pub fault_is : fault text limit ≡ Some g
     pub written : Writes out (reply b text limit)
     pub took : TookNear limit text left
@@ -43,7 +46,8 @@ module _ {S : Type 0} (out : SinkCall S) (limit : ℕ) where
 -- ---- the endings of `why`
 
 module _ {S : Type 0} (out : SinkCall S) where
-  -- the record has no fault, where each alert stands after it is written, and it was read to its end
+  -- the record has no fault, where each alert stands after it is written, and it was read to its
+  -- end
   pub record Explains (b : Book) (text : Text) (left : Option Text) : Type 0 where
     pub faultless : fault text no_limit ≡ None
     pub written : Writes out (standing_lines b (events text no_limit))
@@ -55,8 +59,10 @@ module _ {S : Type 0} (out : SinkCall S) where
     pub written : WritesPart out (standing_lines b (events text no_limit))
     pub spent : left ≡ Some []
 
-  -- the record has this fault, nothing is written, and no more than a piece was taken from the first wrong byte on
-  pub record ExplainsNothing (g : RecordFault) (b : Book) (text : Text) (left : Option Text) : Type 0 where
+  -- the record has this fault, nothing is written, and no more than a piece was taken from the
+  -- first wrong byte on
+  pub record ExplainsNothing (g : RecordFault) (b : Book) (text : Text) (left : Option Text)
+      : Type 0 where
     pub fault_is : fault text no_limit ≡ Some g
     pub kept : WritesNothing out
     pub took : TookNear no_limit text left
@@ -70,4 +76,9 @@ module _ {S : Type 0} (out : SinkCall S) where
     pub kept : WritesNothing out
 
   abbrev pub explaining : Endings
-  explaining = record { whole = Explains; refused = ExplainsNothing; broken = BreaksOff; stopped = ExplainsInPart }
+  explaining = record {
+    whole = Explains;
+    refused = ExplainsNothing;
+    broken = BreaksOff;
+    stopped = ExplainsInPart;
+  }

@@ -1,5 +1,6 @@
 -- What a replay, and a step of it, has written when it ends so.
-use Rattle.std.specs.Prelude.{◌≡◌, ◌⊎◌, ℕ, ◌+◌, ◌*◌, ◌≤◌, List, [], ◌∷◌, ◌++◌, length, All, Option, Some, None, Result, Ok, Err}
+use Rattle.std.specs.Prelude.{◌≡◌, ◌⊎◌, ℕ, ◌+◌, ◌*◌, ◌≤◌, List, [], ◌∷◌, ◌++◌, length, All}
+use Rattle.std.specs.Prelude.{Option, Some, None, Result, Ok, Err}
 use Rattle.std.specs.Io.KnownBytes.{Consumes}
 use Rattle.ecam_io.specs.Outside.{ReadCall, Appended, AppendedPrefix}
 use Rattle.ecam_spec.specs.declared.kinds.Event.{Event}
@@ -16,7 +17,8 @@ use Rattle.record_lines.specs.declared.outcome.LineError.TheVariants as line_err
 use Rattle.replay_core.specs.declared.replay.RunError.{RunError}
 use Rattle.replay_core.specs.declared.replay.RunError.TheVariants.{Read, Write, Record}
 
--- of a record these bytes were taken, those before what is left, and no more than a piece from the first wrong byte on
+-- of a record these bytes were taken, those before what is left, and no more than a piece from
+-- the first wrong byte on
 pub record TookNear (limit : ℕ) (text : Text) (rest : Option (List ℕ)) : Type 0 where
   pub taken : Text
   pub behind : Text
@@ -31,7 +33,8 @@ IsLast (Err Read) last = last ≡ piece_call None ∷ []
 IsLast (Err Write) last = (last ≡ []) ⊎ (last ≡ piece_call (Some 0) ∷ [])
 IsLast (Err (Record f)) last = last ≡ last_call (Err (line_errors.Record f))
 
--- a replay that ends so called `read` so: each call asked for a piece and gave some bytes, but for the last that the ending tells of
+-- a replay that ends so called `read` so: each call asked for a piece and gave some bytes, but
+-- for the last that the ending tells of
 pub record HasAsked (result : Result ℕ RunError) (calls : List ReadCall) : Type 0 where
   pub pieces : List ReadCall
   pub last : List ReadCall
@@ -40,28 +43,32 @@ pub record HasAsked (result : Result ℕ RunError) (calls : List ReadCall) : Typ
   pub last_is : IsLast result last
 
 -- of these bytes the first are written, and the others are gathered
-pub record IsHanded {S : Type 0} (agrees : S → List ℕ → Type 0) (old new : S) (bytes gathered : Text) : Type 0 where
+pub record IsHanded {S : Type 0} (agrees : S → List ℕ → Type 0) (old new : S)
+    (bytes gathered : Text) : Type 0 where
   pub sent : Text
   pub parts : bytes ≡ sent ++ gathered
   pub written : Appended agrees old new sent
 
 module _ (b : Book) {S : Type 0} (agrees : S → List ℕ → Type 0) (old new : S) where
   -- the record was read to its end, its whole output is written, and the pair stands where it ends
-  pub record HasRun (pair : Pair) (limit : ℕ) (text : Text) (rest : Option (List ℕ)) (ticks : ℕ) : Type 0 where
+  pub record HasRun (pair : Pair) (limit : ℕ) (text : Text) (rest : Option (List ℕ)) (ticks : ℕ)
+      : Type 0 where
     pub faultless : fault text limit ≡ None
     pub ticks_are : ticks ≡ tick_count (events text limit)
     pub written : Appended agrees old new (reply b text limit)
     pub spent : rest ≡ Some []
     pub stands : PairStands b (events text limit) pair
 
-  -- the record has this fault, its reply is written, and no more than a piece was taken from the first wrong byte on
-  pub record HasMetFault (limit : ℕ) (text : Text) (rest : Option (List ℕ)) (f : RecordFault) : Type 0 where
+  -- the record has this fault, its reply is written, and no more than a piece was taken from the
+  -- first wrong byte on
+  pub record HasMetFault (limit : ℕ) (text : Text) (rest : Option (List ℕ)) (f : RecordFault)
+      : Type 0 where
     pub fault_is : fault text limit ≡ Some f
     pub written : Appended agrees old new (reply b text limit)
     pub took : TookNear limit text rest
 
-  -- A prefix of the blocks up to some line is written. The bytes taken are those before what is left, and no more than a
-  -- piece was taken behind that line.
+  -- A prefix of the blocks up to some line is written. The bytes taken are those before what is
+  -- left, and no more than a piece was taken behind that line.
   pub record StopsAtLine (limit : ℕ) (text : Text) (rest : Option (List ℕ)) : Type 0 where
     pub front : Text
     pub later : Text
@@ -94,21 +101,27 @@ module _ (b : Book) {S : Type 0} (agrees : S → List ℕ → Type 0) (old new :
 
   -- how a replay of a source ends, where it tells what it has left
   abbrev pub Runs : Pair → ℕ → Option (List ℕ) → Option (List ℕ) → Result ℕ RunError → Type 0
-  Runs pair limit left rest (Ok ticks) = (text : Text) → left ≡ Some text → HasRun pair limit text rest ticks
+  Runs pair limit left rest (Ok ticks) =
+      (text : Text) → left ≡ Some text → HasRun pair limit text rest ticks
   Runs pair limit left rest (Err Read) = HasBroken limit left rest
-  Runs pair limit left rest (Err Write) = (text : Text) → left ≡ Some text → HasStopped limit text rest
-  Runs pair limit left rest (Err (Record f)) = (text : Text) → left ≡ Some text → HasMetFault limit text rest f
+  Runs pair limit left rest (Err Write) =
+      (text : Text) → left ≡ Some text → HasStopped limit text rest
+  Runs pair limit left rest (Err (Record f)) =
+      (text : Text) → left ≡ Some text → HasMetFault limit text rest f
 
   -- an event was taken, and what it shows was gathered behind what was before
-  pub record HasFed (before after : Text) (h : List Event) (e : Event) (pair : Pair) (ticks : ℕ) : Type 0 where
+  pub record HasFed (before after : Text) (h : List Event) (e : Event) (pair : Pair) (ticks : ℕ)
+      : Type 0 where
     pub stands : PairStands b (h ++ e ∷ []) pair
     pub ticks_are : ticks ≡ tick_count (h ++ e ∷ [])
     pub more : Text
     pub blocks : history_blocks b (h ++ e ∷ []) ≡ history_blocks b h ++ more
     pub handed : IsHanded agrees old new (before ++ more) after
 
-  -- where a replay is between two lines: these bytes came, these events were taken, and their blocks are written or gathered
-  pub record IsAt (gathered : Text) (limit : ℕ) (left rest : Option (List ℕ)) (reader : ReaderState) (pair : Pair) (ticks : ℕ) : Type 0 where
+  -- where a replay is between two lines: these bytes came, these events were taken, and their
+  -- blocks are written or gathered
+  pub record IsAt (gathered : Text) (limit : ℕ) (left rest : Option (List ℕ))
+      (reader : ReaderState) (pair : Pair) (ticks : ℕ) : Type 0 where
     pub taken : List ℕ
     pub answered : List Event
     pub moved : Consumes left rest taken

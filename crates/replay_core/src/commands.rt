@@ -12,8 +12,6 @@ ghost use Rattle.ecam_spec.specs.Command.{command_of};
 ghost use Rattle.replay_core.specs.Decides.{Decides, DecidesUsage};
 ghost use Rattle.replay_core.specs.Headline.{Replays, all_changes};
 ghost use Rattle.replay_core.specs.Outcomes.{status_of, refusal_of, Complains};
-ghost use Rattle.replay_core.specs.Play.{Tells};
-ghost use Rattle.fwc_pair.specs.PairState.{PairFits};
 ghost use Rattle.replay_core.specs.declared.outcome.Outcome.{Outcome as Ending};
 
 use crate::drill::drill;
@@ -196,24 +194,13 @@ fn explain_files<F: Shelf, O: Sink>(
         Ok(mut loaded) => {
             let mut dropped = Discard;
             match play(&mut loaded, record_name, u32::MAX, files, &mut dropped) {
-                Ok(_) => explain(&loaded, out),
+                Ok(_) => match put_standings(&loaded, out) {
+                    Ok(()) => Outcome::Done,
+                    Err(Failed) => Outcome::WriteFault,
+                },
                 Err(error) => refusal(error),
             }
         }
         Err(unready) => unready.outcome(),
-    }
-}
-
-// Writes where each alert stands, and tells whether that was done.
-fn explain<O: Sink>(loaded: &Loaded, out: &mut O) -> Outcome
-    requires { PairFits (the_book loaded.now.book) loaded.now.pair }
-    ensures explains { Tells
-        (sink_call O.Sink out.old out.new) (the_book loaded.now.book) loaded.now.pair result }
-    ensures out_faults { O.faults out.old ≤ O.faults out.new }
-    ensures out_quiet { result ≢ Outcome.WriteFault → O.faults out.new ≡ O.faults out.old }
-{
-    match put_standings(loaded, out) {
-        Ok(()) => Outcome::Done,
-        Err(Failed) => Outcome::WriteFault,
     }
 }

@@ -7,14 +7,13 @@ mod commands;
 mod drill;
 mod file;
 mod gather;
+pub mod laws;
 mod load;
 mod outcome;
 mod play;
 mod replay;
 mod standings;
 mod summary;
-#[cfg(test)]
-mod tests;
 mod words;
 
 pub use commands::ecam;

@@ -5,13 +5,13 @@ ghost use Rattle.ecam_spec.specs.declared.kinds.Event.{Event};
 ghost use Rattle.ecam_spec.specs.Keys.{IsEvent};
 ghost use Rattle.ecam_spec.specs.Record.{events};
 ghost use Rattle.ecam_spec.specs.RecordLine.{is_end_event};
-ghost use Rattle.ecam_spec.specs.Replay.{is_tick, tick_count};
+ghost use Rattle.ecam_spec.specs.Replay.{is_tick, tick_count, reply};
 ghost use Rattle.ecam_spec.specs.Output as output;
 ghost use Rattle.book_model.specs.Sealed.{the_book};
 ghost use Rattle.fwc_pair.specs.PairState.{moments_of, PairFits, PairStands};
 ghost use Rattle.record_lines.specs.Reads.{Makes};
 ghost use Rattle.replay_core.specs.Runs.{HasFed, Runs, HasAsked};
-ghost use Rattle.replay_core.specs.Unaffected.{IsUnaffected, written_without};
+ghost use Rattle.replay_core.specs.Unaffected.{IsUnaffected, DropsFailures};
 
 use crate::block::{BLOCK, GATHERED, Gathered, put, put_block};
 use crate::gather::{hand_over, hand_over_before_read, make_room};
@@ -51,11 +51,10 @@ pub fn run<S: Source, O: Sink>(
     ensures fits { PairFits (the_book book.now) pair.new }
     ensures runs { Runs (the_book book.now) O.agrees out.old out.new pair.new limit
         (S.left source.old) (S.left source.new) result }
-    // While one computer stays up, it has no bearing on what is written which of them fail.
-    ensures unaffected { IfOk result (λ n. (text : List ℕ) → S.left source.old ≡ Some text
-        → IsUnaffected (the_book book.now) (events text limit)
-        → Appended O.agrees out.old out.new
-        (written_without (the_book book.now) (events text limit) n)) }
+    // While one computer stays up, what is written is the reply of the record without the lines on which they fail.
+    ensures unaffected { IfOk result (λ n. (text bare : List ℕ) → S.left source.old ≡ Some text
+        → IsUnaffected (the_book book.now) (events text limit) → DropsFailures text bare limit
+        → Appended O.agrees out.old out.new (reply (the_book book.now) bare limit)) }
 
     ensures read { result ≡ Err RunError.Read → Rose (S.faults source.old) (S.faults source.new) }
     ensures write { result ≡ Err RunError.Write → Rose (O.faults out.old) (O.faults out.new) }

@@ -1,5 +1,3 @@
-use Rattle.std.proofs.Common.{◌++◌, sym, subst}
-use Rattle.ecam_io.specs.Outside.{Appended, AppendedPrefix}
 use Rattle.ecam_io.proofs.Calls.{AppendedPrefix-longer}
 use Rattle.ecam_spec.specs.Output.{end_line}
 use Rattle.replay_core.proofs.StandingLines.{on-err}

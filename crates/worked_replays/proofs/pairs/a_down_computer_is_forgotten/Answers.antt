@@ -1,0 +1,21 @@
+use Rattle.std.proofs.Common.{◌≡◌, ◌∷◌, [], ◌++◌, true, false, refl, ap, ◌∙◌}
+use Rattle.ecam_spec.specs.declared.kinds.Event.TheVariants.{Fail}
+use Rattle.ecam_spec.specs.History.{Flags, flags_with, flags_after}
+use Rattle.book_model.specs.Sealed.{the_book}
+use Rattle.worked_replays.proofs.pairs.a_down_computer_is_forgotten.Goals as goal
+
+-- computer 2 is down after its failure
+down : flags_after ([] ++ Fail 2 ∷ []) ≡ record { one = true; two = false }
+unfolding flags_after flags_with
+down = refl
+
+pub play-requires-2 : goal.play-requires-2
+play-requires-2 g c =
+    let b = the_book c.in_ok-book.book in
+    let stands = c.event.ensures.stands [] c.in_ok-pair.ensures.stands in
+    let two : c.event.new.self.two_up ≡ false = ap (λ (f : Flags). f.two) (stands.flags ∙ down) in
+    record {
+      one = c.event.ensures.fits.one;
+      two = c.copy_from.ensures.fits b c.event.ensures.fits.two c.play.ensures.one;
+      together = λ e f. absurd (let w : ⊥ = cc in w);
+    }

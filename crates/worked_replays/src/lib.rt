@@ -1,0 +1,28 @@
+//! Worked books and records, replayed in memory by a pair of computers and by the whole program, with and without failing
+//! calls. Nothing rests on it; it has tests alone, whose expected lines come from the rules by hand.
+#![tactic(auto)]
+
+#[cfg(test)]
+mod books;
+#[cfg(test)]
+mod checks;
+#[cfg(test)]
+mod each_failure;
+#[cfg(test)]
+mod failures;
+#[cfg(test)]
+mod faults;
+#[cfg(test)]
+mod limits;
+#[cfg(test)]
+mod outside;
+#[cfg(test)]
+mod pairs;
+#[cfg(test)]
+mod records;
+#[cfg(test)]
+mod replays;
+#[cfg(test)]
+mod rows;
+#[cfg(test)]
+mod writes;

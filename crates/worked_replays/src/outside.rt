@@ -1,0 +1,108 @@
+// A command on files in memory, and what it ends with, writes and tells.
+ghost use Rattle.std.specs.Prelude.{◌<◌};
+
+use ecam_io::{MemoryFile, MemoryShelf, MemorySink};
+use replay_core::{Status, ecam};
+use std::alloc::{AllocError, Global};
+use std::process::Abort;
+use std::test::Fail;
+
+// The first block of a record in which an alert's discrete is one at once.
+pub(crate) const ONE_BLOCK: &str = "@0\nL1 A HYD G RSVR LO LVL\n";
+
+// Lines, behind each of which a slash stands.
+pub(crate) fn lines_of(alloc: Global, text: &str) -> Result<String, AllocError> {
+    let mut lines = String::new(alloc);
+    for line in text.split('/') {
+        if !line.is_empty() {
+            lines.push_str(line)?;
+            lines.push_str("\n")?;
+        }
+    }
+    Ok(lines)
+}
+
+// What fails of the outside: the calls of these numbers, where a read gives and a write takes so many bytes, and the
+// sink has so much room.
+#[derive(Clone, Copy)]
+pub(crate) struct Outside<'a> {
+    pub(crate) reads_failing: &'a [u32],
+    pub(crate) read_piece: usize,
+    pub(crate) writes_failing: &'a [u32],
+    pub(crate) write_piece: usize,
+    pub(crate) room: usize,
+}
+
+// Nothing fails.
+pub(crate) fn sound<'a>() -> Outside<'a>
+    ensures read { 0 < result.read_piece }
+    ensures write { 0 < result.write_piece }
+{
+    Outside {
+        reads_failing: &[],
+        read_piece: 4096,
+        writes_failing: &[],
+        write_piece: 4096,
+        room: 4096,
+    }
+}
+
+pub(crate) fn file(alloc: Global, name: &str, bytes: &[u8]) -> Result<MemoryFile, AllocError> {
+    Ok(MemoryFile {
+        name: String::from_str(alloc, name)?,
+        bytes: bytes.to_vec(alloc)?,
+    })
+}
+
+// The files of a book and of a record.
+pub(crate) fn two_files(
+    alloc: Global,
+    book: &str,
+    record_text: &str,
+) -> Result<Vec<MemoryFile>, AllocError> {
+    let mut files = Vec::new(alloc);
+    files.push(file(alloc, "book", book.as_bytes())?)?;
+    files.push(file(alloc, "record", record_text.as_bytes())?)?;
+    Ok(files)
+}
+
+// Words, each behind a blank.
+pub(crate) fn words_of(alloc: Global, line: &str) -> Result<Vec<String>, AllocError> {
+    let mut words = Vec::new(alloc);
+    for word in line.split(' ').skip(1) {
+        words.push(String::from_str(alloc, word)?)?;
+    }
+    Ok(words)
+}
+
+// What a command with these files ends with and writes: the status, what is written, and what is told.
+pub(crate) fn does(
+    rt: &impl Abort,
+    alloc: Global,
+    words: &str,
+    files: Vec<MemoryFile>,
+    outside: Outside<'_>,
+    want: (Status, &str, &str),
+) -> Result<(), Fail>
+    requires read { 0 < outside.read_piece }
+    requires write { 0 < outside.write_piece }
+{
+    let mut shelf = MemoryShelf::new(
+        files,
+        outside.reads_failing.to_vec(alloc)?,
+        outside.read_piece,
+    );
+    let mut out = MemorySink::new(
+        alloc,
+        outside.writes_failing.to_vec(alloc)?,
+        outside.write_piece,
+        outside.room,
+    )?;
+    let mut err = MemorySink::new(alloc, Vec::new(alloc), 4096, 4096)?;
+    let words = words_of(alloc, words)?;
+    let status = ecam(alloc, &words, &mut shelf, &mut out, &mut err);
+    assert_eq!(rt; status, want.0);
+    assert_eq!(rt; out.bytes(), want.1.as_bytes());
+    assert_eq!(rt; err.bytes(), want.2.as_bytes());
+    Ok(())
+}
