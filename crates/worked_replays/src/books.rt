@@ -139,3 +139,29 @@ pub(crate) const SECOND_SOURCE: &str = "version = 1\nsystems = [\"HYD\"]\n\
 pub(crate) const SDI_ONE: &str = "version = 1\nsystems = [\"HYD\"]\n\
 [[param]]\nname = \"g_lo\"\nkind = \"disc\"\nstale = 600\nsource = [{ bus = 0, label = \"270\", sdi = 1, bit = 11 }]\n\
 [[alert]]\nname = \"g_rsvr\"\ntitle = \"HYD G RSVR LO LVL\"\nsystem = \"HYD\"\nlevel = 1\nwhen = \"g_lo\"\n";
+
+// The advisory once its discrete has been one for four moments.
+pub(crate) const CONFIRMED_ADVISORY: &str = "version = 1\nsystems = [\"HYD\"]\n\
+[[param]]\nname = \"g_lo\"\nkind = \"disc\"\nstale = 600\nsource = [{ bus = 0, label = \"270\", bit = 11 }]\n\
+[[alert]]\nname = \"g_rsvr\"\ntitle = \"HYD G RSVR LO LVL\"\nsystem = \"HYD\"\nlevel = 1\nwhen = \"g_lo\"\nconfirm = 3\n";
+
+// The advisory by a condition that waits for two moments.
+pub(crate) const HELD_ON: &str = "version = 1\nsystems = [\"HYD\"]\n\
+[[param]]\nname = \"g_lo\"\nkind = \"disc\"\nstale = 600\nsource = [{ bus = 0, label = \"270\", bit = 11 }]\n\
+[[alert]]\nname = \"g_rsvr\"\ntitle = \"HYD G RSVR LO LVL\"\nsystem = \"HYD\"\nlevel = 1\nwhen = \"conf(g_lo, 2)\"\n";
+
+// The advisory on a press of T.O CONFIG.
+pub(crate) const ON_A_PRESS: &str = "version = 1\nsystems = [\"HYD\"]\n\
+[[param]]\nname = \"g_lo\"\nkind = \"disc\"\nstale = 600\nsource = [{ bus = 0, label = \"270\", bit = 11 }]\n\
+[[alert]]\nname = \"g_rsvr\"\ntitle = \"HYD G RSVR LO LVL\"\nsystem = \"HYD\"\nlevel = 1\nwhen = \"press(TOCFG)\"\n";
+
+// The inhibited caution, of level 1.
+pub(crate) const INHIBITED_ADVISORY: &str = "version = 1\nsystems = [\"HYD\"]\n\
+[[param]]\nname = \"g_lo\"\nkind = \"disc\"\nstale = 600\nsource = [{ bus = 0, label = \"270\", bit = 11 }]\n\
+[[param]]\nname = \"gnd\"\nkind = \"disc\"\nstale = 600\nsource = [{ bus = 0, label = \"350\", bit = 11 }]\n\
+[[param]]\nname = \"run\"\nkind = \"disc\"\nstale = 600\nsource = [{ bus = 0, label = \"350\", bit = 12 }]\n\
+[[param]]\nname = \"tp\"\nkind = \"disc\"\nstale = 600\nsource = [{ bus = 0, label = \"350\", bit = 13 }]\n\
+[[param]]\nname = \"fast\"\nkind = \"disc\"\nstale = 600\nsource = [{ bus = 0, label = \"350\", bit = 14 }]\n\
+[[param]]\nname = \"low\"\nkind = \"disc\"\nstale = 600\nsource = [{ bus = 0, label = \"350\", bit = 15 }]\n\
+[[param]]\nname = \"high\"\nkind = \"disc\"\nstale = 600\nsource = [{ bus = 0, label = \"350\", bit = 16 }]\n[phase]\ngnd = \"gnd\"\nrun = \"run\"\ntp = \"tp\"\nfast = \"fast\"\nlow = \"low\"\nhigh = \"high\"\n\
+[[alert]]\nname = \"g_rsvr\"\ntitle = \"HYD G RSVR LO LVL\"\nsystem = \"HYD\"\nlevel = 1\nwhen = \"g_lo\"\ninhibit = [3, 4, 5]\n";

@@ -12,7 +12,7 @@ pub(crate) type Worked = (
     &'static [Standing],
 );
 
-pub(crate) const RECORDS: [Worked; 26] = [
+pub(crate) const RECORDS: [Worked; 31] = [
     (ADVISORY, "E/", "", "END 0/", &[Standing::Quiet]),
     (
         ADVISORY,
@@ -196,6 +196,51 @@ pub(crate) const RECORDS: [Worked; 26] = [
         &[Standing::Titled { row: 1 }],
     ),
     (ADVISORY, "T/P CLR/T/E/", "", "END 2/", &[Standing::Quiet]),
+    (
+        NINE,
+        "W 0 0000041d/T/E/",
+        "@0/L1 A ALERT 1/L2 A ALERT 2/L3 A ALERT 3/L4 A ALERT 4/L5 A ALERT 5/L6 A ALERT 6/L7 A ALERT 7/FL W v OVF 2/",
+        "END 1/",
+        &[
+            Standing::Titled { row: 1 },
+            Standing::Titled { row: 2 },
+            Standing::Titled { row: 3 },
+            Standing::Titled { row: 4 },
+            Standing::Titled { row: 5 },
+            Standing::Titled { row: 6 },
+            Standing::Titled { row: 7 },
+            Standing::Counted,
+            Standing::Counted,
+        ],
+    ),
+    (
+        CONFIRMED_ADVISORY,
+        "W 0 0000041d/T/T/T/W 0 8000001d/T/W 0 0000041d/T/T/T/T/E/",
+        "@7/L1 A HYD G RSVR LO LVL/",
+        "END 8/",
+        &[Standing::Titled { row: 1 }],
+    ),
+    (
+        HELD_ON,
+        "W 0 0000041d/T/T/T/E/",
+        "@2/L1 A HYD G RSVR LO LVL/",
+        "END 3/",
+        &[Standing::Titled { row: 1 }],
+    ),
+    (
+        ON_A_PRESS,
+        "P TOCFG/T/T/E/",
+        "@0/L1 A HYD G RSVR LO LVL/@1/L1 -/",
+        "END 2/",
+        &[Standing::Quiet],
+    ),
+    (
+        INHIBITED_ADVISORY,
+        "W 0 00000417/T/W 0 80000c17/T/W 0 00001c17/T/W 0 80003c17/W 0 0000041d/T/W 0 00007017/T/W 0 8000a017/T/E/",
+        "@5/L1 A HYD G RSVR LO LVL/",
+        "END 6/",
+        &[Standing::Titled { row: 1 }],
+    ),
 ];
 
 // Takeover inside a moment, both computers down and up again inside one, and lines that change nothing.
