@@ -1,4 +1,4 @@
-use Rattle.std.proofs.Common.{◌-◌, false, leb, refl, sym, ◌∙◌, ap}
+use Rattle.std.proofs.Common.{◌-◌, false, leb, sym, ◌∙◌, ap}
 use Rattle.std.specs.Option.{option_map_or}
 use Rattle.ecam_spec.proofs.PastRuns.{historically_within-running}
 use Rattle.crew_marks.proofs.stretch.is_long.Goals as goal
