@@ -5,11 +5,10 @@ use Rattle.std.specs.List.{list_any}
 use Rattle.std.specs.Option.{option_or}
 use Rattle.std.proofs.lemmas.Bool.{cases_lt}
 use Rattle.std.proofs.lemmas.List.{length-set, get_or-set_same, get_or-set_other, get_or_past, get_or-replicate}
-use Rattle.ecam_spec.specs.Past.{Signal, previous}
+use Rattle.ecam_spec.specs.Past.{Signal, previous, previously}
 use Rattle.ecam_spec.specs.Book.{Book}
 use Rattle.ecam_spec.specs.Alert as alert
 use Rattle.ecam_spec.specs.Situation.{primaries}
-use Rattle.alert_truth.specs.Runs.{previously}
 use Rattle.alert_truth.specs.Alerts.{Tells, starred_by_where}
 use Rattle.alert_truth.specs.Stars.{StarsFit, StarsStand, HasPlace, Takes}
 use Rattle.alert_truth.specs.declared.stars.Stars.{Stars}
@@ -161,7 +160,7 @@ module _ (b : Book) (flags : List Bool) (now : Stars) (n : ℕ) (count : n ≡ l
 
   -- the stars stand for one moment more
   pub taken-stands : IsHalfTaken b flags now n n → (active : ℕ → Signal) (k : ℕ) → Tells (length b.alerts) flags active (suc k) → StarsStand b active (suc k) now
-  unfolding previous previously alert.starred alert.starred_by alert.up
+  unfolding previous alert.starred alert.starred_by alert.up
   taken-stands half active k tells =
       let first_one : (a : ℕ) → a < length b.alerts → primary_of b flags a ≡ cond (active a k) (find (λ p. active p k) (primaries b a)) None
       = λ a within.
@@ -186,7 +185,7 @@ module _ (b : Book) (active : ℕ → Signal) where
 
   pub still-by : (k : ℕ) → ((a : ℕ) → a < length b.alerts → active a k ≡ previous (active a) k) → (a : ℕ) → a < length b.alerts
       → starred_by_where b active a k ≡ previously (starred_by_where b active a) k
-  unfolding previous previously
+  unfolding previous
   still-by zero still a within = sym (by-first a 0) ∙ ap (λ x. cond x (find (λ p. active p 0) (primaries b a)) None) (still a within)
   still-by (suc k) still a within =
       sym (by-first a (suc k))
@@ -197,7 +196,7 @@ module _ (b : Book) (active : ℕ → Signal) where
 -- no alert is starred or up before the first moment
 pub blank-stands : (b : Book) (active : ℕ → Signal) (s : Stars) (n : ℕ) → n ≡ length b.alerts
     → s.primaries.items ≡ replicate n None → s.starred.items ≡ replicate n false → s.up.items ≡ replicate n false → StarsStand b active 0 s
-unfolding previous previously
+unfolding previous
 blank-stands b active s n count primary starred up = record {
   primaries = λ a within. ap (λ xs. get_or xs a None) primary ∙ get_or-replicate n a None None (omega arith);
   starred = λ a within. ap (λ xs. get_or xs a false) starred ∙ get_or-replicate n a false false (omega arith);

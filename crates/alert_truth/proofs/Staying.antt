@@ -3,9 +3,8 @@ use Rattle.std.proofs.Common.{◌≡◌, ℕ, zero, suc, ◌-◌, Bool, true, fa
 use Rattle.std.specs.Prelude.{is_none}
 use Rattle.std.proofs.lemmas.Bool.{and_parts}
 use Rattle.std.proofs.lemmas.Bool.Decides.{nat_tests}
-use Rattle.ecam_spec.specs.Past.{Signal, previous}
+use Rattle.ecam_spec.specs.Past.{Signal, previous, running_since}
 use Rattle.ecam_spec.specs.Alert as alert
-use Rattle.alert_truth.specs.Runs.{running_since}
 use Rattle.alert_truth.proofs.Moments.{since-on, since-off, present-running, present-broken, active-now}
 
 -- in moment k an alert with this condition is as in the moment before

@@ -4,11 +4,10 @@ use Rattle.std.specs.Prelude.{is_some, find, ◌↔◌}
 use Rattle.std.specs.List.{list_any}
 use Rattle.std.proofs.lemmas.Bool.{cases_lt}
 use Rattle.std.proofs.lemmas.List.{length-set, get_or-set_same, get_or-set_other, get_or-replicate}
-use Rattle.ecam_spec.specs.Past.{Signal, previous}
+use Rattle.ecam_spec.specs.Past.{Signal, previous, running_since, previously}
 use Rattle.ecam_spec.specs.Book.{Book}
 use Rattle.ecam_spec.specs.Alert as alert
 use Rattle.ecam_spec.specs.Situation.{alert_at, primaries}
-use Rattle.alert_truth.specs.Runs.{running_since, previously}
 use Rattle.alert_truth.specs.Alerts.{Tells, inhibited, present, active, waiting, starred, starred_by, up}
 use Rattle.alert_truth.specs.Stars.{StarsFit, StarsStand}
 use Rattle.alert_truth.specs.TruthsState.{TruthsFit, TruthsStand, HalfStand, IsStepped, IsStill, Unchanged}
@@ -143,7 +142,7 @@ module _ (b : Book) (conditions : ℕ → Signal) (phases : ℕ → ℕ) where
   starred-some a k = star-some (active b conditions phases a k) (λ p. active b conditions phases p k) (primaries b a)
 
   starred-before : (a k : ℕ) → is_some (previously (starred_by b conditions phases a) k) ≡ previous (starred b conditions phases a) k
-  unfolding previous previously
+  unfolding previous
   starred-before a zero = refl
   starred-before a (suc k) = starred-some a k
 
@@ -176,7 +175,7 @@ module _ (b : Book) (conditions : ℕ → Signal) (phases : ℕ → ℕ) where
   -- so the stars that stand for the moments before stand for this one too
   pub still-stars : (k : ℕ) (s : Stars) → ((a : ℕ) → a < length b.alerts → IsStill b conditions phases k a)
       → StarsStand b (active b conditions phases) k s → StarsStand b (active b conditions phases) (suc k) s
-  unfolding previous previously
+  unfolding previous
   still-stars k s still stands =
       let same = unchanged k still in
       record {

@@ -1,4 +1,3 @@
-pub mod Runs
 pub mod Alerts
 pub mod Stars
 pub mod TruthsState

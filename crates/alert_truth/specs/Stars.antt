@@ -1,8 +1,7 @@
 -- What the stars say of the alerts that are active.
 use Rattle.std.specs.Prelude.{◌≡◌, ℕ, ◌<◌, Bool, not, ◌&&◌, length, get_or, set, None, is_some, if◌then◌else◌}
-use Rattle.ecam_spec.specs.Past.{Signal}
+use Rattle.ecam_spec.specs.Past.{Signal, previously}
 use Rattle.ecam_spec.specs.Book.{Book}
-use Rattle.alert_truth.specs.Runs.{previously}
 use Rattle.alert_truth.specs.Alerts.{Tells, starred_where, starred_by_where, up_where}
 use Rattle.alert_truth.specs.declared.stars.Stars.{Stars}
 

@@ -1,8 +1,7 @@
 -- What the truths of a book's alerts say of the moments so far.
 use Rattle.std.specs.Prelude.{◌≡◌, ◌↔◌, ℕ, suc, ◌<◌, ◌≤◌, ◌^◌, false, length, get_or, None}
-use Rattle.ecam_spec.specs.Past.{Signal, previous}
+use Rattle.ecam_spec.specs.Past.{Signal, previous, running_since, previously}
 use Rattle.ecam_spec.specs.Book.{Book}
-use Rattle.alert_truth.specs.Runs.{running_since, previously}
 use Rattle.alert_truth.specs.Alerts.{present, active, waiting, starred, starred_by, up}
 use Rattle.alert_truth.specs.Stars.{StarsFit, StarsStand}
 use Rattle.alert_truth.specs.declared.truths.Truths.{Truths}

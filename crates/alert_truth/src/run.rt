@@ -1,8 +1,7 @@
 // One alert in one moment.
 ghost use Rattle.std.specs.Prelude.{◌≡◌, ℕ, suc};
-ghost use Rattle.ecam_spec.specs.Past.{Signal, previous};
+ghost use Rattle.ecam_spec.specs.Past.{Signal, previous, running_since};
 ghost use Rattle.ecam_spec.specs.Alert as alert;
-ghost use Rattle.alert_truth.specs.Runs.{running_since};
 
 /// Since which moment a condition has held without a break, where it has held since `before` up to the moment
 /// before now.

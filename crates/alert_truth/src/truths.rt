@@ -1,9 +1,8 @@
 // The truths of all alerts.
 ghost use Rattle.std.specs.Prelude.{◌≡◌, ◌↔◌, ℕ, suc, ◌+◌, ◌<◌, ◌≤◌, false, length, set, get_or, slice_index_or, is_none, Option, None, IfOk, if◌then◌else◌};
-ghost use Rattle.ecam_spec.specs.Past.{Signal};
+ghost use Rattle.ecam_spec.specs.Past.{Signal, previously};
 ghost use Rattle.ecam_spec.specs.Book as plain;
 ghost use Rattle.book_model.specs.Sealed.{the_book};
-ghost use Rattle.alert_truth.specs.Runs.{previously};
 ghost use Rattle.alert_truth.specs.Alerts.{Tells, present, active, waiting, starred, starred_by, up};
 ghost use Rattle.alert_truth.specs.TruthsState.{TruthsFit, TruthsStand, HalfStand, Unchanged, CanGoOn};
 ghost use Rattle.alert_truth.specs.Noting.{HasAlert, Notes};

@@ -6,7 +6,7 @@ use Rattle.std.specs.List.{find}
 use Rattle.std.proofs.lemmas.Bool.{cases_lt, eqb-true, false≢true}
 use Rattle.std.proofs.lemmas.List.{get_or_past, get_or-replicate, length-replicate}
 use Rattle.std.proofs.Math.Bool.{and-true, and-false}
-use Rattle.ecam_spec.specs.Past.{previous}
+use Rattle.ecam_spec.specs.Past.{previous, running_since, last_since}
 use Rattle.ecam_spec.specs.Book.{Book}
 use Rattle.ecam_spec.specs.Screen.{order}
 use Rattle.ecam_spec.specs.Crew as crew
@@ -18,7 +18,6 @@ use Rattle.crew_marks.specs.declared.mark.Mark.{Mark}
 use Rattle.crew_marks.specs.declared.mark.Actions.{Actions}
 use Rattle.crew_marks.specs.MarkStep.{mark_after, sight_of, actions_of}
 use Rattle.crew_marks.specs.MarkSets.{MarkSets, mark_at, AreMany}
-use Rattle.crew_marks.specs.Runs.{running_since, last_within}
 use Rattle.crew_marks.specs.CrewMarks.{CrewMarks, is_cleared, is_recalled, is_shown}
 use Rattle.crew_marks.specs.MarksState.{IsCrewOf, SeesCrew, MarksFit, MarkStands, MarksStand, OnlyCleared}
 use Rattle.crew_marks.proofs.Orders.{mem-order, found-within}
@@ -234,7 +233,7 @@ module _ (b : Book) (c : Cockpit) (k : ℕ) (ups waits : List Bool) (keys : Keys
     not-same true false e = cc
     not-same false true e = cc
 
-  pub stepped-stands : new.moments ≡ old.moments + 1 → new.target ≡ old.first → new.held_since ≡ running_since c.rcl_held (suc k) → new.quiet_press ≡ last_within c.rcl (shows_nothing c) k
+  pub stepped-stands : new.moments ≡ old.moments + 1 → new.target ≡ old.first → new.held_since ≡ running_since c.rcl_held (suc k) → new.quiet_press ≡ last_since c.rcl (shows_nothing c) k
       → MarksStand b c (suc k) new
   stepped-stands counts target held press = record {
     moments = omega (arith, stands.moments);

@@ -1,7 +1,7 @@
 -- When marks stand for what the crew did in the moments so far.
 use Rattle.std.specs.Prelude.{◌≡◌, ℕ, ◌<◌, Bool, true, false, List, length, get_or, find, IfSome}
 use Rattle.ecam_spec.specs.declared.kinds.Key.TheVariants.{Clr, Rcl, Emer}
-use Rattle.ecam_spec.specs.Past.{previous}
+use Rattle.ecam_spec.specs.Past.{previous, running_since, last_since, previously}
 use Rattle.ecam_spec.specs.Levels.{is_caution_level}
 use Rattle.ecam_spec.specs.Book.{Book}
 use Rattle.ecam_spec.specs.Situation.{alert_at}
@@ -11,7 +11,6 @@ use Rattle.ecam_spec.specs.Crew.{Cockpit, shown, shows_nothing}
 use Rattle.ecam_kinds.specs.declared.keys.Keys.{Keys}
 use Rattle.ecam_kinds.specs.KeyState.{is_pressed, is_held}
 use Rattle.crew_marks.specs.declared.mark.Mark.{Mark}
-use Rattle.crew_marks.specs.Runs.{running_since, last_within, previously}
 use Rattle.crew_marks.specs.MarkSets.{mark_at, AreMany}
 use Rattle.crew_marks.specs.CrewMarks.{CrewMarks, is_cleared, is_recalled, is_shown}
 
@@ -52,7 +51,7 @@ pub record MarksStand (b : Book) (c : Cockpit) (k : ℕ) (m : CrewMarks) : Type 
   pub target : m.target ≡ previously (crew.target (shown c)) k
   pub first : m.first ≡ crew.target (shown c) k
   pub held_since : m.held_since ≡ running_since c.rcl_held k
-  pub quiet_press : m.quiet_press ≡ previously (last_within c.rcl (shows_nothing c)) k
+  pub quiet_press : m.quiet_press ≡ previously (last_since c.rcl (shows_nothing c)) k
 
 -- the alert was cleared, and was neither recalled nor waits now
 pub record OnlyCleared (m : CrewMarks) (waits : List Bool) (a : ℕ) : Type 0 where

@@ -4,7 +4,7 @@ use Rattle.std.specs.Prelude.{find, is_some}
 use Rattle.std.specs.List.{list_any}
 use Rattle.ecam_spec.specs.declared.kinds.Standing.{Standing}
 use Rattle.ecam_spec.specs.declared.kinds.Standing.TheVariants.{Dead, Quiet, Waiting, Cancelled, Cleared, Titled, Counted}
-use Rattle.ecam_spec.specs.Past.{previous}
+use Rattle.ecam_spec.specs.Past.{previous, previously}
 use Rattle.ecam_spec.specs.Book.{Book}
 use Rattle.ecam_spec.specs.declared.kinds.Event.{Event}
 use Rattle.ecam_spec.specs.History.{none_up, flags_after, Moment, era}
@@ -18,7 +18,6 @@ use Rattle.ecam_spec.specs.Replay.{moment_of, standing_in, standing}
 use Rattle.ecam_spec.proofs.CrewLaws.{shown_filter}
 use Rattle.ecam_spec.proofs.OrderLaws.{order-below}
 use Rattle.book_model.specs.Told.{flagged}
-use Rattle.alert_truth.specs.Runs.{previously}
 use Rattle.alert_truth.specs.Alerts.{starred_by_where}
 use Rattle.alert_truth.proofs.Listings.{find-is_some}
 use Rattle.warning_display.specs.LeftRows.{in_order, blocks}
@@ -67,7 +66,7 @@ module _ (b : Book) (m : ℕ → Moment) where
     active-told a within = (stands.truths.each a within).active
 
     primary-told : (a : ℕ) → a < length b.alerts → get_or l.truths.stars.primaries.items a None ≡ starred_by_where b (active_in b m) a j
-    unfolding previously active_in active_knowing present_knowing inhibited condition_in
+    unfolding active_in active_knowing present_knowing inhibited condition_in
     primary-told a within = stands.truths.stars.primaries a within
 
     shown-told : (a : ℕ) → a < length b.alerts → get_or l.marks.sets.shown a false ≡ is_shown_in b m a j

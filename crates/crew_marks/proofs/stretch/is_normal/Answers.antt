@@ -1,15 +1,14 @@
 use Rattle.std.proofs.Common.{◌≡◌, ℕ, zero, suc, ◌-◌, false, leb, refl, sym, ◌∙◌, ap}
 use Rattle.std.specs.Option.{option_map_or}
-use Rattle.ecam_spec.specs.Past.{previous}
+use Rattle.ecam_spec.specs.Past.{previous, last_since, previously}
 use Rattle.ecam_spec.specs.Crew.{Cockpit, shows_nothing, normal}
-use Rattle.crew_marks.specs.Runs.{last_within, previously}
 use Rattle.crew_marks.proofs.Stretches.{normal-press}
 use Rattle.crew_marks.proofs.stretch.is_normal.Goals as goal
 
-normal-told : (c : Cockpit) (k : ℕ) → previous (normal c) k ≡ option_map_or (λ j. leb (k - j) 30) (previously (last_within c.rcl (shows_nothing c)) k) false
+normal-told : (c : Cockpit) (k : ℕ) → previous (normal c) k ≡ option_map_or (λ j. leb (k - j) 30) (previously (last_since c.rcl (shows_nothing c)) k) false
 unfolding previous
 normal-told c zero = refl
-normal-told c (suc k) = normal-press c k (shows_nothing c k) refl
+normal-told c (suc k) = normal-press c k
 
 pub returns-in-Some : goal.returns-in-Some
 returns-in-Some c = λ cockpit k moments press.

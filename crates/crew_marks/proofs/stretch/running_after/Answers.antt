@@ -1,6 +1,6 @@
 use Rattle.std.proofs.Common.{true, false, Some, sym, ◌∙◌, ap}
 use Rattle.std.specs.Option.{option_or}
-use Rattle.crew_marks.specs.Runs.{running_since}
+use Rattle.ecam_spec.specs.Past.{running_since}
 use Rattle.crew_marks.proofs.Stretches.{running-now}
 use Rattle.crew_marks.proofs.stretch.running_after.Goals as goal
 

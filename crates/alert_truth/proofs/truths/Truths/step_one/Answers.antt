@@ -1,13 +1,12 @@
 use Rattle.std.proofs.Common.{◌≡◌, ℕ, ◌<◌, suc, false, None, length, get_or, sym, ap, ◌∙◌, subst, arith}
 use Rattle.std.proofs.lemmas.List.{get_or_default}
-use Rattle.ecam_spec.specs.Past.{Signal, previous}
+use Rattle.ecam_spec.specs.Past.{Signal, previous, running_since}
 use Rattle.ecam_spec.specs.Term.{in_set}
 use Rattle.ecam_spec.specs.Alert as alert
 use Rattle.ecam_spec.specs.Situation.{alert_at}
 use Rattle.book_model.specs.Sealed.{the_book}
 use Rattle.book_model.proofs.BookLists.{many-alerts}
 use Rattle.book_model.proofs.BookReads.{alert-read}
-use Rattle.alert_truth.specs.Runs.{running_since}
 use Rattle.alert_truth.specs.Alerts.{present, active, inhibited}
 use Rattle.alert_truth.specs.TruthsState.{HalfStand, IsStepped}
 use Rattle.alert_truth.proofs.Staying.{IsSame, stays-same}

@@ -1,10 +1,9 @@
 use Rattle.std.proofs.Common.{◌≡◌, ℕ, suc, ◌+◌, ◌||◌, Bool, ◌∙◌, ap}
-use Rattle.ecam_spec.specs.Past.{historically_within}
+use Rattle.ecam_spec.specs.Past.{historically_within, running_since}
 use Rattle.ecam_spec.specs.Crew.{Cockpit, long_recall, shows_nothing}
 use Rattle.book_model.specs.Sealed.{the_book}
 use Rattle.crew_marks.specs.declared.mark.Actions.{Actions}
 use Rattle.crew_marks.specs.MarkStep.{actions_of}
-use Rattle.crew_marks.specs.Runs.{running_since}
 use Rattle.crew_marks.specs.CrewMarks.{CrewMarks}
 use Rattle.crew_marks.proofs.Stepping.{IsStepped, walked-steps, stepped-fits, stepped-hidden, stepped-restored, stepped-recalled, stepped-stands, quiet-now}
 use Rattle.crew_marks.proofs.marks.Marks.step.Goals as goal
