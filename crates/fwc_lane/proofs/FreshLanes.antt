@@ -1,5 +1,5 @@
 -- A lane before anything happened, and one that took over what another holds.
-use Rattle.std.proofs.Common.{◌≡◌, ℕ, zero, suc, ◌<◌, Bool, false, List, [], ◌∷◌, get_or, slice_index, refl, sym, ap, subst, ◌∙◌, arith}
+use Rattle.std.proofs.Common.{◌≡◌, ℕ, zero, suc, ◌<◌, Bool, false, List, [], ◌∷◌, get_or, slice_index, None, refl, sym, ap, subst, ◌∙◌, arith}
 use Rattle.std.specs.List.{list_any}
 use Rattle.fwc_lane.proofs.FlagSteps.{left-false, right-false}
 use Rattle.ecam_spec.specs.Book.{Book}
@@ -19,7 +19,7 @@ use Rattle.ecam_kinds.specs.declared.keys.Keys.{Keys}
 use Rattle.ecam_kinds.specs.Shown.{picture_of}
 use Rattle.book_model.specs.Conditions.{world_of}
 use Rattle.book_model.proofs.ConditionRanges.{range}
-use Rattle.param_table.specs.TableState.{ParamsStand}
+use Rattle.param_table.specs.TableState.{ParamsStand, value_before}
 use Rattle.flight_phases.specs.State as flight_phases
 use Rattle.alert_truth.specs.TruthsState.{TruthsStand}
 use Rattle.crew_marks.specs.MarksState.{MarksStand}
@@ -40,6 +40,7 @@ pub record IsFresh (b : Book) (l : Lane) : Type 0 where
   pub moments : l.moments ≡ 0
   pub ticked : l.ticked ≡ false
   pub params : (words : ℕ → List BusWord) → words 0 ≡ [] → ParamsStand b words 0 l.params
+  pub values : (p : ℕ) → get_or l.values.items p None ≡ None
   pub keys : (strokes : ℕ → List Stroke) → strokes 0 ≡ [] → KeysStand strokes 0 l.keys
   pub cells : StandForNone l.terms.cells.slots
   pub phases : (f : Flight) → flight_phases.Stands f 0 l.phase_state
@@ -57,7 +58,7 @@ none-set (f ∷ fs) none zero = left-false f (list_any (λ b. b) fs) none
 none-set (f ∷ fs) none (suc i) = none-set fs (right-false f (list_any (λ b. b) fs) none) i
 
 fresh-whole : (b : Book) (l : Lane) → LaneFits b l → IsFresh b l → (m : ℕ → Moment) → WholeStands b m 0 l
-unfolding row_changed
+unfolding row_changed value_before
 fresh-whole b l fits fresh m = record {
   counted = fresh.moments;
   ticked = fresh.ticked;
@@ -75,7 +76,7 @@ fresh-whole b l fits fresh m = record {
   attention = fresh.attention (attention b m);
   selector = fresh.selector (panel b m);
   phase = λ j e. absurd (omega arith);
-  values = λ j e. absurd (omega arith);
+  values = λ p lt. fresh.values p;
   lines = λ j e. absurd (omega arith);
   memos = λ j e. absurd (omega arith);
   drawn = record { picture = fresh.picture; counted = λ j e. absurd (omega arith) };
@@ -134,7 +135,7 @@ took-whole b other l took m k was = record {
   attention = took.attention (attention b m) k was.attention;
   selector = rw took.selector was.selector;
   phase = λ j e. ap (λ p. p.number) took.phase ∙ was.phase j e;
-  values = λ j e. rw took.values (was.values j e);
+  values = rw took.values was.values;
   lines = λ j e. rw took.lines (was.lines j e);
   memos = λ j e. rw took.memos (was.memos j e);
   drawn = record { picture = took.picture ∙ was.drawn.picture; counted = λ j e. rw took.counts (was.drawn.counted j e) };

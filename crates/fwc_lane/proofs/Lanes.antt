@@ -87,6 +87,7 @@ fits-with b old p q fits own = record {
   attention = fits.attention;
   selector = fits.selector;
   values = fits.values;
+  short = fits.short;
   terms = fits.terms;
   lines = fits.lines;
   memos = fits.memos;

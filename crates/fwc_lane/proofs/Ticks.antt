@@ -14,6 +14,7 @@ use Rattle.ecam_spec.specs.Situation.{words_in, strokes_in, computer_up, paramet
 use Rattle.ecam_kinds.specs.declared.keys.Keys.{Keys}
 use Rattle.ecam_kinds.specs.KeyState.{is_pressed}
 use Rattle.param_table.specs.declared.table.Params.{Params}
+use Rattle.param_table.specs.TableState.{value_before}
 use Rattle.ecam_spec.specs.Screen.{cockpit, line_stands}
 use Rattle.ecam_kinds.specs.declared.phase.Phase.{Phase}
 use Rattle.book_model.specs.Told.{TellsOf}
@@ -29,7 +30,7 @@ use Rattle.fwc_lane.specs.declared.lane.Lane.{Lane}
 use Rattle.fwc_lane.specs.declared.scene.Turned.{Turned}
 use Rattle.fwc_lane.specs.Scenes.{AreTurned}
 use Rattle.fwc_lane.specs.LaneStands.{WholeStands}
-use Rattle.fwc_lane.specs.Given.{Lends, Came}
+use Rattle.fwc_lane.specs.Given.{Lends, Came, AreBefore}
 use Rattle.fwc_lane.proofs.CrewMoments.{shown-told, cancelled-told}
 
 -- what is so of moment k is so of the one before moment k + 1
@@ -58,13 +59,19 @@ pub record TurnedFrom (b : Book) (m : ℕ → Moment) (k : ℕ) (old : Lane) (t 
   pub was_is : was ≡ previous (normal (cockpit b m)) k
   pub calm_is : calm ≡ previous (normal (cockpit b m)) (suc k)
 
+-- the values of the moment before, where there was one
+pub value-before : (b : Book) (m : ℕ → Moment) (k : ℕ) (values : List (Option ℤ)) → AreBefore b (words_in b m) k values → (j : ℕ) → k ≡ suc j
+    → (p : ℕ) → p < length b.parameters → get_or values p None ≡ value_in b m p j
+unfolding value_before value_in
+value-before b m k values before j e p lt = before p lt ∙ ap (value_before (parameter_at b p) (words_in b m)) e
+
 pub are-turned : (b : Book) (m : ℕ → Moment) (k : ℕ) (old : Lane) (t : Turned) (phase : Phase) (values : List (Option ℤ)) (lines memos : List Bool) (marks : CrewMarks) (was calm : Bool)
     → WholeStands b m k old → TurnedFrom b m k old t phase values lines memos marks was calm → AreTurned b m k t
 unfolding previous
 are-turned b m k old t phase values lines memos marks was calm stands from = record {
   first = first-is k old.ticked t.first stands.ticked from.first;
   phase = λ j e off. sym from.phase_is ∙ ap (λ (p : Phase). p.number) (from.phase_kept off) ∙ stands.phase j e;
-  values = λ j e off p lt. sym (from.values_are p lt) ∙ ap (λ vs. get_or vs p None) (from.values_kept off) ∙ stands.values j e p lt;
+  values = λ j e off p lt. sym (from.values_are p lt) ∙ ap (λ vs. get_or vs p None) (from.values_kept off) ∙ value-before b m k old.values.items stands.values j e p lt;
   lines = λ j e off i l is. sym (from.lines_are i l is) ∙ ap (λ fs. get_or fs i false) (from.lines_kept off) ∙ stands.lines j e i l is;
   memos = λ j e off i x is. sym (from.memos_are i x is) ∙ ap (λ fs. get_or fs i false) (from.memos_kept off) ∙ stands.memos j e i x is;
   shown = λ j e off a lt.
@@ -91,6 +98,12 @@ pub values-told : (b : Book) (m : ℕ → Moment) (k : ℕ) (values : List (Opti
     → (p : ℕ) → p < length b.parameters → get_or values p None ≡ value_in b m p k
 unfolding value_in
 values-told b m k values told = told
+
+-- and in the moment after it they are those of the moment before
+pub values-before : (b : Book) (m : ℕ → Moment) (k : ℕ) (values : List (Option ℤ)) → ((p : ℕ) → p < length b.parameters → get_or values p None ≡ value_in b m p k)
+    → AreBefore b (words_in b m) (suc k) values
+unfolding value_before value_in
+values-before b m k values told = told
 
 -- what is kept of the conditions after a moment
 pub terms-after : (b : Book) (m : ℕ → Moment) (k visited : ℕ) (t : Terms) (params : Params) (keys : Keys) (one two : Bool) → AllStepped b m k visited t → Came b m k params keys one two

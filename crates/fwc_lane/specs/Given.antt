@@ -1,13 +1,14 @@
 -- What a moment brings to a computer.
-use Rattle.std.specs.Prelude.{◌≡◌, ℕ, ◌<◌, Bool, length}
+use Rattle.std.specs.Prelude.{◌≡◌, ℕ, ◌<◌, Bool, ℤ, List, Option, None, length, slice_index_or}
 use Rattle.ecam_spec.specs.declared.kinds.Key.{Key}
 use Rattle.ecam_spec.specs.Keys.{IsKey, pressed}
 use Rattle.ecam_spec.specs.Book.{Book}
 use Rattle.ecam_spec.specs.History.{Moment}
-use Rattle.ecam_spec.specs.Situation.{words_in, strokes_in, value_in, computer_up}
+use Rattle.ecam_spec.specs.Situation.{words_in, strokes_in, value_in, computer_up, parameter_at}
+use Rattle.ecam_spec.specs.Value.{BusWord}
 use Rattle.ecam_kinds.specs.KeyState.{is_pressed, KeysStand}
 use Rattle.ecam_kinds.specs.declared.keys.Keys.{Keys}
-use Rattle.param_table.specs.TableState.{ParamsStand}
+use Rattle.param_table.specs.TableState.{ParamsStand, value_before}
 use Rattle.param_table.specs.declared.table.Params.{Params}
 use Rattle.term_eval.specs.declared.env.Env.{Env}
 use Rattle.term_eval.specs.Shown.{value_of}
@@ -26,3 +27,8 @@ pub record Came (b : Book) (m : ℕ → Moment) (k : ℕ) (params : Params) (key
   pub strokes : KeysStand (strokes_in b m) k keys
   pub one_up : one ≡ computer_up b m 1 k
   pub two_up : two ≡ computer_up b m 2 k
+
+-- these are the values of the moment before k; before moment 0 there is none
+abbrev pub AreBefore : Book → (ℕ → List BusWord) → ℕ → List (Option ℤ) → Type 0
+AreBefore b words k values =
+    (p : ℕ) → p < length b.parameters → slice_index_or values p None ≡ value_before (parameter_at b p) words k

@@ -7,6 +7,7 @@ use Rattle.alert_truth.specs.TruthsState.{TruthsFit}
 use Rattle.crew_marks.specs.MarksState.{MarksFit}
 use Rattle.attention.specs.State.{AttentionFits}
 use Rattle.system_display.specs.Selecting.{SelectorFits}
+use Rattle.system_display.specs.Pages.{AreShort}
 use Rattle.fwc_lane.specs.TermsFit.{TermsFit}
 use Rattle.fwc_lane.specs.declared.lane.Lane.{Lane}
 
@@ -18,6 +19,7 @@ pub record LaneFits (b : Book) (l : Lane) : Type 0 where
   pub attention : AttentionFits b l.attention
   pub selector : SelectorFits b l.selector
   pub values : length l.values.items ≡ length b.parameters
+  pub short : AreShort l.values.items
   pub terms : TermsFit b l.terms
   pub lines : length l.lines.items ≡ length (lines_of b.alerts)
   pub memos : length l.memos.items ≡ length b.memos

@@ -1,12 +1,12 @@
 -- When a lane stands for an era: what each of its parts holds of the moments so far.
-use Rattle.std.specs.Prelude.{◌≡◌, ℕ, suc, ◌<◌, ◌≤◌, Bool, nat_lt, List, length, slice_index_or, None}
+use Rattle.std.specs.Prelude.{◌≡◌, ℕ, suc, ◌<◌, ◌≤◌, Bool, nat_lt, List, length}
 use Rattle.ecam_spec.specs.Book.{Book}
 use Rattle.ecam_spec.specs.BookTerms.{lines_of}
 use Rattle.ecam_spec.specs.Term.{holds}
 use Rattle.ecam_spec.specs.Value.{BusWord}
 use Rattle.ecam_spec.specs.History.{Moment, Stroke, Era}
 use Rattle.ecam_spec.specs.Replay.{moment_of}
-use Rattle.ecam_spec.specs.Situation.{value_in, flight, phase_in, condition_in, world}
+use Rattle.ecam_spec.specs.Situation.{words_in, flight, phase_in, condition_in, world}
 use Rattle.ecam_spec.specs.Screen.{cockpit, attention, panel, line_stands, picture_in}
 use Rattle.ecam_kinds.specs.KeyState.{KeysStand}
 use Rattle.ecam_kinds.specs.Shown.{picture_of}
@@ -18,6 +18,7 @@ use Rattle.crew_marks.specs.MarksState.{MarksStand}
 use Rattle.attention.specs.State.{AttentionStands}
 use Rattle.system_display.specs.Selecting as selecting
 use Rattle.fwc_lane.specs.Conditions.{TermsStand}
+use Rattle.fwc_lane.specs.Given.{AreBefore}
 use Rattle.fwc_lane.specs.ChangedRows.{TellsRows}
 use Rattle.fwc_lane.specs.Drawn.{IsDrawn}
 use Rattle.fwc_lane.specs.LaneFits.{LaneFits}
@@ -34,8 +35,7 @@ pub record WholeStands (b : Book) (m : ℕ → Moment) (k : ℕ) (l : Lane) : Ty
   pub attention : AttentionStands b (attention b m) k l.attention
   pub selector : selecting.Stands (panel b m) k l.selector
   pub phase : (j : ℕ) → k ≡ suc j → l.phase.number ≡ phase_in b m j
-  pub values : (j : ℕ) → k ≡ suc j → (p : ℕ) → p < length b.parameters
-      → slice_index_or l.values.items p None ≡ value_in b m p j
+  pub values : AreBefore b (words_in b m) k l.values.items
   pub lines : (j : ℕ) → k ≡ suc j → TellsOf l.lines.items (lines_of b.alerts) (line_stands b m j)
   pub memos : (j : ℕ) → k ≡ suc j → TellsOf l.memos.items b.memos (λ x. holds (world b m) x.when j)
   pub drawn : IsDrawn b m k (picture_of l.picture) l.counts

@@ -2,12 +2,12 @@
 ghost use Rattle.std.specs.Prelude.{◌≡◌, ◌<◌, ◌≤◌, ◌^◌, ℕ, suc, List, false, None, length, slice_index_or};
 ghost use Rattle.ecam_spec.specs.Value.{BusWord, value};
 ghost use Rattle.ecam_spec.specs.History.{Moment};
-ghost use Rattle.ecam_spec.specs.Situation.{parameter_at, value_in};
+ghost use Rattle.ecam_spec.specs.Situation.{parameter_at, words_in};
 ghost use Rattle.book_model.specs.Sealed.{the_book};
 ghost use Rattle.param_table.specs.TableState.{ParamsFit, ParamsStand};
 ghost use Rattle.system_display.specs.Pages.{AreShort};
 ghost use Rattle.fwc_lane.specs.Conditions.{TermsStand, BookHalf};
-ghost use Rattle.fwc_lane.specs.Given.{Came};
+ghost use Rattle.fwc_lane.specs.Given.{Came, AreBefore};
 ghost use Rattle.fwc_lane.specs.TermsFit.{TermsFit};
 
 use crate::terms::Terms;
@@ -18,8 +18,9 @@ use ecam_kinds::Keys;
 use param_table::Params;
 
 /// Begins the end of moment `now`: reads its values, and marks the conditions that are due, and those that name a value, a
-/// key or a computer that is another than it was. Answers whether some value is. Its cost is a look at each source of each
-/// parameter, two at each key, and a write for each condition that names what is another, or is due.
+/// key or a computer that is another than it was. Answers whether some value is. Its cost is a look for each 64 parameters
+/// and at each source of those that may have another value, two at each key, and a write for each condition that names what
+/// is another, or is due.
 pub fn begin_moment(
     terms: &mut Terms,
     values: &mut Vec<Option<i64>>,
@@ -33,11 +34,13 @@ pub fn begin_moment(
     requires fits { TermsFit (the_book book.now) terms.old }
     requires params { ParamsFit (the_book book.now) params.now }
     requires many { length values.old.items ≡ length (the_book book.now).parameters }
+    requires short { AreShort values.old.items }
     requires now { now < 2 ^ 63 }
     ensures fits { TermsFit (the_book book.now) terms.new }
     ensures many { length values.new.items ≡ length values.old.items }
     ensures values { (words : ℕ → List BusWord) (k : ℕ)
         → ParamsStand (the_book book.now) words k params.now
+        → AreBefore (the_book book.now) words k values.old.items
         → (p : ℕ) → p < length (the_book book.now).parameters
         → slice_index_or values.new.items p None
         ≡ value (parameter_at (the_book book.now) p) words k }
@@ -46,8 +49,7 @@ pub fn begin_moment(
     ensures begins { (m : ℕ → Moment)
         → Came (the_book book.now) m now params.now keys.now one_up two_up
         → TermsStand (the_book book.now) m now terms.old
-        → ((h : ℕ) → now ≡ suc h → (p : ℕ) → p < length (the_book book.now).parameters
-        → slice_index_or values.old.items p None ≡ value_in (the_book book.now) m p h)
+        → AreBefore (the_book book.now) (words_in (the_book book.now) m) now values.old.items
         → BookHalf (the_book book.now) m now 0 0 terms.old.cells.visits terms.new }
     ensures visits { terms.new.cells.visits ≡ terms.old.cells.visits }
 {

@@ -37,7 +37,7 @@ use term_eval::Env;
 pub struct Lane {
     /// The words that the sources took last.
     pub params: Params,
-    /// Per parameter its value in the last moment.
+    /// Per parameter its value in the last moment; before the first none has one.
     pub values: Vec<Option<i64>>,
     /// What is kept of the conditions.
     pub terms: Terms,
@@ -55,9 +55,9 @@ pub struct Lane {
     pub selector: Selector,
     /// The keys that were pressed in the moment that hasn't ended, and those that are held.
     pub keys: Keys,
-    /// Per procedure line whether it stands in the last moment.
+    /// Per procedure line whether it stands in the last moment; before the first they say nothing.
     pub lines: Vec<bool>,
-    /// Per memo whether it holds in the last moment.
+    /// Per memo whether it holds in the last moment; before the first they say nothing.
     pub memos: Vec<bool>,
     /// There was a moment.
     pub ticked: bool,
@@ -109,7 +109,7 @@ impl Lane {
         })
     }
 
-    /// Forgets all that happened. Its cost is a few writes for each source, slot and alert.
+    /// Forgets all that happened. Its cost is a few writes for each parameter, source, slot and alert.
     pub fn cold(&mut self, book: &Book)
         requires { LaneFits (the_book book.now) self.old }
         ensures fits { LaneFits (the_book book.now) self.new }
@@ -119,6 +119,7 @@ impl Lane {
     {
         let _ = book;
         self.params.clear();
+        self.values.fill(None);
         self.terms.clear();
         self.phase_state = PhaseState::new();
         self.phase = Phase { number: 1 };
@@ -165,8 +166,9 @@ impl Lane {
 
     /// Takes one event more, after which these computers are up. A word costs a look at the sources that listen to it, a
     /// key one write or two; what becomes of the computers themselves changes nothing here. A Tick costs a look at each
-    /// condition and at each source, two at each key, one visit of each node of the conditions that the moment wakes, and a
-    /// few looks at each alert, line and memo; a zone of the picture is filled only where something that it shows turned.
+    /// condition and at the sources of the parameters that may have another value, two at each key, one visit of each node
+    /// of the conditions that the moment wakes, and a few looks at each alert, line and memo; a zone of the picture is filled
+    /// only where something that it shows turned.
     pub fn event(&mut self, book: &Book, event: &Event, one_up: bool, two_up: bool)
         requires fits { LaneFits (the_book book.now) self.old }
         requires event { IsEvent event.now }

@@ -1,8 +1,9 @@
 //! The running state of one flight warning computer: what the words, the keys and the moments so far leave for the next
-//! moment, and the picture of the last one. A Tick reads the values, finds the conditions that the moment wakes, and steps,
-//! in this order, the six inputs of the flight phase, the phase, the alerts, the procedure lines, the memos, the crew's
-//! marks, the lights with the sound, and the selection; then it mends the rows of the picture that changed. Of conditions it
-//! steps those that are woken: all in the first moment, then those that are due, and those that name what moved.
+//! moment, and the picture of the last one. A Tick reads the values that may be others, finds the conditions that the
+//! moment wakes, and steps, in this order, the six inputs of the flight phase, the phase, the alerts, the procedure lines,
+//! the memos, the crew's marks, the lights with the sound, and the selection; then it mends the rows of the picture that
+//! changed. Of conditions it steps those that are woken: all in the first moment, then those that are due, and those that
+//! name what moved.
 #![tactic(auto)]
 
 mod alerts;

@@ -9,6 +9,7 @@ ghost use Rattle.book_model.specs.Conditions.{places};
 ghost use Rattle.wakes.specs.Marks.{room};
 ghost use Rattle.fwc_lane.specs.TermsFit.{Watches};
 ghost use Rattle.fwc_lane.specs.Waking.{WakesBy, ranged, value_turned};
+ghost use Rattle.fwc_lane.specs.Given.{AreBefore};
 
 use crate::flags::{is_either, set_value};
 use crate::waking::wake;
@@ -17,9 +18,9 @@ use param_table::Params;
 use wakes::Marked;
 use watch_lists::Watch;
 
-/// Reads the value of each parameter in the moment that hasn't ended, and answers whether any is other than it was.
-/// One that is wakes the conditions that name it. Its cost is a look at each source of each parameter, and a write for each
-/// of these conditions.
+/// Makes the values of the moment before those of the moment that hasn't ended, and answers whether any is other than it
+/// was. One that is wakes the conditions that name it. Its cost is a look for each 64 parameters, a look at each source of
+/// those that may have another value, and a write for each of these conditions.
 pub fn read_values(
     values: &mut Vec<Option<i64>>,
     woken: &mut Marked,
@@ -29,11 +30,13 @@ pub fn read_values(
 ) -> bool
     requires fits { ParamsFit (the_book book.now) params.now }
     requires many { length values.old.items ≡ length (the_book book.now).parameters }
+    requires short { AreShort values.old.items }
     requires watch { Watches (the_book book.now) watch.now }
     requires room { length (places (the_book book.now)) ≤ room woken.old }
     ensures many { length values.new.items ≡ length values.old.items }
     ensures values { (words : ℕ → List BusWord) (k : ℕ)
         → ParamsStand (the_book book.now) words k params.now
+        → AreBefore (the_book book.now) words k values.old.items
         → (p : ℕ) → p < length (the_book book.now).parameters
         → slice_index_or values.new.items p None
         ≡ value (parameter_at (the_book book.now) p) words k }
@@ -45,11 +48,13 @@ pub fn read_values(
     ensures kept { result ≡ false → values.new.items ≡ values.old.items }
 {
     let mut turned = false;
-    for i in 0..book.params().len() {
-        let value = params.value(book, i);
-        let other = set_value(values, i, value);
-        wake(woken, watch, book, i, other);
+    let mut from = 0;
+    while let Some(param) = params.changed(book, from) {
+        let value = params.value(book, param);
+        let other = set_value(values, param, value);
+        wake(woken, watch, book, param, other);
         turned = is_either(turned, other);
+        from = param + 1;
     }
     turned
 }

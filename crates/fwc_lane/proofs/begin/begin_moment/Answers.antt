@@ -5,7 +5,7 @@ use Rattle.term_eval.specs.Woken.{differ}
 use Rattle.fwc_lane.specs.Waking.{ranged, value_turned, key_turned}
 use Rattle.fwc_lane.proofs.Hitting.{wakes-as, wakes-then}
 use Rattle.fwc_lane.proofs.Beginning.{given, half-due, begins}
-use Rattle.fwc_lane.proofs.Ticks.{values-told}
+use Rattle.fwc_lane.proofs.Ticks.{values-told, value-before}
 use Rattle.fwc_lane.proofs.begin.begin_moment.Goals as goal
 
 pub returns-clause-begins : goal.returns-clause-begins
@@ -25,8 +25,8 @@ returns-clause-begins c = λ m came stands before.
     (λ e j lt. c.wake_first.ensures.first e j (omega (arith, lt, c.len.ensures, old.truths.ok.0)))
     (λ h e j lt. c.wake_first.ensures.marks h e j (omega (arith, lt, c.len.ensures, old.truths.ok.0)))
     (λ j lt off. c.wake_first.ensures.dues j (omega (arith, lt, c.len.ensures, old.truths.ok.0)) off) in
-    begins d c.sealed.ensures m k old.cells.visits old _ c.wake_computers.new.woken c.args.params.now c.args.keys.now c.args.one_up c.args.two_up was now stands came before
-    (values-told b m k now (c.read_values-turned.ensures.values (words_in b m) k came.words)) half
+    begins d c.sealed.ensures m k old.cells.visits old _ c.wake_computers.new.woken c.args.params.now c.args.keys.now c.args.one_up c.args.two_up was now stands came (value-before b m k was before)
+    (values-told b m k now (c.read_values-turned.ensures.values (words_in b m) k came.words before)) half
     (wakes-as b (λ o. (values o || keys o) || computers o) (given b (value_turned was now) (key_turned old.keys c.args.keys.now) one two) c.wake_first.new.woken c.wake_computers.new.woken
     (λ o.
     ap (λ x. (values o || keys o) || ((x && eqb o (length b.parameters + length b.alerts + 26)) || (c.differ-two.result && eqb o (length b.parameters + length b.alerts + 27)))) c.differ-one.ensures

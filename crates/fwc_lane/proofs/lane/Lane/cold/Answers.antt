@@ -1,7 +1,10 @@
-use Rattle.std.proofs.Common.{false, refl, ◌∙◌}
+use Rattle.std.proofs.Common.{◌≡◌, false, vec_len, length, get_or, None, refl, sym, ap, subst, ◌∙◌, rules, arith}
+use Rattle.std.proofs.lemmas.List.{length-replicate}
 use Rattle.std.specs.Prelude.{replicate}
 use Rattle.book_model.specs.Sealed.{the_book}
+use Rattle.system_display.specs.Pages.{AreShort}
 use Rattle.fwc_lane.proofs.FreshLanes.{none-set, fresh-lane}
+use Rattle.fwc_lane.proofs.ValueSteps.{none-each, none-short}
 use Rattle.fwc_lane.proofs.lane.Lane.cold.Goals as goal
 
 pub returns-clause-fits : goal.returns-clause-fits
@@ -11,7 +14,10 @@ returns-clause-fits c = record {
   marks = c.clear-4.ensures.fits (the_book c.args.book.now) c.requires.marks;
   attention = c.clear-5.ensures.fits (the_book c.args.book.now) c.requires.attention;
   selector = c.new-self-2.ensures.fits (the_book c.args.book.now);
-  values = c.requires.values;
+  values =
+      let all : vec_len c.args.self.now.values ≡ length c.args.self.now.values.items = omega arith in
+      ap length (c.fill.ensures.items (λ y same. search rules)) ∙ length-replicate _ None ∙ all ∙ c.requires.values;
+  short = subst AreShort (sym (c.fill.ensures.items (λ y same. search rules))) (none-short _);
   terms = c.clear-2.ensures.fits (the_book c.args.book.now) c.requires.terms;
   lines = c.requires.lines;
   memos = c.requires.memos;
@@ -28,6 +34,7 @@ returns-clause-stands c = λ f.
       moments = refl;
       ticked = refl;
       params = λ words none. c.clear.ensures.stands b words c.requires.params none;
+      values = λ p. ap (λ vs. get_or vs p None) (c.fill.ensures.items (λ y same. search rules)) ∙ none-each _ p;
       keys = c.new-self-3.ensures.stands;
       cells = c.clear-2.ensures.stands;
       phases = c.new-self.ensures;

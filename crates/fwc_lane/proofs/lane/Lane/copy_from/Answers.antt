@@ -2,6 +2,7 @@ use Rattle.std.proofs.Common.{length, refl, ap, sym, subst, ◌∙◌}
 use Rattle.crew_marks.specs.CrewMarks.{CrewMarks}
 use Rattle.crew_marks.specs.MarksState.{MarksFit}
 use Rattle.fwc_lane.proofs.FreshLanes.{took-lane}
+use Rattle.system_display.specs.Pages.{AreShort}
 use Rattle.fwc_lane.proofs.lane.Lane.copy_from.Goals as goal
 
 pub returns-clause-fits : goal.returns-clause-fits
@@ -12,6 +13,7 @@ returns-clause-fits c = λ b fits other. record {
   attention = c.copy_from-5.ensures.fits b other.attention;
   selector = other.selector;
   values = ap length (c.copy_from_slice.ensures.items ∙ c.deref.ensures.value) ∙ other.values;
+  short = subst AreShort (sym (c.copy_from_slice.ensures.items ∙ c.deref.ensures.value)) other.short;
   terms = c.copy_from-2.ensures.fits b fits.terms;
   lines = ap length (c.copy_from_slice-2.ensures.items ∙ c.deref-2.ensures.value) ∙ other.lines;
   memos = ap length (c.copy_from_slice-3.ensures.items ∙ c.deref-3.ensures.value) ∙ other.memos;

@@ -1,8 +1,10 @@
-use Rattle.std.proofs.Common.{false, length, refl, ap, arith}
+use Rattle.std.proofs.Common.{false, length, get_or, None, refl, sym, ap, subst, ◌∙◌, rules, arith}
 use Rattle.std.specs.Prelude.{replicate}
 use Rattle.book_model.specs.Sealed.{the_book}
 use Rattle.book_model.proofs.BookLists.{many-parameters, many-memos}
+use Rattle.system_display.specs.Pages.{AreShort}
 use Rattle.fwc_lane.proofs.FreshLanes.{none-set, fresh-lane}
+use Rattle.fwc_lane.proofs.ValueSteps.{none-each, none-short}
 use Rattle.fwc_lane.proofs.lane.Lane.new.Goals as goal
 
 pub returns-clause-fits : goal.returns-clause-fits
@@ -13,6 +15,7 @@ returns-clause-fits c = record {
   attention = c.in_ok-attention.ensures.fits;
   selector = c.new-7.ensures.fits (the_book c.args.book.now);
   values = omega (arith, c.in_ok-values.ensures.len, c.in_ok-values.values.ok.0, ap length c.params.ensures.value, many-parameters c.args.book.now);
+  short = subst AreShort (sym (c.in_ok-values.ensures.items_if_clones_equal (λ y same. search rules))) (none-short _);
   terms = c.in_ok-terms.ensures.fits;
   lines = omega (arith, c.in_ok-lines.ensures.len, c.in_ok-lines.lines.ok.0, c.line_count.ensures.value);
   memos = omega (arith, c.in_ok-memos.ensures.len, c.in_ok-memos.memos.ok.0, ap length c.memos.ensures.value, many-memos c.args.book.now);
@@ -28,6 +31,7 @@ returns-clause-stands c = λ f.
       moments = refl;
       ticked = refl;
       params = c.in_ok-params.ensures.stands;
+      values = λ p. ap (λ vs. get_or vs p None) (c.in_ok-values.ensures.items_if_clones_equal (λ y same. search rules)) ∙ none-each _ p;
       keys = c.new-8.ensures.stands;
       cells = c.in_ok-terms.ensures.stands;
       phases = c.new-6.ensures;

@@ -8,7 +8,7 @@ use Rattle.book_model.specs.Told.{TellsOf}
 use Rattle.book_model.specs.Sealed.{the_book}
 use Rattle.book_model.proofs.BookLists.{many-parameters}
 use Rattle.fwc_lane.specs.Scenes.{AreTurned}
-use Rattle.fwc_lane.proofs.Ticks.{of-last, are-turned, lends-from, values-told, terms-after}
+use Rattle.fwc_lane.proofs.Ticks.{of-last, are-turned, lends-from, values-told, values-before, terms-after}
 use Rattle.fwc_lane.proofs.lane.Lane.tick.Goals as goal
 
 pub step_conditions-stepped-requires-clause-values : goal.step_conditions-stepped-requires-clause-values
@@ -19,7 +19,7 @@ returns-clause-whole c = λ m came was.
     let b = the_book c.args.book.now in
     let k = c.args.self.now.moments in
     let all = c.begin_moment-values.ensures.many ∙ c.requires.fits.values in
-    let values = values-told b m k c.begin_moment-values.new.values.items (c.begin_moment-values.ensures.values (words_in b m) k came.words) in
+    let values = values-told b m k c.begin_moment-values.new.values.items (c.begin_moment-values.ensures.values (words_in b m) k came.words was.values) in
     let told : (i : ℕ) → i < length c.deref.result.now → get_or c.deref.result.now i None ≡ value_in b m i k =
     λ i lt. ap (λ vs. get_or vs i None) c.deref.ensures.value ∙ values i (omega (arith, ap length c.deref.ensures.value, all)) in
     let stepped = c.step_conditions-stepped.ensures.stands m c.args.self.now.terms.cells.visits (lends-from b m k _ _ _ _ _ _ c.args.self.now.params c.args.self.now.keys refl came told) (record { terms = c.begin_moment-values.ensures.begins m came was.terms was.values; phases = was.phases; truths = was.truths; was = was.phase }) in
@@ -56,7 +56,7 @@ returns-clause-whole c = λ m came was.
       attention = crew.lights;
       selector = crew.selection;
       phase = of-last (λ j. c.step_conditions-stepped.result.phase.number ≡ phase_in b m j) k phase;
-      values = of-last (λ j. (p : ℕ) → p < length b.parameters → get_or c.begin_moment-values.new.values.items p None ≡ value_in b m p j) k values;
+      values = values-before b m k c.begin_moment-values.new.values.items values;
       lines = of-last (λ j. TellsOf c.step_conditions-stepped.new.lines.items (lines_of b.alerts) (line_stands b m j)) k lines;
       memos = of-last (λ j. TellsOf c.step_conditions-stepped.new.memos.items b.memos (λ x. holds (world b m) x.when j)) k memos;
       drawn = c.draw-self.ensures.drawn m k (record {
@@ -86,7 +86,7 @@ returns-clause-visits c = λ m came was.
     let b = the_book c.args.book.now in
     let k = c.args.self.now.moments in
     let all = c.begin_moment-values.ensures.many ∙ c.requires.fits.values in
-    let values = values-told b m k c.begin_moment-values.new.values.items (c.begin_moment-values.ensures.values (words_in b m) k came.words) in
+    let values = values-told b m k c.begin_moment-values.new.values.items (c.begin_moment-values.ensures.values (words_in b m) k came.words was.values) in
     let told : (i : ℕ) → i < length c.deref.result.now → get_or c.deref.result.now i None ≡ value_in b m i k =
     λ i lt. ap (λ vs. get_or vs i None) c.deref.ensures.value ∙ values i (omega (arith, ap length c.deref.ensures.value, all)) in
     let stepped = c.step_conditions-stepped.ensures.stands m c.args.self.now.terms.cells.visits (lends-from b m k _ _ _ _ _ _ c.args.self.now.params c.args.self.now.keys refl came told) (record { terms = c.begin_moment-values.ensures.begins m came was.terms was.values; phases = was.phases; truths = was.truths; was = was.phase }) in
