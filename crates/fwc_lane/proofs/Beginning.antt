@@ -30,7 +30,8 @@ use Rattle.fwc_lane.specs.Visits.{visits_below}
 use Rattle.fwc_lane.specs.Waking.{sizes_in, ranged, value_turned, key_turned, WakesBy}
 use Rattle.fwc_lane.specs.Conditions.{TermsStand, HalfStepped, known_world, BookHalf}
 use Rattle.fwc_lane.proofs.KeyNumbers.{not-eight, few-keys}
-use Rattle.fwc_lane.proofs.Ranges.{and-none, and-all, or-none, ranged-in, ranged-above, ranged-below}
+use Rattle.std.proofs.Math.Bool.{and-false, and-true, or-false}
+use Rattle.fwc_lane.proofs.Ranges.{ranged-in, ranged-above, ranged-below}
 use Rattle.fwc_lane.proofs.NamesWithin.{names-within}
 use Rattle.fwc_lane.proofs.Hitting.{any-none}
 use Rattle.fwc_lane.proofs.Stages.{half-more}
@@ -98,15 +99,15 @@ module _ (b : Book) where
       → ((one && eqb o (length b.parameters + length b.alerts + 26)) || (two && eqb o (length b.parameters + length b.alerts + 27))) ≡ false
   off-one one two o ne ne' =
       ap (λ x. (one && x) || (two && eqb o (length b.parameters + length b.alerts + 27))) (ne_eqb o (length b.parameters + length b.alerts + 26) ne)
-      ∙ ap (λ x. x || (two && eqb o (length b.parameters + length b.alerts + 27))) (and-none one)
-      ∙ ap (λ x. two && x) (ne_eqb o (length b.parameters + length b.alerts + 27) ne') ∙ and-none two
+      ∙ ap (λ x. x || (two && eqb o (length b.parameters + length b.alerts + 27))) (and-false one)
+      ∙ ap (λ x. two && x) (ne_eqb o (length b.parameters + length b.alerts + 27) ne') ∙ and-false two
 
   given-value : (values keys : ℕ → Bool) (one two : Bool) (p : ℕ) → p < length b.parameters → given values keys one two p ≡ values p
   given-value values keys one two p lt =
       ap (λ x. (ranged 0 (length b.parameters) values p || ranged keys_from 25 keys p) || x) (off-one one two p (λ e. absurd (omega (arith, lt, e))) (λ e. absurd (omega (arith, lt, e))))
-      ∙ or-none (ranged 0 (length b.parameters) values p || ranged keys_from 25 keys p)
+      ∙ or-false (ranged 0 (length b.parameters) values p || ranged keys_from 25 keys p)
       ∙ ap (λ x. ranged 0 (length b.parameters) values p || x) (ranged-below keys_from 25 keys p (omega arith))
-      ∙ or-none (ranged 0 (length b.parameters) values p)
+      ∙ or-false (ranged 0 (length b.parameters) values p)
       ∙ ranged-in 0 (length b.parameters) values p (omega arith) (omega arith)
       ∙ ap values (let z : p - 0 ≡ p = omega arith in z)
 
@@ -114,7 +115,7 @@ module _ (b : Book) where
   given-key values keys one two i lt =
       ap (λ x. (ranged 0 (length b.parameters) values (keys_from + i) || ranged keys_from 25 keys (keys_from + i)) || x)
       (off-one one two (keys_from + i) (λ e. absurd (omega (arith, lt, e))) (λ e. absurd (omega (arith, lt, e))))
-      ∙ or-none (ranged 0 (length b.parameters) values (keys_from + i) || ranged keys_from 25 keys (keys_from + i))
+      ∙ or-false (ranged 0 (length b.parameters) values (keys_from + i) || ranged keys_from 25 keys (keys_from + i))
       ∙ ap (λ x. x || ranged keys_from 25 keys (keys_from + i)) (ranged-above 0 (length b.parameters) values (keys_from + i) (omega arith))
       ∙ ranged-in keys_from 25 keys (keys_from + i) (omega arith) (omega arith)
       ∙ ap keys (let z : keys_from + i - keys_from ≡ i = omega arith in z)
@@ -139,14 +140,14 @@ module _ (b : Book) where
       given-apart values keys one two o (omega (arith, e)) (inr (omega (arith, e)))
       ∙ ap (λ x. (one && x) || (two && eqb o (length b.parameters + length b.alerts + 27))) (eq-eqb o (length b.parameters + length b.alerts + 26) e)
       ∙ ap (λ x. (one && true) || (two && x)) (ne_eqb o (length b.parameters + length b.alerts + 27) (λ f. absurd (omega (arith, e, f))))
-      ∙ ap (λ x. (one && true) || x) (and-none two) ∙ or-none (one && true) ∙ and-all one
+      ∙ ap (λ x. (one && true) || x) (and-false two) ∙ or-false (one && true) ∙ and-true one
 
   given-two : (values keys : ℕ → Bool) (one two : Bool) (o : ℕ) → o ≡ length b.parameters + length b.alerts + 27 → given values keys one two o ≡ two
   given-two values keys one two o e =
       given-apart values keys one two o (omega (arith, e)) (inr (omega (arith, e)))
       ∙ ap (λ x. (one && x) || (two && eqb o (length b.parameters + length b.alerts + 27))) (ne_eqb o (length b.parameters + length b.alerts + 26) (λ f. absurd (omega (arith, e, f))))
-      ∙ ap (λ x. x || (two && eqb o (length b.parameters + length b.alerts + 27))) (and-none one)
-      ∙ ap (λ x. two && x) (eq-eqb o (length b.parameters + length b.alerts + 27) e) ∙ and-all two
+      ∙ ap (λ x. x || (two && eqb o (length b.parameters + length b.alerts + 27))) (and-false one)
+      ∙ ap (λ x. two && x) (eq-eqb o (length b.parameters + length b.alerts + 27) e) ∙ and-true two
 
   module _ (m : ℕ → Moment) (k : ℕ) (old : Terms) (params : Params) (keys : Keys) (up1 up2 : Bool) (was now : List (Option ℤ)) (stands : TermsStand b m k old) (came : Came b m k params keys up1 up2)
       (before : (h : ℕ) → k ≡ suc h → (p : ℕ) → p < length b.parameters → get_or was p None ≡ value_in b m p h)

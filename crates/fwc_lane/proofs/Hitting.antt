@@ -16,7 +16,7 @@ use Rattle.watch_lists.specs.Listed.{has_term}
 use Rattle.watch_lists.proofs.Lines.{sizes-are}
 use Rattle.wakes.specs.Marks.{is_marked}
 use Rattle.fwc_lane.specs.Waking.{sizes_in, WakesBy}
-use Rattle.fwc_lane.proofs.Ranges.{or-none}
+use Rattle.std.proofs.Math.Bool.{or-false}
 
 -- ---- some of a list pass a test
 
@@ -51,7 +51,7 @@ wakes-as b f g old new same wakes = λ j p is.
 
 pub wakes-none : (b : Book) (f : ℕ → Bool) (marks : List ℕ) → ((o : ℕ) → f o ≡ false) → WakesBy b f marks marks
 wakes-none b f marks none = λ j p is.
-    sym (ap (λ x. is_marked marks j || x) (any-none (λ x. f (operand_number (sizes_in b) x)) (λ x. none (operand_number (sizes_in b) x)) (operands p.tree)) ∙ or-none (is_marked marks j))
+    sym (ap (λ x. is_marked marks j || x) (any-none (λ x. f (operand_number (sizes_in b) x)) (λ x. none (operand_number (sizes_in b) x)) (operands p.tree)) ∙ or-false (is_marked marks j))
 
 -- first by one test, then by another
 pub wakes-then : (b : Book) (f g h : ℕ → Bool) (old mid new : List ℕ) → ((o : ℕ) → h o ≡ (f o || g o)) → WakesBy b f old mid → WakesBy b g mid new → WakesBy b h old new

@@ -1,19 +1,8 @@
 -- Of some numbers from one on those that pass a test.
 use Rattle.std.proofs.Common.{◌≡◌, ℕ, suc, ◌+◌, ◌-◌, ◌<◌, ◌≤◌, Bool, true, false, ◌&&◌, ◌||◌, leb, ltb, eqb, refl, sym, ap, ◌∙◌, inl, inr, arith}
 use Rattle.std.proofs.lemmas.Bool.{cases_lt, cases_eq, lt-ltb, le-ltb, le-leb, lt-leb, eq-eqb, ne_eqb}
+use Rattle.std.proofs.Math.Bool.{and-false, or-false}
 use Rattle.fwc_lane.specs.Waking.{ranged}
-
-pub and-none : (t : Bool) → (t && false) ≡ false
-and-none true = refl
-and-none false = refl
-
-pub and-all : (t : Bool) → (t && true) ≡ t
-and-all true = refl
-and-all false = refl
-
-pub or-none : (t : Bool) → (t || false) ≡ t
-or-none true = refl
-or-none false = refl
 
 pub ranged-in : (from n : ℕ) (f : ℕ → Bool) (o : ℕ) → from ≤ o → o < from + n → ranged from n f o ≡ f (o - from)
 unfolding ranged
@@ -21,7 +10,7 @@ ranged-in from n f o low high = ap (λ b. (b && ltb o (from + n)) && f (o - from
 
 pub ranged-above : (from n : ℕ) (f : ℕ → Bool) (o : ℕ) → from + n ≤ o → ranged from n f o ≡ false
 unfolding ranged
-ranged-above from n f o above = ap (λ b. (leb from o && b) && f (o - from)) (le-ltb o (from + n) above) ∙ ap (λ b. b && f (o - from)) (and-none (leb from o))
+ranged-above from n f o above = ap (λ b. (leb from o && b) && f (o - from)) (le-ltb o (from + n) above) ∙ ap (λ b. b && f (o - from)) (and-false (leb from o))
 
 pub ranged-below : (from n : ℕ) (f : ℕ → Bool) (o : ℕ) → o < from → ranged from n f o ≡ false
 unfolding ranged
@@ -48,19 +37,19 @@ pub ranged-next : (from n : ℕ) (f : ℕ → Bool) (o : ℕ) → ranged from (s
 ranged-next from n f o = elim (cases_lt o from) [
   | inl below ↦
       ranged-below from (suc n) f o below
-      ∙ sym (ap (λ b. b || (f n && eqb o (from + n))) (ranged-below from n f o below) ∙ ap (λ b. f n && b) (ne_eqb o (from + n) (λ e. absurd (omega arith))) ∙ and-none (f n))
+      ∙ sym (ap (λ b. b || (f n && eqb o (from + n))) (ranged-below from n f o below) ∙ ap (λ b. f n && b) (ne_eqb o (from + n) (λ e. absurd (omega arith))) ∙ and-false (f n))
   | inr low ↦ elim (cases_lt o (from + n)) [
     | inl high ↦
         ranged-in from (suc n) f o low (omega arith)
         ∙ sym (ap (λ b. b || (f n && eqb o (from + n))) (ranged-in from n f o low high) ∙ ap (λ b. f (o - from) || (f n && b)) (ne_eqb o (from + n) (λ e. absurd (omega arith)))
-        ∙ ap (λ b. f (o - from) || b) (and-none (f n)) ∙ or-none (f (o - from)))
+        ∙ ap (λ b. f (o - from) || b) (and-false (f n)) ∙ or-false (f (o - from)))
     | inr above ↦ elim (cases_eq o (from + n)) [
       | inl e ↦
           ranged-in from (suc n) f o low (omega arith) ∙ ap f (let z : o - from ≡ n = omega arith in z)
-          ∙ sym (ap (λ b. b || (f n && eqb o (from + n))) (ranged-above from n f o above) ∙ ap (λ b. f n && b) (eq-eqb o (from + n) e) ∙ and-all (f n))
+          ∙ sym (ap (λ b. b || (f n && eqb o (from + n))) (ranged-above from n f o above) ∙ ap (λ b. f n && b) (eq-eqb o (from + n) e) ∙ and-true (f n))
       | inr ne ↦
           ranged-above from (suc n) f o (omega (arith, above, ne))
-          ∙ sym (ap (λ b. b || (f n && eqb o (from + n))) (ranged-above from n f o above) ∙ ap (λ b. f n && b) (ne_eqb o (from + n) ne) ∙ and-none (f n))
+          ∙ sym (ap (λ b. b || (f n && eqb o (from + n))) (ranged-above from n f o above) ∙ ap (λ b. f n && b) (ne_eqb o (from + n) ne) ∙ and-false (f n))
     ]
   ]
 ]

@@ -24,7 +24,7 @@ use Rattle.fwc_lane.specs.declared.terms.Terms.{Terms}
 use Rattle.fwc_lane.specs.Waking.{sizes_in, WakesBy}
 use Rattle.fwc_lane.specs.Conditions.{HalfStepped, TellsMoved, known_world, BookHalf}
 use Rattle.fwc_lane.proofs.FlagSteps.{left-false}
-use Rattle.fwc_lane.proofs.Ranges.{and-none, and-all, or-none}
+use Rattle.std.proofs.Math.Bool.{and-false, and-true, or-false}
 use Rattle.fwc_lane.proofs.Hitting.{any-or}
 use Rattle.fwc_lane.proofs.NamesWithin.{names-within}
 
@@ -69,7 +69,7 @@ module _ (b : Book) (m : ℕ → Moment) where
   alerts = length b.alerts
 
   off-or : (f other : Bool) (n o : ℕ) → n ≢ o → f ≡ (f || (other && eqb n o))
-  off-or f other n o ne = sym (ap (λ c. f || (other && c)) (ne_eqb n o ne) ∙ ap (λ c. f || c) (and-none other) ∙ or-none f)
+  off-or f other n o ne = sym (ap (λ c. f || (other && c)) (ne_eqb n o ne) ∙ ap (λ c. f || c) (and-false other) ∙ or-false f)
 
   -- the phase is known
   pub phase-moves : (k h phase-now phase-was : ℕ) (other : Bool) → k ≡ suc h → other ≡ not (eqb phase-now phase-was) → phase-now ≡ phase_in b m k → phase-was ≡ phase_in b m h
@@ -79,7 +79,7 @@ module _ (b : Book) (m : ℕ → Moment) where
   phase-moves k h now was other e is now-is was-is (value p) at = off-or _ other p (params + alerts) (λ e. absurd (omega (arith, at, e)))
   phase-moves k h now was other e is now-is was-is phase at =
       let back : k - 1 ≡ h = omega (arith, e) in
-      sym (ap (λ c. other && c) (eq-eqb (params + alerts) (params + alerts) refl) ∙ and-all other ∙ is
+      sym (ap (λ c. other && c) (eq-eqb (params + alerts) (params + alerts) refl) ∙ and-true other ∙ is
       ∙ ap (λ n. not (eqb n was)) now-is ∙ ap (λ n. not (eqb (phase_in b m k) n)) (was-is ∙ ap (phase_in b m) (sym back)))
   phase-moves k h now was other e is now-is was-is (activity a) at = off-or false other (params + a) (params + alerts) (λ e. absurd (omega (arith, at, e)))
   phase-moves k h now was other e is now-is was-is (key x) at = off-or _ other (params + alerts + 1 + key_number x) (params + alerts) (λ e. absurd (omega (arith, e)))
@@ -109,7 +109,7 @@ module _ (b : Book) (m : ℕ → Moment) where
               ap (λ (p : Signal). turned p k) (known-at b m (suc a) i off (omega (arith, e)) ∙ ap (active_in b m) e)
               ∙ ap (λ n. differ (active_in b m a k) (active_in b m a n)) back
               ∙ sym (ap (λ (p : Signal). turned p k || (other && eqb (params + i) (params + a))) (beyond a i high)
-              ∙ ap (λ c. other && c) (eq-eqb (params + i) (params + a) (ap (λ n. params + n) e)) ∙ and-all other ∙ is
+              ∙ ap (λ c. other && c) (eq-eqb (params + i) (params + a) (ap (λ n. params + n) e)) ∙ and-true other ∙ is
               ∙ ap (λ c. differ c was) now-is ∙ ap (λ c. differ (active_in b m a k) c) was-is)
           | inr ne ↦
               ap (λ (p : Signal). turned p k) (beyond (suc a) i (omega (arith, high, ne)) ∙ sym (beyond a i high))

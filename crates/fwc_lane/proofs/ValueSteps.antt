@@ -5,6 +5,7 @@ use Rattle.std.specs.Option.{option_eq}
 use Rattle.std.specs.Ordering.{int_eq}
 use Rattle.std.proofs.lemmas.Int.{ints}
 use Rattle.std.proofs.lemmas.Bool.Decides.{Decides-int_eq}
+use Rattle.std.proofs.Math.Bool.{and-false, and-true, or-false}
 use Rattle.std.proofs.lemmas.Bool.{cases_eq, cases_lt, eq-eqb, ne_eqb}
 use Rattle.std.proofs.lemmas.List.Elements.{All-from_get_or}
 use Rattle.ecam_spec.specs.declared.kinds.Kind.{Kind}
@@ -52,18 +53,6 @@ none-turned n values o = elim (cases_lt o n) [
   | inr le ↦ ranged-above 0 n (value_turned values values) o (omega arith)
 ]
 
-and-none : (t : Bool) → (t && false) ≡ false
-and-none true = refl
-and-none false = refl
-
-and-all : (t : Bool) → (t && true) ≡ t
-and-all true = refl
-and-all false = refl
-
-or-none : (t : Bool) → (t || false) ≡ t
-or-none true = refl
-or-none false = refl
-
 -- value p was as at first, and is set
 module _ (n p : ℕ) (was before after : List (Option ℤ)) (there : p < n) (kept : get_or before p None ≡ get_or was p None) (others : (j : ℕ) → j ≢ p → get_or after j None ≡ get_or before j None) where
   old-off : (o : ℕ) → o ≡ p → ranged 0 n (value_turned was before) o ≡ false
@@ -89,10 +78,10 @@ module _ (n p : ℕ) (was before after : List (Option ℤ)) (there : p < n) (kep
   one-turned o = elim (cases_eq o p) [
     | inl e ↦
         new-own o e
-        ∙ sym (ap (λ x. x || (value_turned was after p && eqb o p)) (old-off o e) ∙ ap (λ x. value_turned was after p && x) (eq-eqb o p e) ∙ and-all (value_turned was after p))
+        ∙ sym (ap (λ x. x || (value_turned was after p && eqb o p)) (old-off o e) ∙ ap (λ x. value_turned was after p && x) (eq-eqb o p e) ∙ and-true (value_turned was after p))
     | inr ne ↦
         apart o ne
-        ∙ sym (ap (λ x. ranged 0 n (value_turned was before) o || (value_turned was after p && x)) (ne_eqb o p ne) ∙ ap (λ x. ranged 0 n (value_turned was before) o || x) (and-none (value_turned was after p)) ∙ or-none (ranged 0 n (value_turned was before) o))
+        ∙ sym (ap (λ x. ranged 0 n (value_turned was before) o || (value_turned was after p && x)) (ne_eqb o p ne) ∙ ap (λ x. ranged 0 n (value_turned was before) o || x) (and-false (value_turned was after p)) ∙ or-false (ranged 0 n (value_turned was before) o))
   ]
 
 -- the value that may be another is one of these

@@ -2,7 +2,7 @@
 use Rattle.std.specs.Prelude.{◌≡◌, ◌↔◌, ℕ, zero, suc, ◌<◌, ◌^◌, min, nat_lt, false, ◌&&◌, length, Option, Some, None, if◌then◌else◌}
 use Rattle.ecam_spec.specs.declared.kinds.Choice.{Choice}
 use Rattle.ecam_spec.specs.declared.kinds.Choice.TheVariants.{Auto, Page, Status}
-use Rattle.ecam_spec.specs.Past.{Signal, start_of}
+use Rattle.ecam_spec.specs.Past.{running_since}
 use Rattle.ecam_spec.specs.Book.{Book}
 use Rattle.ecam_spec.specs.Selection.{Panel, page_in_turn, choice, last_number}
 use Rattle.ecam_spec.specs.Runs.{choice_before, status_ahead}
@@ -14,11 +14,6 @@ abbrev pub IsChoiceOf : ℕ → Choice → Type 0
 IsChoiceOf pages Auto = Unit {0}
 IsChoiceOf pages (Page i) = i < pages
 IsChoiceOf pages (Status n) = Unit {0}
-
--- where the stretch of moments that ends with the last of the first k begins, if the signal holds in that one
-abbrev pub start_before : Signal → ℕ → Option ℕ
-start_before q zero = None
-start_before q (suc k) = if q k then Some (start_of q k) else None
 
 -- the last of the first k moments left the choice as it was; before the first nothing has changed
 abbrev pub IsKept : Panel → ℕ → Type 0
@@ -37,7 +32,7 @@ page_of_all p k = if p.all_held k && nat_lt 0 p.pages then Some (page_in_turn p 
 -- the selector stands for the first k moments of the panel
 pub record Stands (p : Panel) (k : ℕ) (s : Selector) : Type 0 where
   pub moments : s.moments ≡ k
-  pub all_since : s.all_since ≡ start_before p.all_held k
+  pub all_since : s.all_since ≡ running_since p.all_held k
   pub selection : IsSelection p k s.selection
   pub changed : (s.changed ≡ false) ↔ IsKept p k
 

@@ -1,8 +1,9 @@
 // What is shown, and how a moment changes it.
 ghost use Rattle.std.specs.Prelude.{◌≡◌, ◌<◌, ℕ, suc, Option, None, IfSome};
+ghost use Rattle.ecam_spec.specs.Past.{running_since};
 ghost use Rattle.ecam_spec.specs.Selection.{Panel, selecting, selecting_one};
 ghost use Rattle.system_display.specs.Panels.{AreInputs, CallsItsPages};
-ghost use Rattle.system_display.specs.Selecting.{IsSelection, IsChoiceOf, page_of_all, start_before};
+ghost use Rattle.system_display.specs.Selecting.{IsSelection, IsChoiceOf, page_of_all};
 
 use crate::inputs::Inputs;
 use ecam_spec::Choice;
@@ -78,7 +79,7 @@ impl Selection {
 /// stretch in which ALL is held, and one further each second. There is none where ALL isn't held, or the book has no
 /// page.
 pub fn page_in_turn(since: Option<u64>, now: u64, pages: usize) -> Option<usize>
-    ensures turn { (p : Panel) → p.pages ≡ pages → since ≡ start_before p.all_held (suc now)
+    ensures turn { (p : Panel) → p.pages ≡ pages → since ≡ running_since p.all_held (suc now)
         → result ≡ page_of_all p now }
     ensures within { IfSome result (λ i. i < pages) }
 {

@@ -1,11 +1,11 @@
 // What the system display is asked to show, moment by moment.
 ghost use Rattle.std.specs.Prelude.{◌≡◌, ◌↔◌, ◌<◌, ◌+◌, ℕ, suc, false, length, IfSome, Option};
 ghost use Rattle.ecam_spec.specs.Book as plain;
-ghost use Rattle.ecam_spec.specs.Past.{Signal};
+ghost use Rattle.ecam_spec.specs.Past.{Signal, running_since};
 ghost use Rattle.ecam_spec.specs.Selection.{Panel};
 ghost use Rattle.book_model.specs.Sealed.{the_book};
 ghost use Rattle.system_display.specs.Panels.{AreInputs, CallsItsPages, Shows};
-ghost use Rattle.system_display.specs.Selecting.{Stands, SelectorFits, CanGoOn, IsChoiceOf, IsKept, start_before};
+ghost use Rattle.system_display.specs.Selecting.{Stands, SelectorFits, CanGoOn, IsChoiceOf, IsKept};
 ghost use Rattle.ecam_spec.specs.Runs.{choice_before};
 
 use crate::inputs::Inputs;
@@ -79,8 +79,8 @@ impl Selector {
     // The first moment of the stretch in which ALL is held, where it is held in the moment that is taken.
     fn held_since(&self, held: bool) -> Option<u64>
         ensures { (q : Signal) → held ≡ q self.now.moments
-            → self.now.all_since ≡ start_before q self.now.moments
-            → result ≡ start_before q (suc self.now.moments) }
+            → self.now.all_since ≡ running_since q self.now.moments
+            → result ≡ running_since q (suc self.now.moments) }
     {
         if held {
             Some(self.all_since.unwrap_or(self.moments))
