@@ -1,7 +1,7 @@
 -- Of some numbers from one on those that pass a test.
 use Rattle.std.proofs.Common.{◌≡◌, ℕ, suc, ◌+◌, ◌-◌, ◌<◌, ◌≤◌, Bool, true, false, ◌&&◌, ◌||◌, leb, ltb, eqb, refl, sym, ap, ◌∙◌, inl, inr, arith}
 use Rattle.std.proofs.lemmas.Bool.{cases_lt, cases_eq, lt-ltb, le-ltb, le-leb, lt-leb, eq-eqb, ne_eqb}
-use Rattle.std.proofs.Math.Bool.{and-false, or-false}
+use Rattle.std.proofs.Math.Bool.{and-false, and-true, or-false}
 use Rattle.fwc_lane.specs.Waking.{ranged}
 
 pub ranged-in : (from n : ℕ) (f : ℕ → Bool) (o : ℕ) → from ≤ o → o < from + n → ranged from n f o ≡ f (o - from)
