@@ -1,18 +1,22 @@
 -- How the commands end, from how their steps do.
-use Rattle.std.proofs.Common.{◌≡◌, Result, Ok, Err, ℕ, ◌≤◌, [], Option, Some, None, IsSomeAnd, sym, ap, ◌∙◌, subst, inl, inr}
+use Rattle.std.proofs.Common.{◌≡◌, Result, Ok, Err, ℕ, ◌≤◌, List, [], Option, Some, None, IsSomeAnd, sym, ap, ◌∙◌, subst, inl, inr}
 use Rattle.ecam_io.specs.Outside.{raised, Rose, FileHas, MayRefuse, IsClosed}
 use Rattle.ecam_io.proofs.Calls.{Rose-earlier, FileHas-weaker}
 use Rattle.ecam_spec.specs.Book.{Text, Book}
 use Rattle.ecam_spec.specs.Command.{no_limit}
+use Rattle.ecam_spec.specs.Record.{events}
+use Rattle.ecam_spec.specs.declared.kinds.Event.{Event}
 use Rattle.book_spec.specs.BookBytes.{book}
 use Rattle.book_model.specs.Sealed.{the_book}
 use Rattle.fwc_pair.specs.declared.pair.Pair.{Pair}
+use Rattle.fwc_pair.specs.PairState.{PairStands}
+use Rattle.ecam_spec.specs.Replay.{standing_lines}
 use Rattle.replay_core.specs.Calls.{Files, ShelfCall, OpenedOne, OpenedBoth, SinkCall, Writes, WritesPart, WritesNothing, HasFailedToWrite}
 use Rattle.replay_core.specs.Runs.{HasStopped}
 use Rattle.replay_core.specs.Loading.{BookHas, IsUnopened, HasLoaded, Loads, Readies}
 use Rattle.replay_core.specs.Play.{RepliesInPart, Plays}
 use Rattle.replay_core.specs.Answers.{ByBook, ByRecord, BookTold, BookUntold}
-use Rattle.replay_core.specs.ReadEndings.{Endings, RepliesWhole, RepliesTo, replaying, ExplainsNothing, BreaksOff, explaining}
+use Rattle.replay_core.specs.ReadEndings.{Endings, RepliesWhole, RepliesTo, replaying, ExplainsInPart, ExplainsNothing, BreaksOff, explaining}
 use Rattle.replay_core.specs.Outcomes.{outcome_of, refusal_of}
 use Rattle.replay_core.specs.declared.load.Loaded.{Loaded}
 use Rattle.replay_core.specs.declared.load.Unready.{Unready}
@@ -161,6 +165,16 @@ module _ (a c : ShelfCall) (name record' : Text) (l : Loaded) (on : Follows a c 
     unexplained (Record g) plays kept = record {
       count = both;
       both = of-both _ (ExplainsNothing out g) (λ text h. record { fault_is = h.fault_is; kept = kept; took = h.took }) plays;
+    }
+
+    -- and then a prefix of the standings was written
+    pub half-explained : (n : ℕ) → Plays c dropped (the_book l.book) pair record' no_limit (Ok n) → HasFailedToWrite out
+        → ((h : List Event) → PairStands (the_book l.book) h pair → WritesPart out (standing_lines (the_book l.book) h))
+        → ByRecord (joined a c) out name record' (explaining out) outcomes.WriteFault
+    half-explained n plays cause part = record {
+      count = both;
+      cause = cause;
+      both = of-both _ (ExplainsInPart out) (λ text h. record { faultless = h.faultless; written = part (events text no_limit) h.stands; spent = h.spent }) plays;
     }
 
 -- ---- what isn't told as a fault counts none
