@@ -14,6 +14,7 @@ use Rattle.ecam_spec.specs.DraftFaults.{has_atom, asks_phase_or_alert, asks_aler
 use Rattle.ecam_spec.specs.Faults.{first_item, fault_at, whole}
 use Rattle.ecam_spec.specs.Places.{first_of}
 use Rattle.book_model.specs.NamePlaces.{Numbers}
+use Rattle.term_tree.specs.View.{named_terms}
 use Rattle.book_model.specs.View.{draft_of, name_of, alert_of, memo_of, phase_of, parameter_of}
 use Rattle.book_model.specs.declared.draft.Alert.{Alert}
 use Rattle.book_model.specs.declared.draft.Draft.{Draft}
@@ -66,6 +67,7 @@ module _ (p : plain.Draft) where
   by_parts names kinds =
       fault_at 20 section.Phase (whole (list_any (has_atom asks_phase_or_alert) (phase_terms p.phase)))
       ∷ at_alert p 21 (λ i a. has_atom (asks_alert_from i) a.when)
+      ∷ fault_at 22 section.Term (first_item (λ i t. has_atom (misreads kinds) t.tree) p.terms)
       ∷ fault_at 22 section.Phase (whole (one_misreads kinds (phase_terms p.phase)))
       ∷ at_alert p 22 (λ i a. one_misreads kinds (a.when ∷ line_terms a.lines))
       ∷ fault_at 22 section.Memo (first_item (λ i m. has_atom (misreads kinds) m.when) p.memos)
@@ -86,6 +88,7 @@ module _ (d : Draft) (params : Bor (List Param)) (places : Bor Numbers) where
   all_found =
       fault_at 20 section.Phase (whole (list_any (has_atom (is_flawed PhaseOrAlert)) (phase_terms (phase_of d.phase))))
       ∷ found 21 (map name_of d.alerts.items) AsksLaterAlert d.alerts.items
+      ∷ fault_at 22 section.Term (first_item (λ i t. has_atom (is_flawed (Misread params)) t.tree) (named_terms d.terms.items))
       ∷ fault_at 22 section.Phase (whole (list_any (has_atom (is_flawed (Misread params))) (phase_terms (phase_of d.phase))))
       ∷ found 22 (map name_of d.alerts.items) (MisreadsParameter params) d.alerts.items
       ∷ fault_at 22 section.Memo (first_item (λ i m. has_atom (is_flawed (Misread params)) m.when) (map memo_of d.memos.items))

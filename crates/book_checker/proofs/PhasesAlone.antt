@@ -24,12 +24,12 @@ phases_sound set small =
     subst (IsSoundTerm 0 0) (sym (tree_of-InPhase set)) (record { within = tt; in_range = small; small = omega arith; flat = omega arith })
 
 abbrev alone : book.PhaseTerms → plain.Draft
-alone p = record { systems = []; pages = []; parameters = []; phase = p; alerts = []; memos = [] }
+alone p = record { systems = []; pages = []; parameters = []; terms = []; phase = p; alerts = []; memos = [] }
 
-is_alone : (d : Draft) → d.systems.items ≡ [] → d.pages.items ≡ [] → d.params.items ≡ [] → d.alerts.items ≡ [] → d.memos.items ≡ []
+is_alone : (d : Draft) → d.systems.items ≡ [] → d.pages.items ≡ [] → d.params.items ≡ [] → d.terms.items ≡ [] → d.alerts.items ≡ [] → d.memos.items ≡ []
     → draft_of d ≡ alone (phase_of d.phase)
 unfolding draft_of
-is_alone d systems pages params alerts memos = rw (systems, pages, params, alerts, memos) refl
+is_alone d systems pages params terms alerts memos = rw (systems, pages, params, terms, alerts, memos) refl
 
 alone_sound : (p : book.PhaseTerms) → IsSoundPhase 0 0 p → IsSound (alone p)
 alone_sound p sound = record {
@@ -42,6 +42,9 @@ alone_sound p sound = record {
   parameter_count = omega arith;
   parameters = All-nil _;
   parameters_once = All-nil _;
+  term_count = omega arith;
+  terms = All-nil _;
+  terms_once = All-nil _;
   phase = sound;
   alert_count = omega arith;
   alerts = All-nil _;
@@ -51,7 +54,7 @@ alone_sound p sound = record {
   memos_once = All-nil _;
 }
 
-pub sound_alone : (d : Draft) → d.systems.items ≡ [] → d.pages.items ≡ [] → d.params.items ≡ [] → d.alerts.items ≡ [] → d.memos.items ≡ []
+pub sound_alone : (d : Draft) → d.systems.items ≡ [] → d.pages.items ≡ [] → d.params.items ≡ [] → d.terms.items ≡ [] → d.alerts.items ≡ [] → d.memos.items ≡ []
     → IsSoundPhase 0 0 (phase_of d.phase) → IsSound (draft_of d)
-sound_alone d systems pages params alerts memos sound =
-    subst IsSound (sym (is_alone d systems pages params alerts memos)) (alone_sound (phase_of d.phase) sound)
+sound_alone d systems pages params terms alerts memos sound =
+    subst IsSound (sym (is_alone d systems pages params terms alerts memos)) (alone_sound (phase_of d.phase) sound)

@@ -10,14 +10,14 @@ ghost use Rattle.book_checker.specs.Sealing.{Refuses};
 
 use crate::alerts::AlertFlaw;
 use crate::atoms::AtomFlaw;
-use crate::searches::{alert_fault, memo_fault, phase_fault};
+use crate::searches::{alert_fault, memo_fault, named_fault, phase_fault};
 use book_model::{Book, BookFault, Draft, LoadError, NamePlaces, alert_places};
 use std::alloc::{AllocError, Global};
 
 /// Seals a draft. A fault is the first by its code, 20 to 26, among these by its section, and among these by its
 /// item, counted from 1, where the phase table is item 0: 20 a phase input asks for a phase or an alert, 21 an
-/// alert's condition asks for that alert or a later one, 22 a condition tests a number as a discrete or compares a
-/// discrete, 23 a level doesn't have its alert's sound, 24 a secondary is no alert's name, 25 a secondary stands
+/// alert's condition asks for that alert or a later one, 22 a condition, a named one too, tests a number as a discrete or
+/// compares a discrete, 23 a level doesn't have its alert's sound, 24 a secondary is no alert's name, 25 a secondary stands
 /// not later in the book than its primary, 26 an alert is inhibited in all phases. `LoadError::Memory` tells that
 /// memory ran out, and nothing of the draft. It goes once through the draft for each code and section, and
 /// finds a secondary by a map of the alerts' names.
@@ -40,6 +40,7 @@ pub fn seal(alloc: Global, draft: Draft) -> Result<Book, LoadError>
 
 pub(crate) fn first_fault(alloc: Global, draft: &Draft) -> Result<Option<BookFault>, AllocError>
     requires alerts { length draft.now.alerts.items < 2 ^ 32 }
+    requires terms { length draft.now.terms.items < 2 ^ 32 }
     requires memos { length draft.now.memos.items < 2 ^ 32 }
     ensures { IfOk result (λ f. f ≡ draft_fault (draft_of draft.now)) }
 {
@@ -49,6 +50,7 @@ pub(crate) fn first_fault(alloc: Global, draft: &Draft) -> Result<Option<BookFau
 
 fn fault_by(draft: &Draft, places: &NamePlaces<'_>) -> Option<BookFault>
     requires alerts { length draft.now.alerts.items < 2 ^ 32 }
+    requires terms { length draft.now.terms.items < 2 ^ 32 }
     requires memos { length draft.now.memos.items < 2 ^ 32 }
     requires places { FindsPlaces (map name_of draft.now.alerts.items) places.now }
     ensures { result ≡ draft_fault (draft_of draft.now) }
@@ -58,6 +60,7 @@ fn fault_by(draft: &Draft, places: &NamePlaces<'_>) -> Option<BookFault>
     let misread = AtomFlaw::Misread(params);
     phase_fault(20, &draft.phase, &AtomFlaw::PhaseOrAlert)
         .or(alert_fault(21, alerts, &AlertFlaw::AsksLaterAlert))
+        .or(named_fault(22, draft.terms.as_slice(), &misread))
         .or(phase_fault(22, &draft.phase, &misread))
         .or(alert_fault(22, alerts, &AlertFlaw::MisreadsParameter(params)))
         .or(memo_fault(22, draft.memos.as_slice(), &misread))

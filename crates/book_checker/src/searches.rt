@@ -5,12 +5,14 @@ ghost use Rattle.ecam_spec.specs.declared.kinds.Section.TheVariants as section;
 ghost use Rattle.ecam_spec.specs.BookTerms.{phase_terms};
 ghost use Rattle.ecam_spec.specs.DraftFaults.{has_atom};
 ghost use Rattle.ecam_spec.specs.Faults.{first_item, fault_at, whole};
+ghost use Rattle.term_tree.specs.View.{named_terms};
 ghost use Rattle.book_model.specs.View.{name_of, alert_of, memo_of, phase_of};
 ghost use Rattle.book_checker.specs.Flaws.{has_flaw, is_flawed, Knows};
 
 use crate::alerts::AlertFlaw;
 use crate::atoms::{AtomFlaw, has_atom, phase_has_atom};
 use book_model::{Alert, BookFault, Memo, PhaseTerms, Section};
+use term_tree::NamedTerm;
 
 /// The fault of this code in the phase table, where one of its conditions has the flaw.
 pub(crate) fn phase_fault(code: u8, phase: &PhaseTerms, flaw: &AtomFlaw<'_>) -> Option<BookFault>
@@ -50,6 +52,20 @@ pub(crate) fn alert_fault(code: u8, alerts: &[Alert], flaw: &AlertFlaw<'_, '_>) 
     for (place, alert) in alerts.iter().enumerate() {
         if flaw.is_in(place, alert) {
             return Some(at_item(code, Section::Alert, place));
+        }
+    }
+    None
+}
+
+/// The fault of this code at the first named condition that has the flaw.
+pub(crate) fn named_fault(code: u8, terms: &[NamedTerm], flaw: &AtomFlaw<'_>) -> Option<BookFault>
+    requires count { length terms.now < 2 ^ 32 }
+    ensures { result ≡ fault_at code section.Term
+        (first_item (λ i t. has_atom (is_flawed flaw.now) t.tree) (named_terms terms.now)) }
+{
+    for (place, term) in terms.iter().enumerate() {
+        if has_atom(&term.cond, flaw) {
+            return Some(at_item(code, Section::Term, place));
         }
     }
     None

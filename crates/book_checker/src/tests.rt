@@ -11,9 +11,10 @@ use bitflags::Flags;
 use book_model::*;
 use ecam_kinds::{Colour, Level, PhaseSet, Sound};
 use ecam_spec::Op;
+use ecam_spec::limits::{ALERTS, MEMOS, NAMED_TERMS};
 use std::alloc::{AllocError, Global};
 use std::test::Fail;
-use term_tree::Cond;
+use term_tree::{Cond, NamedTerm};
 
 const NUMBER: u32 = 0;
 
@@ -93,6 +94,13 @@ fn alerts(alloc: Global) -> Result<Vec<Alert>, Fail> {
     Ok(vec![in alloc; first, second, third]?)
 }
 
+fn named(of: &str, cond: Cond) -> Result<NamedTerm, Fail> {
+    Ok(NamedTerm {
+        name: name(of)?,
+        cond,
+    })
+}
+
 fn phase() -> PhaseTerms {
     PhaseTerms {
         gnd: term(Cond::Disc(BIT)),
@@ -112,6 +120,7 @@ fn faultless(alloc: Global) -> Result<Draft, Fail> {
         systems: Vec::new(alloc),
         pages: Vec::new(alloc),
         params,
+        terms: vec![in alloc; named("p", Cond::Disc(BIT))?, named("q", Cond::Disc(BIT))?]?,
         phase: phase(),
         alerts,
         memos,
@@ -133,6 +142,8 @@ enum Change {
     LineCompare(usize, u32),
     /// The alert tests the parameter as a discrete.
     AlertTest(usize, u32),
+    /// The named condition tests the parameter as a discrete.
+    NamedTest(usize, u32),
     /// A phase input compares the parameter.
     InputCompare(u32),
     /// The alert asks for another.
@@ -141,7 +152,7 @@ enum Change {
     InputAsk(u32),
 }
 
-const CHANGES: [(Change, u8, Section, u32); 15] = [
+const CHANGES: [(Change, u8, Section, u32); 17] = [
     (Change::Inhibit(2), 26, Section::Alert, 3),
     (Change::Inhibit(1), 26, Section::Alert, 2),
     (Change::Explain(2, "c"), 25, Section::Alert, 3),
@@ -153,6 +164,8 @@ const CHANGES: [(Change, u8, Section, u32); 15] = [
     (Change::LineCompare(2, BIT), 22, Section::Alert, 3),
     (Change::AlertTest(1, NUMBER), 22, Section::Alert, 2),
     (Change::InputCompare(BIT), 22, Section::Phase, 0),
+    (Change::NamedTest(1, NUMBER), 22, Section::Term, 2),
+    (Change::NamedTest(0, NUMBER), 22, Section::Term, 1),
     (Change::AlertAsk(2, 2), 21, Section::Alert, 3),
     (Change::AlertAsk(1, 2), 21, Section::Alert, 2),
     (Change::InputAsk(0), 20, Section::Phase, 0),
@@ -195,6 +208,10 @@ fn put_in(alloc: Global, draft: &mut Draft, change: Change) -> Result<(), Fail> 
             let memo = draft.memos.get_mut(place).ok_or("no such memo")?;
             memo.when = term(nested(alloc, Cond::Disc(param))?);
         }
+        Change::NamedTest(place, param) => {
+            let named = draft.terms.get_mut(place).ok_or("no such named condition")?;
+            named.cond = nested(alloc, Cond::Disc(param))?;
+        }
         Change::InputCompare(param) => {
             draft.phase.low = term(nested(alloc, Cond::Cmp(param, Op::Less, 1))?);
         }
@@ -206,7 +223,7 @@ fn put_in(alloc: Global, draft: &mut Draft, change: Change) -> Result<(), Fail> 
 }
 
 fn told(alloc: Global, draft: &Draft) -> Result<Option<BookFault>, Fail> {
-    if draft.alerts.len() > 1024 || draft.memos.len() > 128 {
+    if draft.alerts.len() > ALERTS || draft.memos.len() > MEMOS || draft.terms.len() > NAMED_TERMS {
         return Err("too many items".into());
     }
     Ok(first_fault(alloc, draft)?)
@@ -238,6 +255,7 @@ fn phases_alone(alloc: Global, gnd: Cond) -> Draft
         systems: Vec::new(alloc),
         pages: Vec::new(alloc),
         params: Vec::new(alloc),
+        terms: Vec::new(alloc),
         phase: PhaseTerms {
             gnd: term(gnd),
             run: term(Cond::Const(false)),

@@ -1,15 +1,14 @@
 -- The order in which faults are searched for.
 use Rattle.std.proofs.Common.{◌≡◌, ℕ, List, [], ◌∷◌, ◌++◌, map, not, Option, Some, None, is_some, true, false, refl, ap, ◌∙◌}
 use Rattle.std.specs.Option.{option_or}
-use Rattle.std.specs.Prelude.{codes}
-use Rattle.toml.specs.Data.{Members, get_member}
+use Rattle.std.specs.Prelude.{is_none}
+use Rattle.toml.specs.Data.{Members}
 use Rattle.ecam_spec.specs.Faults.{fault_at, whole}
 use Rattle.ecam_spec.specs.Places.{first_of}
 use Rattle.ecam_spec.specs.declared.kinds.Section.TheVariants as section
 use Rattle.book_spec.specs.Fields.{has_only}
-use Rattle.book_spec.specs.Schema.{top_keys}
 use Rattle.ecam_spec.specs.declared.kinds.BookFault.{BookFault}
-use Rattle.book_spec.specs.Document.{rule_fault, repeated_fault, table_fault, is_version}
+use Rattle.book_spec.specs.Document.{top_keys, rule_fault, repeated_fault, table_fault, version, is_second}
 use Rattle.book_spec.specs.declared.schema.Rule.{Rule}
 use Rattle.book_faults.specs.declared.rules.Asked.TheVariants.{One}
 use Rattle.book_faults.specs.FaultParts.{asked_fault, ordered_fault, top_fault, before_names, after_names}
@@ -46,8 +45,8 @@ module _ (top : Members) where
   unfolding table_fault rule_fault asked_fault
   fault_parts =
       first_of-append (
-      fault_at 3 section.Top (whole (not (is_version (get_member (codes "version") top))))
-      ∷ fault_at 4 section.Top (whole (not (has_only top_keys top)))
+      fault_at 3 section.Top (whole (is_none (version top)))
+      ∷ fault_at 4 section.Top (whole (not (has_only (top_keys (is_second top)) top)))
       ∷ [])
       (map one before_names ++ (repeated_fault top ∷ map one after_names))
       ∙ ap (option_or (top_fault top)) (first_of-append (map one before_names) (repeated_fault top ∷ map one after_names))

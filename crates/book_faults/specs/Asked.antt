@@ -45,10 +45,10 @@ module _ (asked : Asked) where
   abbrev pub list_fails : ℕ → ℕ → Data → Bool
   list_fails low high value = any_asked asked (λ rule. list_breaks rule low high value)
 
-  -- where a list of at most so many items does, whose items break a rule so
-  abbrev pub place_in_list : ℕ → (Rule → Data → Bool) → Data → Option ℕ
+  -- where a list of at most so many items does, whose items break a rule so, by their places
+  abbrev pub place_in_list : ℕ → (ℕ → Rule → Data → Bool) → Data → Option ℕ
   place_in_list most breaks value =
-      option_or (whole (list_fails 0 most value)) (first_item (λ i d. any_asked asked (λ rule. breaks rule d)) (members_of value))
+      option_or (whole (list_fails 0 most value)) (first_item (λ i d. any_asked asked (λ rule. breaks i rule d)) (members_of value))
 
   -- a table with these keys does, where `breaks` tells of what a key holds
   abbrev pub table_fails : {S : Type 0} → (Rule → S → Data → Bool) → List (Key S) → Members → Bool

@@ -1,24 +1,23 @@
 // The first fault of a document's table.
 ghost use Rattle.std.specs.Prelude.{◌≡◌, ◌<◌, ◌^◌, length, codes, is_none, IfOk};
-ghost use Rattle.toml.specs.Data.{get_member};
 ghost use Rattle.toml.specs.View.{table_view};
 ghost use Rattle.ecam_spec.specs.Faults.{fault_at, whole};
 ghost use Rattle.book_spec.specs.Fields.{has_only};
-ghost use Rattle.book_spec.specs.Schema.{top_keys};
-ghost use Rattle.book_spec.specs.Document.{list_in};
+ghost use Rattle.book_spec.specs.Document.{top_keys};
+ghost use Rattle.book_spec.specs.Rules.{list_in};
 ghost use Rattle.book_spec.specs.Document as spec;
-ghost use Rattle.book_tables.specs.Catalogue.{table_in};
+ghost use Rattle.book_tables.specs.Catalogue.{table_in, IsComplete};
 ghost use Rattle.book_faults.specs.declared.rules.Asked.TheVariants.{Every};
-ghost use Rattle.book_faults.specs.FaultParts.{system_fault, listed_fault, phase_fault, asked_fault, rule_faults, ordered_fault, top_fault};
+ghost use Rattle.book_faults.specs.FaultParts.{system_fault, listed_fault, alerts_fault, phase_fault, asked_fault, taken_fault, rule_faults, ordered_fault, top_fault};
 
 use crate::rules::Asked;
-use crate::searches::{first_repeated, place_among_items, place_among_leaves};
-use crate::sections::{ALERTS, ItemList, MEMOS, PAGES, PARAMS};
+use crate::searches::{first_repeated, first_taken, place_among_items, place_among_leaves};
+use crate::sections::{ALERTS, FIRST_ALERTS, ItemList, MEMOS, PAGES, PARAMS, TERMS};
 use crate::tables::item_breaks;
 use book_model::{BookFault, Section};
 use book_spec::{Item, Leaf, Rule};
 use book_tables::Catalogue;
-use book_tables::fields::{find, has_only, list_in, names_in, texts_in};
+use book_tables::fields::{find, has_only, list_in, names_in, number_at, texts_in};
 use ecam_spec::limits;
 use std::alloc::{AllocError, Global};
 use toml::Table;
@@ -27,6 +26,15 @@ use toml::Table;
 const MOST_SYSTEMS: usize = limits::SYSTEMS;
 
 const SYSTEM_BYTES: usize = limits::SYSTEM_TEXT;
+
+/// The keys of a document of version 1, and of version 2.
+const FIRST_KEYS: [&str; 7] = [
+    "version", "systems", "page", "param", "phase", "alert", "memo",
+];
+
+const SECOND_KEYS: [&str; 8] = [
+    "term", "version", "systems", "page", "param", "phase", "alert", "memo",
+];
 
 /// The rules that are searched before names that stand twice, with their codes, and those after.
 const BEFORE_NAMES: [(u8, Rule); 7] = [
@@ -76,14 +84,14 @@ fn system_fault(
     code: u8,
     asked: Asked,
 ) -> Result<Option<BookFault>, AllocError>
-    requires { length (list_in (codes "systems") (table_in names.now)) < 2 ^ 32 }
+    requires { IsComplete names.now }
     ensures { IfOk result (λ r. r ≡ system_fault (table_in names.now) code asked) }
 {
-    let Some(value) = find(names.top, "systems") else {
+    let Some(value) = find(names.places.top, "systems") else {
         return Ok(None);
     };
     let text = Leaf::Text(SYSTEM_BYTES);
-    let item = place_among_leaves(alloc, asked, names, text, MOST_SYSTEMS, value)?;
+    let item = place_among_leaves(alloc, asked, &names.all(), text, MOST_SYSTEMS, value)?;
     Ok(fault_at(code, Section::System, item))
 }
 
@@ -95,14 +103,31 @@ fn listed_fault(
     asked: Asked,
     listed: &ItemList,
 ) -> Result<Option<BookFault>, AllocError>
-    requires { length (list_in listed.now.key.now (table_in names.now)) < 2 ^ 32 }
+    requires complete { IsComplete names.now }
+    requires few { length (list_in listed.now.key.now (table_in names.now)) < 2 ^ 32 }
     ensures { IfOk result (λ r. r ≡ listed_fault (table_in names.now) code asked listed.now) }
 {
-    let Some(value) = find(names.top, listed.key) else {
+    let Some(value) = find(names.places.top, listed.key) else {
         return Ok(None);
     };
     let item = place_among_items(alloc, asked, names, listed.item, listed.most, value)?;
     Ok(fault_at(code, listed.section, item))
+}
+
+fn alerts_fault(
+    alloc: Global,
+    names: &Catalogue<'_>,
+    code: u8,
+    asked: Asked,
+) -> Result<Option<BookFault>, AllocError>
+    requires { IsComplete names.now }
+    ensures { IfOk result (λ r. r ≡ alerts_fault (table_in names.now) code asked) }
+{
+    if is_second(names.places.top) {
+        listed_fault(alloc, names, code, asked, &ALERTS)
+    } else {
+        listed_fault(alloc, names, code, asked, &FIRST_ALERTS)
+    }
 }
 
 fn phase_fault(
@@ -111,23 +136,25 @@ fn phase_fault(
     code: u8,
     asked: Asked,
 ) -> Result<Option<BookFault>, AllocError>
+    requires { IsComplete names.now }
     ensures { IfOk result (λ r. r ≡ phase_fault (table_in names.now) code asked) }
 {
-    let Some(value) = find(names.top, "phase") else {
+    let Some(value) = find(names.places.top, "phase") else {
         return Ok(None);
     };
-    let breaks = item_breaks(alloc, asked, names, Item::Phase, value)?;
+    let breaks = item_breaks(alloc, asked, &names.all(), Item::Phase, value)?;
     Ok(fault_at(code, Section::Phase, whole(breaks)))
 }
 
 /// The first section that breaks a rule that is asked for, and its first item.
-#[tactic(auto, using(book_tables::proofs::FewItems::system_items, book_tables::proofs::FewItems::page_items, book_tables::proofs::FewItems::parameter_items, book_tables::proofs::FewItems::alert_items), unfolding(crate::specs::FaultParts::asked_fault))]
+#[tactic(auto, unfolding(crate::specs::FaultParts::asked_fault))]
 fn rule_fault(
     alloc: Global,
     names: &Catalogue<'_>,
     code: u8,
     asked: Asked,
 ) -> Result<Option<BookFault>, AllocError>
+    requires { IsComplete names.now }
     ensures { IfOk result (λ r. r ≡ asked_fault (table_in names.now) code asked) }
 {
     let fault = system_fault(alloc, names, code, asked)?;
@@ -142,11 +169,15 @@ fn rule_fault(
     if fault.is_some() {
         return Ok(fault);
     }
+    let fault = listed_fault(alloc, names, code, asked, &TERMS)?;
+    if fault.is_some() {
+        return Ok(fault);
+    }
     let fault = phase_fault(alloc, names, code, asked)?;
     if fault.is_some() {
         return Ok(fault);
     }
-    let fault = listed_fault(alloc, names, code, asked, &ALERTS)?;
+    let fault = alerts_fault(alloc, names, code, asked)?;
     if fault.is_some() {
         return Ok(fault);
     }
@@ -158,6 +189,7 @@ fn first_rule_fault(
     names: &Catalogue<'_>,
     rules: &[(u8, Rule)],
 ) -> Result<Option<BookFault>, AllocError>
+    requires { IsComplete names.now }
     ensures { IfOk result (λ r. r ≡ rule_faults (table_in names.now) rules.now) }
 {
     for (code, rule) in rules {
@@ -175,7 +207,7 @@ fn repeated_systems(alloc: Global, names: &Catalogue<'_>) -> Result<Option<BookF
     ensures { IfOk result (λ r. r ≡ spec.repeated_in (table_in names.now) Section.System
         (spec.system_texts (table_in names.now))) }
 {
-    let texts = texts_in(alloc, list_in(names.top, "systems"))?;
+    let texts = texts_in(alloc, list_in(names.places.top, "systems"))?;
     let item = first_repeated(alloc, texts.as_slice())?;
     Ok(fault_at(11, Section::System, item))
 }
@@ -191,14 +223,26 @@ fn repeated_names(
     ensures { IfOk result (λ r. r ≡ spec.repeated_in (table_in names.now) section
         (spec.names_in key.now (table_in names.now))) }
 {
-    let texts = names_in(alloc, list_in(names.top, key))?;
+    let texts = names_in(alloc, list_in(names.places.top, key))?;
     let item = first_repeated(alloc, texts.as_slice())?;
     Ok(fault_at(11, section, item))
 }
 
-/// The first item whose name stands at another one of its section too.
-#[tactic(auto, using(book_tables::proofs::FewItems::system_items, book_tables::proofs::FewItems::page_items, book_tables::proofs::FewItems::parameter_items, book_tables::proofs::FewItems::alert_items), unfolding(book_spec::specs::Document::repeated_fault))]
+/// The first named condition whose name stands at another one too, or is a parameter's.
+#[tactic(auto, using(book_tables::proofs::FewItems::name_count), unfolding(book_spec::specs::Document::names_of))]
+fn taken_names(alloc: Global, names: &Catalogue<'_>) -> Result<Option<BookFault>, AllocError>
+    requires { IsComplete names.now }
+    ensures { IfOk result (λ r. r ≡ taken_fault (table_in names.now)) }
+{
+    let texts = names_in(alloc, list_in(names.places.top, "term"))?;
+    let item = first_taken(alloc, &names.all(), texts.as_slice())?;
+    Ok(fault_at(11, Section::Term, item))
+}
+
+/// The first item whose name stands at another one of its section too, or a named condition's that is a parameter's.
+#[tactic(auto, unfolding(book_spec::specs::Document::repeated_fault))]
 fn repeated_fault(alloc: Global, names: &Catalogue<'_>) -> Result<Option<BookFault>, AllocError>
+    requires { IsComplete names.now }
     ensures { IfOk result (λ r. r ≡ spec.repeated_fault (table_in names.now)) }
 {
     let fault = repeated_systems(alloc, names)?;
@@ -213,6 +257,10 @@ fn repeated_fault(alloc: Global, names: &Catalogue<'_>) -> Result<Option<BookFau
     if fault.is_some() {
         return Ok(fault);
     }
+    let fault = taken_names(alloc, names)?;
+    if fault.is_some() {
+        return Ok(fault);
+    }
     let fault = repeated_names(alloc, names, Section::Alert, "alert")?;
     if fault.is_some() {
         return Ok(fault);
@@ -220,32 +268,37 @@ fn repeated_fault(alloc: Global, names: &Catalogue<'_>) -> Result<Option<BookFau
     repeated_names(alloc, names, Section::Memo, "memo")
 }
 
-fn is_version(top: &Table) -> bool
-    ensures { result ≡ spec.is_version (get_member (codes "version") (table_view top.now)) }
+// The version of a document, 1 or 2.
+#[tactic(auto, unfolding(book_spec::specs::Document::version))]
+fn version(top: &Table) -> Option<u32>
+    ensures { result ≡ spec.version (table_view top.now) }
 {
-    match find(top, "version") {
-        Some(value) => value.as_integer() == Some(1),
-        None => false,
-    }
+    number_at(top, 1, 2, "version")
 }
 
-#[tactic(auto, unfolding(book_spec::specs::Schema::top_keys))]
-fn has_top_keys(top: &Table) -> bool
-    ensures { result ≡ has_only top_keys (table_view top.now) }
+fn is_second(top: &Table) -> bool
+    ensures { result ≡ spec.is_second (table_view top.now) }
 {
-    has_only(
-        top,
-        &[
-            "version", "systems", "page", "param", "phase", "alert", "memo",
-        ],
-    )
+    version(top).unwrap_or(1) == 2
+}
+
+#[tactic(auto, unfolding(book_spec::specs::Document::top_keys))]
+fn has_top_keys(top: &Table) -> bool
+    ensures { result ≡ has_only (top_keys (spec.is_second (table_view top.now)))
+        (table_view top.now) }
+{
+    if is_second(top) {
+        has_only(top, &SECOND_KEYS)
+    } else {
+        has_only(top, &FIRST_KEYS)
+    }
 }
 
 /// The fault of the top alone.
 fn top_fault(top: &Table) -> Option<BookFault>
     ensures { result ≡ top_fault (table_view top.now) }
 {
-    if !is_version(top) {
+    if version(top).is_none() {
         return fault_at(3, Section::Top, Some(0));
     }
     if !has_top_keys(top) {
@@ -257,6 +310,7 @@ fn top_fault(top: &Table) -> Option<BookFault>
 /// Whether a document breaks no rule. It is one pass through it, which ends where a rule is broken; which one it is
 /// doesn't count here, so that no code is told.
 fn keeps_rules(alloc: Global, names: &Catalogue<'_>) -> Result<bool, AllocError>
+    requires { IsComplete names.now }
     ensures { IfOk result (λ b. b ≡ is_none (asked_fault (table_in names.now) 0 Every)) }
 {
     let fault = rule_fault(alloc, names, 0, Asked::Every)?;
@@ -265,6 +319,7 @@ fn keeps_rules(alloc: Global, names: &Catalogue<'_>) -> Result<bool, AllocError>
 
 /// The first fault below the top. Each code is one search through the document, in their order.
 fn ordered_fault(alloc: Global, names: &Catalogue<'_>) -> Result<Option<BookFault>, AllocError>
+    requires { IsComplete names.now }
     ensures { IfOk result (λ r. r ≡ ordered_fault (table_in names.now)) }
 {
     let fault = first_rule_fault(alloc, names, &BEFORE_NAMES)?;
@@ -283,9 +338,10 @@ fn ordered_fault(alloc: Global, names: &Catalogue<'_>) -> Result<Option<BookFaul
 /// condition is read once, and n log n for n names. In another each code up to that of its fault is a search. An error
 /// is want of memory.
 pub fn table_fault(alloc: Global, names: &Catalogue<'_>) -> Result<Option<BookFault>, AllocError>
+    requires { IsComplete names.now }
     ensures { IfOk result (λ r. r ≡ spec.table_fault (table_in names.now)) }
 {
-    let fault = top_fault(names.top);
+    let fault = top_fault(names.places.top);
     if fault.is_some() {
         return Ok(fault);
     }

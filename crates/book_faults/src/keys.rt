@@ -169,6 +169,17 @@ pub(crate) fn param_keys(kind: Option<Kind>) -> [Key<Shape>; 4]
     ]
 }
 
+/// The keys of a named condition.
+#[tactic(auto, unfolding(book_spec::specs::Schema::named_keys))]
+pub(crate) fn named_keys() -> [Key<Shape>; 2]
+    ensures { keys_of result ≡ spec.named_keys }
+{
+    [
+        needs("name", Shape::Leaf(Leaf::Name)),
+        needs("when", Shape::Leaf(Leaf::Term)),
+    ]
+}
+
 /// The keys of the table of the flight phase.
 #[tactic(auto, unfolding(book_spec::specs::Schema::phase_keys))]
 pub(crate) fn phase_keys() -> [Key<Shape>; 6]

@@ -3,7 +3,7 @@
 
 mod faults;
 mod keys;
-mod rules;
+pub mod rules;
 mod searches;
 mod sections;
 mod tables;

@@ -13,7 +13,7 @@ ghost use Rattle.book_tables.specs.Reading.{views};
 ghost use Rattle.book_faults.specs.declared.rules.Asked.TheVariants.{Every};
 
 use book_spec::{Leaf, Rule, Words};
-use book_tables::Catalogue;
+use book_tables::Scope;
 use book_tables::conditions::read_condition;
 use book_tables::fields::{members_of, term_text_in};
 use book_tables::texts::{is_name, is_term_text, is_text, label_from};
@@ -59,7 +59,8 @@ fn has_other_than_strings(values: &[Value]) -> bool
     false
 }
 
-fn has_other_than_numbers(values: &[Value]) -> bool
+/// Whether one of these is no whole number.
+pub fn has_other_than_numbers(values: &[Value]) -> bool
     ensures { result ≡ list_any (λ d. not (spec.is_whole_number d)) (views values.now) }
 {
     for value in values {
@@ -112,7 +113,8 @@ fn number_fails(low: u32, high: u32, value: &Value) -> bool
     }
 }
 
-fn has_wrong_phase(values: &[Value]) -> bool
+/// Whether one of these is a whole number and no flight phase.
+pub fn has_wrong_phase(values: &[Value]) -> bool
     ensures { result ≡ list_any (spec.number_fails 1 10) (views values.now) }
 {
     for value in values {
@@ -134,7 +136,7 @@ fn is_out_of_range(leaf: Leaf, value: &Value) -> bool
 }
 
 /// Whether a list has fewer members than `low` or more than `high`.
-pub(crate) fn has_wrong_count(low: usize, high: usize, value: &Value) -> bool
+pub fn has_wrong_count(low: usize, high: usize, value: &Value) -> bool
     ensures { result ≡ spec.has_wrong_count low high (view value.now) }
 {
     let count = members_of(value).len();
@@ -183,7 +185,7 @@ fn label_fails(leaf: Leaf, value: &Value) -> bool
 }
 
 #[tactic(auto, using(book_tables::proofs::NamePlaces::no_place))]
-fn page_fails(names: &Catalogue<'_>, leaf: Leaf, value: &Value) -> bool
+fn page_fails(names: &Scope<'_, '_>, leaf: Leaf, value: &Value) -> bool
     ensures { result ≡ spec.page_fails (names_in names.now) leaf (view value.now) }
 {
     match (leaf, value.as_str()) {
@@ -193,7 +195,7 @@ fn page_fails(names: &Catalogue<'_>, leaf: Leaf, value: &Value) -> bool
 }
 
 #[tactic(auto, using(book_tables::proofs::NamePlaces::no_place))]
-fn system_fails(names: &Catalogue<'_>, leaf: Leaf, value: &Value) -> bool
+fn system_fails(names: &Scope<'_, '_>, leaf: Leaf, value: &Value) -> bool
     ensures { result ≡ spec.system_fails (names_in names.now) leaf (view value.now) }
 {
     match (leaf, value.as_str()) {
@@ -203,7 +205,7 @@ fn system_fails(names: &Catalogue<'_>, leaf: Leaf, value: &Value) -> bool
 }
 
 #[tactic(auto, using(book_tables::proofs::NamePlaces::no_place))]
-fn parameter_fails(names: &Catalogue<'_>, leaf: Leaf, value: &Value) -> bool
+fn parameter_fails(names: &Scope<'_, '_>, leaf: Leaf, value: &Value) -> bool
     ensures { result ≡ spec.parameter_fails (names_in names.now) leaf (view value.now) }
 {
     match (leaf, value.as_str()) {
@@ -216,7 +218,7 @@ fn parameter_fails(names: &Catalogue<'_>, leaf: Leaf, value: &Value) -> bool
 fn is_refused(
     alloc: Global,
     rule: Rule,
-    names: &Catalogue<'_>,
+    names: &Scope<'_, '_>,
     text: &str,
 ) -> Result<bool, AllocError>
     requires { length text.now ≤ TERM_TEXT }
@@ -239,7 +241,7 @@ fn is_refused(
 fn term_fails(
     alloc: Global,
     rule: Rule,
-    names: &Catalogue<'_>,
+    names: &Scope<'_, '_>,
     leaf: Leaf,
     value: &Value,
 ) -> Result<bool, AllocError>
@@ -257,7 +259,7 @@ fn term_fails(
 fn one_rule_breaks(
     alloc: Global,
     rule: Rule,
-    names: &Catalogue<'_>,
+    names: &Scope<'_, '_>,
     leaf: Leaf,
     value: &Value,
 ) -> Result<bool, AllocError>
@@ -287,7 +289,7 @@ fn one_rule_breaks(
 }
 
 /// Whether a condition's text is refused, for whichever rule.
-fn is_unreadable(alloc: Global, names: &Catalogue<'_>, text: &str) -> Result<bool, AllocError>
+fn is_unreadable(alloc: Global, names: &Scope<'_, '_>, text: &str) -> Result<bool, AllocError>
     requires { length text.now ≤ TERM_TEXT }
     ensures { IfOk result (λ b. b ≡ refuses (verdict (names_in names.now).of_terms text.now)) }
 {
@@ -300,7 +302,7 @@ fn is_unreadable(alloc: Global, names: &Catalogue<'_>, text: &str) -> Result<boo
 
 /// Whether a value breaks one of the rules for which no condition is read.
 #[tactic(auto, unfolding(book_spec::specs::Rules::leaf_breaks))]
-fn unread_breaks(names: &Catalogue<'_>, leaf: Leaf, value: &Value) -> bool
+fn unread_breaks(names: &Scope<'_, '_>, leaf: Leaf, value: &Value) -> bool
     ensures { result ≡ list_any (λ rule. spec.leaf_breaks (names_in names.now) rule leaf
         (view value.now)) unread_rules }
 {
@@ -319,7 +321,7 @@ fn unread_breaks(names: &Catalogue<'_>, leaf: Leaf, value: &Value) -> bool
 #[tactic(auto, using(crate::proofs::EveryRule::refused_once), unfolding(book_spec::specs::Rules::leaf_breaks, book_spec::specs::Rules::outcome_in))]
 fn read_breaks(
     alloc: Global,
-    names: &Catalogue<'_>,
+    names: &Scope<'_, '_>,
     leaf: Leaf,
     value: &Value,
 ) -> Result<bool, AllocError>
@@ -335,7 +337,7 @@ fn read_breaks(
 /// Whether a value breaks a rule, whichever it is.
 fn any_rule_breaks(
     alloc: Global,
-    names: &Catalogue<'_>,
+    names: &Scope<'_, '_>,
     leaf: Leaf,
     value: &Value,
 ) -> Result<bool, AllocError>
@@ -352,7 +354,7 @@ fn any_rule_breaks(
 pub(crate) fn leaf_breaks(
     alloc: Global,
     asked: Asked,
-    names: &Catalogue<'_>,
+    names: &Scope<'_, '_>,
     leaf: Leaf,
     value: &Value,
 ) -> Result<bool, AllocError>

@@ -25,6 +25,22 @@ pub(crate) const PARAMS: ItemList = ItemList {
     most: limits::PARAMETERS,
 };
 
+pub(crate) const TERMS: ItemList = ItemList {
+    section: Section::Term,
+    key: "term",
+    item: Item::Term,
+    most: limits::NAMED_TERMS,
+};
+
+/// The alerts of a book of version 1.
+pub(crate) const FIRST_ALERTS: ItemList = ItemList {
+    section: Section::Alert,
+    key: "alert",
+    item: Item::Alert,
+    most: limits::ALERTS_OF_VERSION_1,
+};
+
+/// The alerts of a book of version 2.
 pub(crate) const ALERTS: ItemList = ItemList {
     section: Section::Alert,
     key: "alert",

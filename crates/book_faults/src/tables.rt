@@ -16,11 +16,11 @@ ghost use Rattle.book_tables.specs.Reading.{views};
 
 use crate::keys::{
     Key, alert_keys, any_source_keys, bcd_keys, bnr_keys, disc_keys, kind_at, line_keys, memo_keys,
-    page_keys, param_keys, phase_keys, status_keys, text_row_keys, value_row_keys,
+    named_keys, page_keys, param_keys, phase_keys, status_keys, text_row_keys, value_row_keys,
 };
 use crate::rules::{Asked, has_wrong_count, leaf_breaks};
 use book_spec::{Inner, Item, Leaf, Rule, Shape};
-use book_tables::Catalogue;
+use book_tables::Scope;
 use book_tables::fields::{find, members_of};
 use ecam_spec::Kind;
 use std::alloc::{AllocError, Global};
@@ -89,7 +89,7 @@ trait Held: Copy {
         self,
         alloc: Global,
         asked: Asked,
-        names: &Catalogue<'_>,
+        names: &Scope<'_, '_>,
         value: &Value,
     ) -> Result<bool, AllocError>
         ensures { IfOk result (λ b. b ≡ any_asked asked
@@ -99,7 +99,7 @@ trait Held: Copy {
 fn value_at_breaks<S: Held>(
     alloc: Global,
     asked: Asked,
-    names: &Catalogue<'_>,
+    names: &Scope<'_, '_>,
     key: &Key<S>,
     table: &Table,
 ) -> Result<bool, AllocError>
@@ -116,7 +116,7 @@ fn value_at_breaks<S: Held>(
 fn values_break<S: Held>(
     alloc: Global,
     asked: Asked,
-    names: &Catalogue<'_>,
+    names: &Scope<'_, '_>,
     keys: &[Key<S>],
     table: &Table,
 ) -> Result<bool, AllocError>
@@ -136,7 +136,7 @@ fn values_break<S: Held>(
 fn table_breaks<S: Held>(
     alloc: Global,
     asked: Asked,
-    names: &Catalogue<'_>,
+    names: &Scope<'_, '_>,
     keys: &[Key<S>],
     table: &Table,
 ) -> Result<bool, AllocError>
@@ -156,7 +156,7 @@ impl Held for Leaf {
         self,
         alloc: Global,
         asked: Asked,
-        names: &Catalogue<'_>,
+        names: &Scope<'_, '_>,
         value: &Value,
     ) -> Result<bool, AllocError> {
         leaf_breaks(alloc, asked, names, self, value)
@@ -167,7 +167,7 @@ impl Held for Leaf {
 fn row_breaks(
     alloc: Global,
     asked: Asked,
-    names: &Catalogue<'_>,
+    names: &Scope<'_, '_>,
     table: &Table,
 ) -> Result<bool, AllocError>
     ensures { IfOk result (λ b. b ≡ table_fails asked (leaf_breaks (names_in names.now))
@@ -183,7 +183,7 @@ fn row_breaks(
 fn source_breaks(
     alloc: Global,
     asked: Asked,
-    names: &Catalogue<'_>,
+    names: &Scope<'_, '_>,
     kind: Option<Kind>,
     table: &Table,
 ) -> Result<bool, AllocError>
@@ -202,7 +202,7 @@ fn source_breaks(
 fn keyed_inner_breaks(
     alloc: Global,
     asked: Asked,
-    names: &Catalogue<'_>,
+    names: &Scope<'_, '_>,
     inner: Inner,
     table: &Table,
 ) -> Result<bool, AllocError>
@@ -233,7 +233,7 @@ fn is_no_table(asked: Asked, value: &Value) -> bool
 fn inner_breaks(
     alloc: Global,
     asked: Asked,
-    names: &Catalogue<'_>,
+    names: &Scope<'_, '_>,
     inner: Inner,
     value: &Value,
 ) -> Result<bool, AllocError>
@@ -248,7 +248,7 @@ fn inner_breaks(
 fn any_inner_breaks(
     alloc: Global,
     asked: Asked,
-    names: &Catalogue<'_>,
+    names: &Scope<'_, '_>,
     inner: Inner,
     values: &[Value],
 ) -> Result<bool, AllocError>
@@ -283,7 +283,7 @@ impl Held for Shape {
         self,
         alloc: Global,
         asked: Asked,
-        names: &Catalogue<'_>,
+        names: &Scope<'_, '_>,
         value: &Value,
     ) -> Result<bool, AllocError> {
         match self {
@@ -302,7 +302,7 @@ impl Held for Shape {
 fn keyed_item_breaks(
     alloc: Global,
     asked: Asked,
-    names: &Catalogue<'_>,
+    names: &Scope<'_, '_>,
     item: Item,
     table: &Table,
 ) -> Result<bool, AllocError>
@@ -312,6 +312,7 @@ fn keyed_item_breaks(
     match item {
         Item::Page => table_breaks(alloc, asked, names, &page_keys(), table),
         Item::Param => table_breaks(alloc, asked, names, &param_keys(kind_at(table)), table),
+        Item::Term => table_breaks(alloc, asked, names, &named_keys(), table),
         Item::Phase => table_breaks(alloc, asked, names, &phase_keys(), table),
         Item::Alert => table_breaks(alloc, asked, names, &alert_keys(), table),
         Item::Memo => table_breaks(alloc, asked, names, &memo_keys(), table),
@@ -324,7 +325,7 @@ fn keyed_item_breaks(
 pub(crate) fn item_breaks(
     alloc: Global,
     asked: Asked,
-    names: &Catalogue<'_>,
+    names: &Scope<'_, '_>,
     item: Item,
     value: &Value,
 ) -> Result<bool, AllocError>

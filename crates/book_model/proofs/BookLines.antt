@@ -62,8 +62,8 @@ few-of f (x ∷ xs) same few =
       few-of f xs same (λ i e h. few (suc i) e (omega arith)),
     )
 
--- a sealed book has 16384 lines at most
-pub few-lines-in-all : (d : Draft) → IsSealed d → length (lines_of (the_book d).alerts) ≤ 16384
+-- a sealed book has 32768 lines at most
+pub few-lines-in-all : (d : Draft) → IsSealed d → length (lines_of (the_book d).alerts) ≤ 32768
 few-lines-in-all d sealed =
     let each : All (λ (x : Alert). length x.lines.items ≤ 16) d.alerts.items = few-lines d sealed.sound in
     omega (

@@ -81,7 +81,7 @@ module _ (d : Draft) where
   terms-book = draft_trees-view d ∙ sym (terms_of-book (draft_of d))
 
   -- how many alerts a sound draft has, and how many lines each of them
-  pub few-alerts : IsSound (draft_of d) → length d.alerts.items ≤ 1024
+  pub few-alerts : IsSound (draft_of d) → length d.alerts.items ≤ 2048
   unfolding draft_of
   few-alerts sound = omega (arith, sound.alert_count, length-map d.alerts.items alert_of)
 

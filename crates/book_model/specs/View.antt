@@ -5,7 +5,7 @@ use Rattle.arrayvec.specs.ArrayString.{ArrayString}
 use Rattle.ecam_spec.specs.Book as book
 use Rattle.ecam_spec.specs.Draft as plain
 use Rattle.ecam_spec.specs.TermSize.{Placed}
-use Rattle.term_tree.specs.View.{tree_of}
+use Rattle.term_tree.specs.View.{tree_of, named_terms}
 use Rattle.book_model.specs.declared.draft.Term.{Term}
 use Rattle.book_model.specs.declared.draft.WordSource.{WordSource}
 use Rattle.book_model.specs.declared.draft.Param.{Param}
@@ -79,6 +79,7 @@ draft_of d = record {
   systems = map bytes_of d.systems.items;
   pages = map page_of d.pages.items;
   parameters = map parameter_of d.params.items;
+  terms = named_terms d.terms.items;
   phase = phase_of d.phase;
   alerts = map alert_of d.alerts.items;
   memos = map memo_of d.memos.items;

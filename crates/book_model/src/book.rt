@@ -161,7 +161,7 @@ impl Book {
         self.line_count
     }
 
-    /// How many slots all conditions have together.
+    /// How many slots all conditions have together. A named one has none by itself, but where it is used.
     pub fn slots(&self) -> usize
         ensures value { result ≡ slots_in (terms_of (the_book self.now)) }
         ensures sealed { IsSealed self.now }

@@ -3,7 +3,7 @@ use arrayvec::ArrayString;
 use ecam_kinds::{Colour, Level, PhaseSet, Sound};
 use ecam_spec::Kind;
 use ecam_spec::limits::{NAME, TEXT};
-use term_tree::Cond;
+use term_tree::{Cond, NamedTerm};
 
 /// A name: 1 to 24 bytes, small letters, digits and `_`, with a letter first.
 pub type Name = ArrayString<NAME>;
@@ -19,12 +19,14 @@ pub struct Term {
 }
 
 /// A book as its author wrote it. Parameters, systems and pages go by their places in their lists, and
-/// secondaries by name.
+/// secondaries by name. `terms` are the conditions that are named, of a book of version 2 alone; where a condition
+/// names one, its whole tree stands there.
 #[derive(Drop)]
 pub struct Draft {
     pub systems: Vec<Text>,
     pub pages: Vec<Page>,
     pub params: Vec<Param>,
+    pub terms: Vec<NamedTerm>,
     pub phase: PhaseTerms,
     pub alerts: Vec<Alert>,
     pub memos: Vec<Memo>,

@@ -3,21 +3,20 @@ ghost use Rattle.std.specs.Prelude.{◌≡◌, map, codes, IfOk, All};
 ghost use Rattle.toml.specs.Data.{no_members};
 ghost use Rattle.toml.specs.View.{view, table_view};
 ghost use Rattle.book_model.specs.View.{bytes_of, phase_of, memo_of, draft_of};
-ghost use Rattle.book_spec.specs.Document.{names_of};
 ghost use Rattle.book_spec.specs.DraftOf as spec;
 ghost use Rattle.book_tables.specs.Reading.{views};
-ghost use Rattle.book_tables.specs.Catalogue.{names_in};
+ghost use Rattle.book_tables.specs.Catalogue.{table_in, names_in, IsComplete};
 ghost use Rattle.book_reader.specs.Drafting.{phase_table};
 ghost use Rattle.book_reader.specs.Unplaced.{AreUnplacedPhases, IsUnplacedMemo, IsUnplaced};
 
 use crate::draft_alerts::alerts_in;
-use crate::draft_keys::{colour_or, is_left, name_or_none, table_or, text_or_none};
+use crate::draft_keys::{colour_or, is_left, text_or_none};
 use crate::draft_pages::pages_in;
 use crate::draft_params::parameters_in;
 use crate::draft_terms::term_or;
 use book_model::{Draft, Memo, PhaseTerms, Text};
-use book_tables::Catalogue;
-use book_tables::fields::{find, list_in, text_in};
+use book_tables::fields::{find, list_in, name_or_none, table_or, text_in};
+use book_tables::{Catalogue, Scope};
 use ecam_kinds::Colour;
 use ecam_spec::limits;
 use std::alloc::{AllocError, Global};
@@ -59,7 +58,7 @@ fn phase_table_or<'a>(top: &'a Table, empty: &'a Table) -> &'a Table
 }
 
 #[tactic(auto, unfolding(book_spec::specs::DraftOf::phase_in))]
-fn phase_in(alloc: Global, names: &Catalogue<'_>, table: &Table) -> Result<PhaseTerms, AllocError>
+fn phase_in(alloc: Global, names: &Scope<'_, '_>, table: &Table) -> Result<PhaseTerms, AllocError>
     ensures value { IfOk result (λ p. phase_of p
         ≡ spec.phase_in (names_in names.now) (table_view table.now)) }
     ensures unplaced { IfOk result AreUnplacedPhases }
@@ -75,7 +74,7 @@ fn phase_in(alloc: Global, names: &Catalogue<'_>, table: &Table) -> Result<Phase
 }
 
 #[tactic(auto, unfolding(book_spec::specs::DraftOf::memo_in))]
-fn memo_in(alloc: Global, names: &Catalogue<'_>, value: &Value) -> Result<Memo, AllocError>
+fn memo_in(alloc: Global, names: &Scope<'_, '_>, value: &Value) -> Result<Memo, AllocError>
     ensures value { IfOk result (λ m. memo_of m
         ≡ spec.memo_in (names_in names.now) (view value.now)) }
     ensures unplaced { IfOk result IsUnplacedMemo }
@@ -91,7 +90,7 @@ fn memo_in(alloc: Global, names: &Catalogue<'_>, value: &Value) -> Result<Memo, 
     })
 }
 
-fn memos_in(alloc: Global, names: &Catalogue<'_>, items: &[Value]) -> Result<Vec<Memo>, AllocError>
+fn memos_in(alloc: Global, names: &Scope<'_, '_>, items: &[Value]) -> Result<Vec<Memo>, AllocError>
     ensures value { IfOk result (λ v. map memo_of v.items
         ≡ map (spec.memo_in (names_in names.now)) (views items.now)) }
     ensures unplaced { IfOk result (λ v. All IsUnplacedMemo v.items) }
@@ -103,26 +102,29 @@ fn memos_in(alloc: Global, names: &Catalogue<'_>, items: &[Value]) -> Result<Vec
     Ok(memos)
 }
 
-/// The draft that a document is, in one pass, with a look-up by name for each name in it. What is missing, or is
-/// no value that may stand there, is the empty text, the least number, the usual word or a constant condition; a
-/// document that has no fault lacks nothing that isn't optional.
+/// The draft that a document is, in one pass, with a look-up by name for each name in it; its named conditions were
+/// read with the names. What is missing, or is no value that may stand there, is the empty text, the least number, the
+/// usual word or a constant condition; a document that has no fault lacks nothing that isn't optional.
 #[tactic(auto, unfolding(book_spec::specs::DraftOf::draft_of, book_model::specs::View::draft_of))]
 pub(crate) fn draft_of(
     alloc: Global,
     top: &Table,
-    names: &Catalogue<'_>,
+    names: Catalogue<'_>,
 ) -> Result<Draft, AllocError>
-    requires { names_in names.now ≡ names_of (table_view top.now) }
+    requires table { table_in names ≡ table_view top.now }
+    requires complete { IsComplete names }
     ensures value { IfOk result (λ d. draft_of d ≡ spec.draft_of (table_view top.now)) }
     ensures unplaced { IfOk result IsUnplaced }
 {
     let empty = Table::new(alloc);
+    let all = names.all();
     Ok(Draft {
         systems: systems_in(alloc, list_in(top, "systems"))?,
-        pages: pages_in(alloc, names, list_in(top, "page"))?,
+        pages: pages_in(alloc, &all, list_in(top, "page"))?,
         params: parameters_in(alloc, list_in(top, "param"))?,
-        phase: phase_in(alloc, names, phase_table_or(top, &empty))?,
-        alerts: alerts_in(alloc, names, list_in(top, "alert"))?,
-        memos: memos_in(alloc, names, list_in(top, "memo"))?,
+        phase: phase_in(alloc, &all, phase_table_or(top, &empty))?,
+        alerts: alerts_in(alloc, &all, list_in(top, "alert"))?,
+        memos: memos_in(alloc, &all, list_in(top, "memo"))?,
+        terms: names.terms,
     })
 }

@@ -10,13 +10,12 @@ ghost use Rattle.book_reader.specs.Drafting.{page_at, system_at};
 ghost use Rattle.book_reader.specs.Unplaced.{IsUnplacedLine, IsUnplacedAlert};
 
 use crate::draft_keys::{
-    colour_or, name_or_none, number_or_least, phases_at, section_or_first, sound_or, table_or,
-    text_or_none,
+    colour_or, number_or_least, phases_at, section_or_first, sound_or, text_or_none,
 };
 use crate::draft_terms::term_or;
 use book_model::{Alert, Line, Name, StatusLine};
-use book_tables::Catalogue;
-use book_tables::fields::{list_in, string_at};
+use book_tables::Scope;
+use book_tables::fields::{list_in, name_or_none, string_at, table_or};
 use ecam_kinds::{Colour, Level, Sound};
 use ecam_spec::limits;
 use std::alloc::{AllocError, Global};
@@ -28,7 +27,7 @@ const LINE: usize = limits::TEXT;
 const TITLE: usize = limits::TEXT;
 
 #[tactic(auto, unfolding(book_spec::specs::DraftOf::line_in))]
-fn line_in(alloc: Global, names: &Catalogue<'_>, value: &Value) -> Result<Line, AllocError>
+fn line_in(alloc: Global, names: &Scope<'_, '_>, value: &Value) -> Result<Line, AllocError>
     ensures value { IfOk result (λ l. line_of l
         ≡ spec.line_in (names_in names.now) (view value.now)) }
     ensures unplaced { IfOk result IsUnplacedLine }
@@ -43,7 +42,7 @@ fn line_in(alloc: Global, names: &Catalogue<'_>, value: &Value) -> Result<Line, 
     })
 }
 
-fn lines_in(alloc: Global, names: &Catalogue<'_>, items: &[Value]) -> Result<Vec<Line>, AllocError>
+fn lines_in(alloc: Global, names: &Scope<'_, '_>, items: &[Value]) -> Result<Vec<Line>, AllocError>
     ensures value { IfOk result (λ v. map line_of v.items
         ≡ map (spec.line_in (names_in names.now)) (views items.now)) }
     ensures unplaced { IfOk result (λ v. All IsUnplacedLine v.items) }
@@ -122,27 +121,27 @@ fn usual_sound(level: Level) -> Sound
     }
 }
 
-fn known_system(names: &Catalogue<'_>, table: &Table) -> Option<u32>
+fn known_system(names: &Scope<'_, '_>, table: &Table) -> Option<u32>
     ensures { result ≡ system_at (names_in names.now) (codes "system") (table_view table.now) }
 {
     names.system(string_at(table, "system")?)
 }
 
-fn system_or_first(names: &Catalogue<'_>, table: &Table) -> u32
+fn system_or_first(names: &Scope<'_, '_>, table: &Table) -> u32
     ensures { result ≡ unwrap_or (system_at (names_in names.now) (codes "system")
         (table_view table.now)) 0 }
 {
     known_system(names, table).unwrap_or(0)
 }
 
-fn known_page(names: &Catalogue<'_>, table: &Table) -> Option<u32>
+fn known_page(names: &Scope<'_, '_>, table: &Table) -> Option<u32>
     ensures { result ≡ page_at (names_in names.now) (codes "page") (table_view table.now) }
 {
     names.page(string_at(table, "page")?)
 }
 
 #[tactic(auto, unfolding(book_spec::specs::DraftOf::alert_in))]
-fn alert_in(alloc: Global, names: &Catalogue<'_>, value: &Value) -> Result<Alert, AllocError>
+fn alert_in(alloc: Global, names: &Scope<'_, '_>, value: &Value) -> Result<Alert, AllocError>
     ensures value { IfOk result (λ a. alert_of a
         ≡ spec.alert_in (names_in names.now) (view value.now)) }
     ensures unplaced { IfOk result IsUnplacedAlert }
@@ -169,7 +168,7 @@ fn alert_in(alloc: Global, names: &Catalogue<'_>, value: &Value) -> Result<Alert
 /// The alerts that these values are.
 pub(crate) fn alerts_in(
     alloc: Global,
-    names: &Catalogue<'_>,
+    names: &Scope<'_, '_>,
     items: &[Value],
 ) -> Result<Vec<Alert>, AllocError>
     ensures value { IfOk result (λ v. map alert_of v.items

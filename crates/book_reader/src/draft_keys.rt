@@ -1,6 +1,5 @@
 // What the keys of a table hold, or what stands in its place where a key is missing or holds something else.
 ghost use Rattle.std.specs.Prelude.{◌≡◌, ◌≤◌, codes, bit_or, option_map, unwrap_or, true, IfSome};
-ghost use Rattle.toml.specs.Data.{no_members};
 ghost use Rattle.toml.specs.View.{view, table_view};
 ghost use Rattle.ecam_spec.specs.declared.limits.TheConstants.{TEXT};
 ghost use Rattle.ecam_spec.specs.TermNumber.{one_phase};
@@ -12,33 +11,12 @@ ghost use Rattle.book_tables.specs.Reading.{views};
 ghost use Rattle.book_reader.specs.Drafting.{set_of};
 
 use bitflags::Flags;
-use book_model::{Name, Text};
-use book_tables::fields::{label_at, list_in, name_at, number_at, number_from, string_at, text_at};
+use book_model::Text;
+use book_tables::fields::{label_at, list_in, number_at, number_from, string_at, text_at};
 use book_tables::words::{colour_of, kind_of, section_of, sound_of, zone_of};
 use ecam_kinds::{Colour, Phase, PhaseSet, Sound};
 use ecam_spec::Kind;
 use toml::{Table, Value};
-
-/// The table that a value is, or an empty one.
-pub(crate) fn table_or<'a>(value: &'a Value, empty: &'a Table) -> &'a Table
-    requires { table_view empty.now ≡ no_members }
-    ensures { table_view result.now ≡ defaults.table_in (view value.now) }
-{
-    match value.as_table() {
-        Some(table) => table,
-        None => empty,
-    }
-}
-
-/// The name at the key `name`, or the empty one.
-pub(crate) fn name_or_none(table: &Table) -> Name
-    ensures { result.bytes ≡ defaults.name_or_none (table_view table.now) }
-{
-    match name_at(table, "name") {
-        Some(name) => name,
-        None => Name::new(),
-    }
-}
 
 /// The text of at most `most` bytes at a key, or the empty one.
 pub(crate) fn text_or_none(table: &Table, most: usize, key: &str) -> Text
@@ -52,7 +30,7 @@ pub(crate) fn text_or_none(table: &Table, most: usize, key: &str) -> Text
 }
 
 /// The whole number from `low` to `high` at a key, or `low`.
-pub(crate) fn number_or_least(table: &Table, low: u32, high: u32, key: &str) -> u32
+pub fn number_or_least(table: &Table, low: u32, high: u32, key: &str) -> u32
     requires { low ≤ high }
     ensures value { result ≡ defaults.number_or_least low high key.now (table_view table.now) }
     ensures within { result ≤ high }
@@ -158,7 +136,7 @@ fn set_of(values: &[Value]) -> PhaseSet
 
 /// The set of the flight phases in the list at a key. What is no phase doesn't count.
 #[tactic(auto, unfolding(book_spec::specs::Defaults::phases_at))]
-pub(crate) fn phases_at(table: &Table, key: &str) -> PhaseSet
+pub fn phases_at(table: &Table, key: &str) -> PhaseSet
     ensures { result.0 ≡ defaults.phases_at key.now (table_view table.now) }
 {
     set_of(list_in(table, key))

@@ -10,10 +10,10 @@ ghost use Rattle.book_tables.specs.Reading.{views};
 ghost use Rattle.book_tables.specs.Catalogue.{names_in};
 ghost use Rattle.book_reader.specs.Drafting.{parameter_at};
 
-use crate::draft_keys::{colour_or, name_or_none, phases_at, table_or, text_or_none};
+use crate::draft_keys::{colour_or, phases_at, text_or_none};
 use book_model::{Page, PageRow};
-use book_tables::Catalogue;
-use book_tables::fields::{list_in, string_at, text_at};
+use book_tables::Scope;
+use book_tables::fields::{list_in, name_or_none, string_at, table_or, text_at};
 use ecam_kinds::Colour;
 use ecam_spec::limits;
 use std::alloc::{AllocError, Global};
@@ -30,7 +30,7 @@ const UNIT: usize = limits::UNIT;
 const TITLE: usize = limits::TEXT;
 
 // The place of the parameter that a row shows.
-fn shown(names: &Catalogue<'_>, table: &Table) -> Option<u32>
+fn shown(names: &Scope<'_, '_>, table: &Table) -> Option<u32>
     ensures { result ≡ parameter_at (names_in names.now) (codes "show") (table_view table.now) }
 {
     names.parameter(string_at(table, "show")?)
@@ -47,7 +47,7 @@ fn row_text(show: Option<u32>) -> usize
 }
 
 #[tactic(auto, unfolding(book_spec::specs::DraftOf::row_in))]
-fn row_in(alloc: Global, names: &Catalogue<'_>, value: &Value) -> PageRow
+fn row_in(alloc: Global, names: &Scope<'_, '_>, value: &Value) -> PageRow
     ensures { row_of result ≡ spec.row_in (names_in names.now) (view value.now) }
 {
     let empty = Table::new(alloc);
@@ -63,7 +63,7 @@ fn row_in(alloc: Global, names: &Catalogue<'_>, value: &Value) -> PageRow
 
 fn rows_in(
     alloc: Global,
-    names: &Catalogue<'_>,
+    names: &Scope<'_, '_>,
     items: &[Value],
 ) -> Result<Vec<PageRow>, AllocError>
     ensures { IfOk result (λ v. map row_of v.items
@@ -81,7 +81,7 @@ fn rows_in(
 
 /// The page that a value is.
 #[tactic(auto, unfolding(book_spec::specs::DraftOf::page_in))]
-fn page_in(alloc: Global, names: &Catalogue<'_>, value: &Value) -> Result<Page, AllocError>
+fn page_in(alloc: Global, names: &Scope<'_, '_>, value: &Value) -> Result<Page, AllocError>
     ensures { IfOk result (λ p. page_of p ≡ spec.page_in (names_in names.now) (view value.now)) }
 {
     let empty = Table::new(alloc);
@@ -97,7 +97,7 @@ fn page_in(alloc: Global, names: &Catalogue<'_>, value: &Value) -> Result<Page, 
 /// The pages that these values are.
 pub(crate) fn pages_in(
     alloc: Global,
-    names: &Catalogue<'_>,
+    names: &Scope<'_, '_>,
     items: &[Value],
 ) -> Result<Vec<Page>, AllocError>
     ensures { IfOk result (λ v. map page_of v.items

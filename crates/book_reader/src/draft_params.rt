@@ -6,9 +6,9 @@ ghost use Rattle.book_spec.specs.Fields.{number_at};
 ghost use Rattle.book_spec.specs.DraftOf as spec;
 ghost use Rattle.book_tables.specs.Reading.{views};
 
-use crate::draft_keys::{kind_or_discrete, label_or_none, name_or_none, number_or_least, table_or};
+use crate::draft_keys::{kind_or_discrete, label_or_none, number_or_least};
 use book_model::{Param, WordSource as Source};
-use book_tables::fields::{list_in, number_at};
+use book_tables::fields::{list_in, name_or_none, number_at, table_or};
 use std::alloc::{AllocError, Global};
 use toml::{Table, Value};
 

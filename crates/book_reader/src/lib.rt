@@ -3,7 +3,7 @@
 
 mod draft;
 mod draft_alerts;
-mod draft_keys;
+pub mod draft_keys;
 mod draft_pages;
 mod draft_params;
 mod draft_terms;
@@ -13,6 +13,8 @@ pub use reader::{LONGEST, read_book};
 
 #[cfg(test)]
 mod test_books;
+#[cfg(test)]
+mod test_named;
 #[cfg(test)]
 mod test_order;
 #[cfg(test)]

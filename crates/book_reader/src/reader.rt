@@ -7,7 +7,8 @@ ghost use Rattle.book_model.specs.View.{draft_of};
 ghost use Rattle.book_model.specs.declared.error.LoadError.TheVariants.{Fault};
 ghost use Rattle.book_spec.specs.BookBytes as spec;
 ghost use Rattle.book_spec.specs.DraftOf as plain;
-ghost use Rattle.book_spec.specs.Document.{list_in, table_fault};
+ghost use Rattle.book_spec.specs.Rules.{list_in};
+ghost use Rattle.book_spec.specs.Document.{table_fault};
 ghost use Rattle.book_tables.specs.Places.{HasFewItems};
 ghost use Rattle.book_reader.specs.Unplaced.{IsUnplaced};
 
@@ -62,6 +63,7 @@ fn has_few_items(top: &Table) -> bool
     has_few(top, "systems")
         && has_few(top, "page")
         && has_few(top, "param")
+        && has_few(top, "term")
         && has_few(top, "alert")
         && has_few(top, "memo")
 }
@@ -80,7 +82,7 @@ fn draft_in(alloc: Global, top: &Table) -> Result<Draft, LoadError>
     let names = Catalogue::new(alloc, top)?;
     match table_fault(alloc, &names)? {
         Some(fault) => Err(LoadError::Fault(fault)),
-        None => Ok(draft_of(alloc, top, &names)?),
+        None => Ok(draft_of(alloc, top, names)?),
     }
 }
 

@@ -42,7 +42,7 @@ pub(crate) const FAULTS: [Faulty; 47] = [
     // no document
     ("version =\n", "", 2, Section::Top, 0),
     ("systems = []\n", "", 3, Section::Top, 0),
-    ("version = 2\n", "", 3, Section::Top, 0),
+    ("version = 0\n", "", 3, Section::Top, 0),
     ("version = true\n", "", 3, Section::Top, 0),
     (
         TOP,

@@ -1,5 +1,6 @@
 use super::*;
 use crate::test_books::{FAULTS, Faulty, ITEMS, TOP};
+use crate::test_named::{NAMED, SECOND, USED};
 use crate::test_order::ORDER;
 use book_model::{BookFault, Draft, LoadError, Section};
 use std::alloc::Global;
@@ -32,7 +33,8 @@ fn have_these_faults(rt: &impl Abort, alloc: Global, books: &[Faulty]) -> Result
 
 #[test]
 fn books_with_a_fault(rt: HostRuntime) -> Result<(), Fail> {
-    have_these_faults(&rt, rt.alloc(), &FAULTS)
+    have_these_faults(&rt, rt.alloc(), &FAULTS)?;
+    have_these_faults(&rt, rt.alloc(), &NAMED)
 }
 
 #[test]
@@ -79,5 +81,62 @@ fn bytes_that_are_no_document(rt: HostRuntime) -> Result<(), Fail> {
         told(read_book(rt.alloc(), long.as_slice())),
         Some(too_long)
     );
+    Ok(())
+}
+
+#[test]
+fn named_conditions_stand_where_they_are_used(rt: HostRuntime) -> Result<(), Fail> {
+    for (i, (tail, nodes)) in USED.iter().enumerate() {
+        let text = format!(in rt.alloc(); "{SECOND}{ITEMS}{tail}")?;
+        let draft = loaded(read_book(rt.alloc(), text.as_bytes())).ok_or("no draft")?;
+        let last = draft.alerts.as_slice().last().ok_or("no alert")?;
+        assert_eq!(rt; last.when.cond.size(), *nodes, "book {i}");
+    }
+    Ok(())
+}
+
+fn with_many(
+    alloc: Global,
+    version: u32,
+    terms: usize,
+    alerts: usize,
+) -> Result<Option<BookFault>, Fail> {
+    let mut text = format!(in alloc; "version = {version}\nsystems = [\"HYD\"]\n")?;
+    for i in 0..terms {
+        let item = format!(in alloc; "[[term]]\nname = \"t{i}\"\nwhen = \"true\"\n")?;
+        text.push_str(item.as_str())?;
+    }
+    for i in 0..alerts {
+        let item = format!(in alloc;
+            "[[alert]]\nname = \"a{i}\"\ntitle = \"A\"\nsystem = \"HYD\"\nlevel = 1\nwhen = \"true\"\n"
+        )?;
+        text.push_str(item.as_str())?;
+    }
+    Ok(told(read_book(alloc, text.as_bytes())))
+}
+
+const MANY: [(u32, usize, usize, Option<(u8, Section)>); 6] = [
+    (1, 0, 1024, None),
+    (1, 0, 1025, Some((10, Section::Alert))),
+    (2, 0, 1025, None),
+    (2, 256, 2048, None),
+    (2, 0, 2049, Some((10, Section::Alert))),
+    (2, 257, 2049, Some((10, Section::Term))),
+];
+
+#[test]
+fn lists_have_their_limits(rt: HostRuntime) -> Result<(), Fail> {
+    for (version, terms, alerts, wanted) in MANY {
+        let fault = with_many(rt.alloc(), version, terms, alerts)?;
+        let wanted = match wanted {
+            Some((code, section)) => Some(BookFault {
+                code,
+                section,
+                item: 0,
+            }),
+            None => None,
+        };
+        assert_eq!(rt; fault, wanted, "{terms} terms, {alerts} alerts");
+    }
     Ok(())
 }

@@ -6,13 +6,14 @@ use Rattle.std.proofs.lemmas.List.{length-map}
 use Rattle.std.proofs.lemmas.List.Elements.{recursion_from_All, All-map, All-weaker}
 use Rattle.toml.specs.Data.{Data, Members, as_table}
 use Rattle.ecam_spec.specs.declared.kinds.Colour.TheVariants.{Green}
+use Rattle.ecam_spec.specs.BookText.{is_name}
 use Rattle.ecam_spec.specs.Draft.{DraftAlert}
 use Rattle.ecam_spec.specs.KeepsLimits.{IsSoundRow, IsSoundSource, IsSoundLine, IsSoundStatus, IsSoundPage, IsSoundParameter, IsSoundPhase, IsSoundAlert, IsSoundMemo}
 use Rattle.book_spec.specs.Fields.{◌>>=◌, string_at}
-use Rattle.book_spec.specs.Schema.{Key, needs, kind_at, page_keys, param_keys, alert_keys, memo_keys, item_keys}
-use Rattle.book_spec.specs.Rules.{Names}
+use Rattle.book_spec.specs.Schema.{Key, needs, kind_at, page_keys, param_keys, named_keys, alert_keys, memo_keys, item_keys}
+use Rattle.book_spec.specs.Rules.{Names, list_in}
 use Rattle.book_spec.specs.TableRules.{table_breaks, shape_breaks, item_breaks}
-use Rattle.book_spec.specs.Document.{list_in, name_of}
+use Rattle.book_spec.specs.Document.{name_of}
 use Rattle.book_spec.specs.DraftOf.{row_in, source_in, line_in, status_in, page_in, parameter_in, phase_in, alert_in, memo_in}
 use Rattle.book_spec.specs.Defaults.{table_in, name_or_none, short_name}
 use Rattle.book_spec.specs.declared.schema.Leaf.TheVariants.{Name, System, Alerts}
@@ -22,7 +23,7 @@ use Rattle.book_spec.specs.declared.schema.Shape.{Shape}
 use Rattle.book_spec.specs.declared.schema.Shape.TheVariants as shapes
 use Rattle.book_spec.specs.declared.schema.Item.{Item}
 use Rattle.book_spec.specs.declared.schema.Item.TheVariants as items
-use Rattle.book_spec.proofs.TermSound.{term_sound}
+use Rattle.book_spec.proofs.TermSound.{AllKnown, term_sound}
 use Rattle.book_spec.proofs.ValueBounds.{number_bounds, phases_bound, place_there, short_bound, colour_told}
 use Rattle.book_spec.proofs.KeyFacts.{Keeps, BreaksNone, table_there, keys_kept, tables_in, needed_tables}
 use Rattle.book_spec.proofs.LeafFacts.{leaf_of, text_kept, name_kept, name_same, system_kept, alerts_kept}
@@ -110,17 +111,30 @@ module _ (names : Names) where
         sources = always_so IsSoundSource source_in source_sound (list_in (codes "source") t);
       }
 
+  -- ---- the named conditions
+
+  pub named_name : (value : Data) → ItemKept items.Term value → is_name (name_or_none (table_in value)) ≡ true
+  unfolding item_keys named_keys
+  named_name value h =
+      let t = table_in value in
+      let k = recursion_from_All (KeyKept t) named_keys (item_kept items.Term value h) in
+      name_kept names t (leaf_of names t (codes "name") true Name k.0)
+
+  pub named_named : (value : Data) → ItemKept items.Term value → name_or_none (table_in value) ≡ name_of value
+  unfolding item_keys named_keys
+  named_named value h = named items.Term value h (recursion_from_All (KeyKept (table_in value)) named_keys (item_kept items.Term value h)).0
+
   -- ---- the flight phase
 
-  pub phase_sound : (table : Members) → IsSoundPhase (length names.of_terms.parameters) (length names.of_terms.alerts) (phase_in names table)
+  pub phase_sound : AllKnown names → (table : Members) → IsSoundPhase (length names.of_terms.parameters) (length names.of_terms.alerts) (phase_in names table)
   unfolding phase_in
-  phase_sound table = record {
-    gnd = term_sound names true (codes "gnd") table;
-    run = term_sound names false (codes "run") table;
-    tp = term_sound names false (codes "tp") table;
-    fast = term_sound names false (codes "fast") table;
-    high = term_sound names false (codes "high") table;
-    low = term_sound names false (codes "low") table;
+  phase_sound known table = record {
+    gnd = term_sound names known true (codes "gnd") table;
+    run = term_sound names known false (codes "run") table;
+    tp = term_sound names known false (codes "tp") table;
+    fast = term_sound names known false (codes "fast") table;
+    high = term_sound names known false (codes "high") table;
+    low = term_sound names known false (codes "low") table;
   }
 
   -- ---- alerts
@@ -136,9 +150,9 @@ module _ (names : Names) where
   abbrev pub SoundAlert : DraftAlert → Type 0
   SoundAlert a = IsSoundAlert (length names.of_terms.parameters) (length names.of_terms.alerts) (length names.systems) (length names.pages) a
 
-  pub alert_sound : (value : Data) → ItemKept items.Alert value → SoundAlert (alert_in names value)
+  pub alert_sound : AllKnown names → (value : Data) → ItemKept items.Alert value → SoundAlert (alert_in names value)
   unfolding alert_in alert_keys
-  alert_sound value h =
+  alert_sound known value h =
       let t = table_in value in
       let k = recursion_from_All (KeyKept t) alert_keys (alert_all value h) in
       let confirm = number_bounds 0 36000 (codes "confirm") t (omega arith) in
@@ -149,14 +163,14 @@ module _ (names : Names) where
         name = name_kept names t (leaf_of names t (codes "name") true Name k.0);
         title = text_kept names t 36 36 (codes "title") (omega arith) (leaf_of names t (codes "title") true (leaves.Text 36) k.1.0);
         system = system_kept names t (codes "system") (leaf_of names t (codes "system") true System k.1.1.0);
-        when = term_sound names false (codes "when") t;
+        when = term_sound names known false (codes "when") t;
         page = place_there names.pages (string_at (codes "page") t);
         confirm = confirm.1;
         inhibit = phases_bound (codes "inhibit") t;
         secondary = omega (arith, secondary, length-map (list_in (codes "secondary") t) short_name);
         short_names = always_so (λ n. length n ≤ 24) short_name short_bound (list_in (codes "secondary") t);
         line_count = omega (arith, lines.count, length-map (list_in (codes "line") t) (line_in names));
-        lines = map_so _ (IsSoundLine (length names.of_terms.parameters) (length names.of_terms.alerts)) (line_in names) (line_sound names) (list_in (codes "line") t) lines.each_kept;
+        lines = map_so _ (IsSoundLine (length names.of_terms.parameters) (length names.of_terms.alerts)) (line_in names) (line_sound names known) (list_in (codes "line") t) lines.each_kept;
         status_count = omega (arith, status.count, length-map (list_in (codes "status") t) status_in);
         status = map_so _ IsSoundStatus status_in (status_sound names) (list_in (codes "status") t) status.each_kept;
       }
@@ -171,14 +185,14 @@ module _ (names : Names) where
   unfolding memo_in memo_keys
   memo_named value h = named items.Memo value h (recursion_from_All (KeyKept (table_in value)) memo_keys (memo_all value h)).0
 
-  pub memo_sound : (value : Data) → ItemKept items.Memo value → IsSoundMemo (length names.of_terms.parameters) (length names.of_terms.alerts) (memo_in names value)
+  pub memo_sound : AllKnown names → (value : Data) → ItemKept items.Memo value → IsSoundMemo (length names.of_terms.parameters) (length names.of_terms.alerts) (memo_in names value)
   unfolding memo_in memo_keys
-  memo_sound value h =
+  memo_sound known value h =
       let t = table_in value in
       let k = recursion_from_All (KeyKept t) memo_keys (memo_all value h) in
       record {
         name = name_kept names t (leaf_of names t (codes "name") true Name k.0);
         text = text_kept names t 36 36 (codes "text") (omega arith) (leaf_of names t (codes "text") true (leaves.Text 36) k.1.0);
         colour = colour_told Green (λ e. cc) (codes "colour") t;
-        when = term_sound names false (codes "when") t;
+        when = term_sound names known false (codes "when") t;
       }

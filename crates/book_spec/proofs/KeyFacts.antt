@@ -8,9 +8,8 @@ use Rattle.toml.specs.Data.{Data, array, table as a_table, Members, get_member, 
 use Rattle.ecam_spec.specs.Book.{Text}
 use Rattle.ecam_spec.specs.Bytes.{is_between}
 use Rattle.book_spec.specs.Schema.{Key, needs, may_have}
-use Rattle.book_spec.specs.Rules.{Names, values, members_of, has_wrong_count}
+use Rattle.book_spec.specs.Rules.{Names, values, members_of, has_wrong_count, list_in}
 use Rattle.book_spec.specs.TableRules.{is_no_table, list_breaks, keys_break, if_there, table_breaks, if_table, inner_breaks, shape_breaks}
-use Rattle.book_spec.specs.Document.{list_in}
 use Rattle.book_spec.specs.Defaults.{table_in}
 use Rattle.book_spec.specs.declared.schema.Inner.{Inner}
 use Rattle.book_spec.specs.declared.schema.Shape.TheVariants.{Tables}

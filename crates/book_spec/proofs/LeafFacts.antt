@@ -9,9 +9,8 @@ use Rattle.ecam_spec.specs.BookText.{is_name, is_text}
 use Rattle.ecam_spec.specs.Bytes.{same_text, is_between, place_of}
 use Rattle.book_spec.specs.Fields.{◌>>=◌, passing, string_at, name_at, text_in, text_at}
 use Rattle.book_spec.specs.Schema.{Key, needs, may_have}
-use Rattle.book_spec.specs.Rules.{Names, members_of, string_fails, is_string, is_among, has_wrong_type, leaf_breaks}
+use Rattle.book_spec.specs.Rules.{Names, members_of, string_fails, is_string, is_among, has_wrong_type, leaf_breaks, list_in}
 use Rattle.book_spec.specs.TableRules.{shape_breaks}
-use Rattle.book_spec.specs.Document.{list_in}
 use Rattle.book_spec.specs.Defaults.{name_or_none, text_or_none}
 use Rattle.book_spec.specs.declared.schema.Leaf.{Leaf}
 use Rattle.book_spec.specs.declared.schema.Leaf.TheVariants.{Name, System, Alerts}

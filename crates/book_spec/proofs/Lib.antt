@@ -1,8 +1,10 @@
 pub mod FieldFacts
 pub mod TermKeys
+pub mod TermNames
 pub mod TermRanges
 pub mod TermPlaces
 pub mod TermSound
+pub mod NamedTerms
 pub mod ValueBounds
 pub mod KeyFacts
 pub mod LeafFacts

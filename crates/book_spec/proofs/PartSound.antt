@@ -16,7 +16,7 @@ use Rattle.book_spec.specs.DraftOf.{row_in, source_in, line_in, status_in}
 use Rattle.book_spec.specs.Defaults.{table_in, text_or_none}
 use Rattle.book_spec.specs.declared.schema.Inner.{Inner}
 use Rattle.book_spec.specs.declared.schema.Inner.TheVariants as inner
-use Rattle.book_spec.proofs.TermSound.{term_sound}
+use Rattle.book_spec.proofs.TermSound.{AllKnown, term_sound}
 use Rattle.book_spec.proofs.ValueBounds.{number_bounds, number_below, label_bound, text_there, place_there, colour_told, section_bound}
 use Rattle.book_spec.proofs.KeyFacts.{Keeps, BreaksNone, table_there, keys_kept}
 use Rattle.book_spec.proofs.LeafFacts.{text_kept}
@@ -84,16 +84,16 @@ module _ (names : Names) where
         colour = colour_told White (λ e. cc) (codes "colour") t;
       }
 
-  pub line_sound : (value : Data) → InnerKept inner.Line value → IsSoundLine (length names.of_terms.parameters) (length names.of_terms.alerts) (line_in names value)
+  pub line_sound : AllKnown names → (value : Data) → InnerKept inner.Line value → IsSoundLine (length names.of_terms.parameters) (length names.of_terms.alerts) (line_in names value)
   unfolding line_in inner_keys line_keys
-  line_sound value h =
+  line_sound known value h =
       let t = table_in value in
       let k = recursion_from_All (Keeps (leaf_breaks names) t) line_keys (inner_kept inner.Line value h) in
       record {
         text = text_kept names t 36 36 (codes "text") (omega arith) k.0;
         colour = colour_told Cyan (λ e. cc) (codes "colour") t;
-        when = term_sound names true (codes "when") t;
-        done = term_sound names false (codes "done") t;
+        when = term_sound names known true (codes "when") t;
+        done = term_sound names known false (codes "done") t;
       }
 
   pub status_sound : (value : Data) → InnerKept inner.Status value → IsSoundStatus (status_in value)

@@ -1,32 +1,16 @@
 -- A condition whose names have no flaw names parameters, alerts, keys and computers that are there.
 use Rattle.std.proofs.Common.{◌≡◌, ℕ, suc, ◌<◌, pos, Bool, true, false, List, [], ◌∷◌, ◌++◌, length, Option, Some, None, refl, ◌∙◌}
-use Rattle.std.specs.Prelude.{is_some, unwrap_or, nat_le}
-use Rattle.std.specs.Str.{bytes_eq}
-use Rattle.std.specs.List.{AllByRecursion, position_from}
-use Rattle.std.proofs.lemmas.Iterator.Adapters.{position_from-zero}
-use Rattle.std.proofs.lemmas.List.Quantifiers.{position-Some}
+use Rattle.std.specs.List.{All, AllByRecursion}
 use Rattle.ecam_spec.specs.declared.terms.Span.{Span}
 use Rattle.ecam_spec.specs.declared.terms.Token.{Token}
 use Rattle.ecam_spec.specs.declared.terms.Token.TheVariants.{Comma, Close, Number}
 use Rattle.ecam_spec.specs.Book.{Text}
 use Rattle.ecam_spec.specs.Grammar.{Form, Forms, truth, name_of, compare_of, valid_of, phase_of, alert_of, press_of, fwc_of, not_of, rise_of, all_of, any_of, at_least_of, conf_of, hold_of, latch_of, no_more, and_then, how_many, spelling, spellings}
 use Rattle.ecam_spec.specs.TermNames.{IsWithin, AreWithin}
-use Rattle.ecam_spec.specs.Token.{bytes_of}
 use Rattle.ecam_spec.specs.TermText.{TermNames, unknown_name, name_place, flaws, flaws_of_all, name_flaw, number_flaw, moments_flaw, compared_flaw, tree_of_form, trees_of_forms}
 use Rattle.book_spec.proofs.TermKeys.{NamesKey}
-use Rattle.book_spec.proofs.TermRanges.{neither, passes, amount_within}
-
--- ---- places of names
-
-place_there : (short : Bool) (names : List Text) (name : Text)
-    → is_some (elim short as (λ c. Option ℕ) [ true ↦ position_from (bytes_eq name) 0 names | false ↦ None ]) ≡ true
-    → unwrap_or (elim short as (λ c. Option ℕ) [ true ↦ position_from (bytes_eq name) 0 names | false ↦ None ]) 0 < length names
-place_there true names name h =
-    elim (position_from (bytes_eq name) 0 names) as (λ o. position_from (bytes_eq name) 0 names ≡ o → is_some o ≡ true → unwrap_or o 0 < length names) [
-      | None ↦ λ e k. absurd (cc)
-      | Some i ↦ λ e k. (position-Some (bytes_eq name) names i [] (position_from-zero (bytes_eq name) names ∙ e)).0
-    ] refl h
-place_there false names name h = absurd (cc)
+use Rattle.book_spec.proofs.TermNames.{name_within, named_so}
+use Rattle.book_spec.proofs.TermRanges.{neither, amount_within}
 
 -- ---- the keys of a spelling, and of its parts
 
@@ -42,28 +26,24 @@ list_keys : (f : Form) (fs : Forms) → Names (spelling f ++ spellings fs ++ Clo
 list_keys f fs k =
     parts (spelling f) (spellings fs) (parts (spelling f ++ spellings fs) (Close ∷ []) k).0
 
-module _ (names : TermNames) (text : Text) where
+module _ (names : TermNames) (text : Text) (known : All (λ t. IsWithin (length names.parameters) (length names.alerts) t.tree) names.terms) where
   abbrev Within : Form → Type 0
   Within f = IsWithin (length names.parameters) (length names.alerts) (tree_of_form names text f)
 
   abbrev Withins : Forms → Type 0
   Withins fs = AreWithin (length names.parameters) (length names.alerts) (trees_of_forms names text fs)
 
-  name_within : (list : List Text) (n : Span) → name_flaw names text list n ≡ [] → unwrap_or (name_place list (bytes_of text n)) 0 < length list
-  unfolding name_flaw name_place
-  name_within list n h =
-      place_there (nat_le (length (bytes_of text n)) 24) list (bytes_of text n) (passes _ (unknown_name n.at) h)
-
   mutual
     unfolding flaws tree_of_form IsWithin spelling
 
     pub form_within : (f : Form) → flaws names text f ≡ [] → Names (spelling f) → Within f
     form_within (truth b) h k = tt
-    form_within (name_of n) h k = name_within names.parameters n h
-    form_within (compare_of n op x) h k = name_within names.parameters n (neither (name_flaw names text names.parameters n) (compared_flaw names text x) h).0
-    form_within (valid_of n) h k = name_within names.parameters n h
+    form_within (name_of n) h k =
+        named_so names text (λ t. IsWithin (length names.parameters) (length names.alerts) t) n tt (λ p below. below) known
+    form_within (compare_of n op x) h k = name_within names text names.parameters n (neither (name_flaw names text names.parameters n) (compared_flaw names text x) h).0
+    form_within (valid_of n) h k = name_within names text names.parameters n h
     form_within (phase_of n ns) h k = tt
-    form_within (alert_of n) h k = name_within names.alerts n h
+    form_within (alert_of n) h k = name_within names text names.alerts n h
     form_within (press_of key) h k = k.1.1.0
     form_within (fwc_of n) h k = amount_within names text 1 2 n h
     form_within (not_of f) h k = form_within f h (parts (spelling f) (Close ∷ []) k.1.1).0

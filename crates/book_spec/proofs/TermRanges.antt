@@ -1,7 +1,7 @@
 -- A condition whose names and numbers have no flaw keeps its ranges, and names what is there.
 use Rattle.std.proofs.Common.{◌≡◌, ℕ, zero, suc, ◌-◌, ◌<◌, ◌≤◌, ℤ, pos, negsuc, Bool, true, false, List, [], ◌∷◌, ◌++◌, None, refl, ap, arith}
 use Rattle.std.specs.Prelude.{fold, bit_or, neg_ℤ, int_le, ◌≤ℤ◌}
-use Rattle.std.specs.List.{flat_map}
+use Rattle.std.specs.List.{flat_map, All}
 use Rattle.std.proofs.lemmas.Bool.{and_parts}
 use Rattle.std.proofs.lemmas.Nat.{or_lt}
 use Rattle.std.specs.Int.Signed.{le_z_yes}
@@ -13,6 +13,7 @@ use Rattle.ecam_spec.specs.Grammar.{Form, Forms, truth, name_of, compare_of, val
 use Rattle.ecam_spec.specs.KeepsLimits.{IsInRange, AreInRange, count_of}
 use Rattle.ecam_spec.specs.Token.{bytes_of}
 use Rattle.book_spec.proofs.FieldFacts.{between}
+use Rattle.book_spec.proofs.TermNames.{passes, named_so}
 use Rattle.ecam_spec.specs.TermText.{TermNames, Flaw, out_of_range, earliest, flaws, flaws_of_all, name_flaw, number_flaw, phase_flaw, moments_flaw, compared_flaw, tree_of_form, trees_of_forms, amount}
 use Rattle.ecam_spec.specs.TermNumber.{magnitude, value, is_within, one_phase, is_negative}
 
@@ -25,11 +26,6 @@ no_flaws (f ∷ fs) h = absurd (cc)
 pub neither : {X : Type 0} (xs ys : List X) → xs ++ ys ≡ [] → (xs ≡ []) × (ys ≡ [])
 neither [] ys h = (refl, h)
 neither (x ∷ xs) ys h = absurd (cc)
-
--- a test that adds no flaw is passed
-pub passes : (b : Bool) (f : Flaw) → elim b as (λ c. List Flaw) [ true ↦ [] | false ↦ f ∷ [] ] ≡ [] → b ≡ true
-passes true f h = refl
-passes false f h = absurd (cc)
 
 -- ---- numbers
 
@@ -75,15 +71,16 @@ module _ (names : TermNames) (text : Text) where
   unfolding number_flaw
   compared_in_range x h = number_within (neg_ℤ (pos 1000000)) (pos 1000000) (value (bytes_of text x)) (passes _ (out_of_range x.at) h)
 
+module _ (names : TermNames) (text : Text) (known : All (λ t. IsInRange t.tree) names.terms) where
   mutual
     unfolding flaws tree_of_form IsInRange
 
     pub form_in_range : (f : Form) → flaws names text f ≡ [] → IsInRange (tree_of_form names text f)
     form_in_range (truth b) h = tt
-    form_in_range (name_of n) h = tt
-    form_in_range (compare_of n op x) h = compared_in_range x (neither (name_flaw names text names.parameters n) (compared_flaw names text x) h).1
+    form_in_range (name_of n) h = named_so names text (λ t. IsInRange t) n tt (λ p below. tt) known
+    form_in_range (compare_of n op x) h = compared_in_range names text x (neither (name_flaw names text names.parameters n) (compared_flaw names text x) h).1
     form_in_range (valid_of n) h = tt
-    form_in_range (phase_of n ns) h = phase_set_in_range n ns h
+    form_in_range (phase_of n ns) h = phase_set_in_range names text n ns h
     form_in_range (alert_of n) h = tt
     form_in_range (press_of key) h = tt
     form_in_range (fwc_of n) h = tt
@@ -99,14 +96,14 @@ module _ (names : TermNames) (text : Text) where
         let number = number_flaw names text (pos 1) (pos (suc (how_many fs))) n in
         let whole = neither (flaws names text f ++ flaws_of_all names text fs) number h in
         let parts = neither (flaws names text f) (flaws_of_all names text fs) whole.0 in
-        let amounts = amount_within 1 (suc (how_many fs)) n whole.1 in
-        (amounts.0, omega (arith, amounts.1, count-trees fs), (form_in_range f parts.0, forms_in_range fs parts.1))
+        let amounts = amount_within names text 1 (suc (how_many fs)) n whole.1 in
+        (amounts.0, omega (arith, amounts.1, count-trees names text fs), (form_in_range f parts.0, forms_in_range fs parts.1))
     form_in_range (conf_of f n) h =
         let parts = neither (flaws names text f) (moments_flaw names text n) h in
-        ((amount_within 0 36000 n parts.1).1, form_in_range f parts.0)
+        ((amount_within names text 0 36000 n parts.1).1, form_in_range f parts.0)
     form_in_range (hold_of f n) h =
         let parts = neither (flaws names text f) (moments_flaw names text n) h in
-        ((amount_within 0 36000 n parts.1).1, form_in_range f parts.0)
+        ((amount_within names text 0 36000 n parts.1).1, form_in_range f parts.0)
     form_in_range (latch_of s r) h =
         let parts = neither (flaws names text s) (flaws names text r) h in
         (form_in_range s parts.0, form_in_range r parts.1)

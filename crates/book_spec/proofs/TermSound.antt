@@ -1,11 +1,11 @@
 -- The condition that a text means keeps its limits, and so does the one that a key of a table holds.
-use Rattle.std.proofs.Common.{◌≡◌, ℕ, ◌≤◌, Bool, true, false, length, Option, Some, None, refl, sym, subst, arith}
+use Rattle.std.proofs.Common.{◌≡◌, ℕ, ◌≤◌, Bool, true, false, List, length, Option, Some, None, refl, sym, subst, arith}
 use Rattle.std.specs.Prelude.{nat_lt, option_map}
 use Rattle.std.specs.List.{All}
 use Rattle.std.proofs.lemmas.Bool.{ltb-false}
 use Rattle.std.proofs.lemmas.List.Elements.{recursion_from_All}
 use Rattle.toml.specs.Data.{Data, Members, get_member}
-use Rattle.ecam_spec.specs.Book.{Text, Tree, constant}
+use Rattle.ecam_spec.specs.Book.{Text, Tree, NamedTerm, constant}
 use Rattle.ecam_spec.specs.Grammar.{spelling}
 use Rattle.ecam_spec.specs.KeepsLimits.{IsInRange, IsSoundTerm}
 use Rattle.ecam_spec.specs.TermNames.{IsWithin}
@@ -32,6 +32,10 @@ record Meant (flaw : Option Flaw) (whole tree : Tree) : Type 0 where
   pub flat : depth whole ≤ 16
   pub small : nodes whole ≤ 64
 
+-- the named conditions that are known keep their limits
+abbrev pub Known : ℕ → ℕ → List NamedTerm → Type 0
+Known params alerts terms = All (λ t. IsSoundTerm params alerts t.tree) terms
+
 module _ (names : TermNames) (text : Text) where
   sized : (whole tree : Tree) (deep large : Bool) → nat_lt 16 (depth whole) ≡ deep → nat_lt 64 (nodes whole) ≡ large
       → elim deep as (λ b. Outcome) [ true ↦ too_deep | false ↦ elim large as (λ b. Outcome) [ true ↦ too_large | false ↦ means whole ] ] ≡ means tree
@@ -51,17 +55,17 @@ module _ (names : TermNames) (text : Text) where
   meant None whole tree h = sized whole tree (nat_lt 16 (depth whole)) (nat_lt 64 (nodes whole)) refl refl h
 
   -- the condition that a text means keeps its limits
-  pub verdict_sound : (tree : Tree) → verdict names text ≡ means tree → IsSoundTerm (length names.parameters) (length names.alerts) tree
+  pub verdict_sound : Known (length names.parameters) (length names.alerts) names.terms → (tree : Tree) → verdict names text ≡ means tree → IsSoundTerm (length names.parameters) (length names.alerts) tree
   unfolding IsVerdict judged
-  verdict_sound tree e =
+  verdict_sound known tree e =
       let told = subst (λ (o : Outcome). IsVerdict names text o) e (verdict_told names text) in
       let f = told.0 in
       let m = meant (earliest (flaws names text f)) (tree_of_form names text f) tree told.2 in
       let none = no_flaws (flaws names text f) m.faultless in
       let keys = recursion_from_All NamesKey (spelling f) (subst (λ ts. All NamesKey ts) (sym told.1) (text_names text)) in
       let sound : IsSoundTerm (length names.parameters) (length names.alerts) (tree_of_form names text f) = record {
-        within = form_within names text f none keys;
-        in_range = form_in_range names text f none;
+        within = form_within names text (λ i t within. (known i t within).within) f none keys;
+        in_range = form_in_range names text (λ i t within. (known i t within).in_range) f none;
         small = m.small;
         flat = m.flat;
       } in
@@ -81,16 +85,19 @@ module _ (names : Names) where
   answered None outcome h = absurd (cc)
   answered (Some value) outcome h = mapped (verdict names.of_terms) (term_text_in value) outcome h
 
-  outcome_sound : (b : Bool) (o : Option Outcome) → ((outcome : Outcome) → o ≡ Some outcome → (text : Text) × (verdict names.of_terms text ≡ outcome)) → Sound (tree_or (constant b) o)
-  outcome_sound b None asked = constant_sound _ _ b
-  outcome_sound b (Some (means tree)) asked = let a = asked (means tree) refl in verdict_sound names.of_terms a.0 tree a.1
-  outcome_sound b (Some (syntax_error at)) asked = constant_sound _ _ b
-  outcome_sound b (Some (unknown at)) asked = constant_sound _ _ b
-  outcome_sound b (Some (number_error at)) asked = constant_sound _ _ b
-  outcome_sound b (Some too_deep) asked = constant_sound _ _ b
-  outcome_sound b (Some too_large) asked = constant_sound _ _ b
+  abbrev pub AllKnown : Type 0
+  AllKnown = Known (length names.of_terms.parameters) (length names.of_terms.alerts) names.of_terms.terms
+
+  outcome_sound : AllKnown → (b : Bool) (o : Option Outcome) → ((outcome : Outcome) → o ≡ Some outcome → (text : Text) × (verdict names.of_terms text ≡ outcome)) → Sound (tree_or (constant b) o)
+  outcome_sound known b None asked = constant_sound _ _ b
+  outcome_sound known b (Some (means tree)) asked = let a = asked (means tree) refl in verdict_sound names.of_terms a.0 known tree a.1
+  outcome_sound known b (Some (syntax_error at)) asked = constant_sound _ _ b
+  outcome_sound known b (Some (unknown at)) asked = constant_sound _ _ b
+  outcome_sound known b (Some (number_error at)) asked = constant_sound _ _ b
+  outcome_sound known b (Some too_deep) asked = constant_sound _ _ b
+  outcome_sound known b (Some too_large) asked = constant_sound _ _ b
 
   -- the condition that a key of a table holds keeps its limits
-  pub term_sound : (b : Bool) (key : Text) (table : Members) → Sound (term_or b names key table)
+  pub term_sound : AllKnown → (b : Bool) (key : Text) (table : Members) → Sound (term_or b names key table)
   unfolding term_or
-  term_sound b key table = outcome_sound b (get_member key table >>= outcome_in names) (answered (get_member key table))
+  term_sound known b key table = outcome_sound known b (get_member key table >>= outcome_in names) (answered (get_member key table))

@@ -16,7 +16,7 @@ use Rattle.ecam_spec.specs.Bytes.{same_text, place_of}
 use Rattle.ecam_spec.specs.TermNumber.{one_phase}
 use Rattle.book_spec.specs.Fields.{◌>>=◌, string_at, text_at, number_at, number_from, label_at}
 use Rattle.book_spec.specs.Schema.{meaning, colour_words, section_words}
-use Rattle.book_spec.specs.Document.{list_in}
+use Rattle.book_spec.specs.Rules.{list_in}
 use Rattle.book_spec.specs.Defaults.{number_or_least, word_or, phase_from, phases_at, short_name}
 use Rattle.book_spec.proofs.FieldFacts.{text_at_read, number_read, number_within, label_read, place_read}
 use Rattle.book_spec.proofs.TermKeys.{found_so}

@@ -8,13 +8,12 @@ use Rattle.ecam_spec.specs.declared.kinds.Level.{Level}
 use Rattle.ecam_spec.specs.declared.kinds.Level.TheVariants.{One, Two, Three}
 use Rattle.ecam_spec.specs.declared.kinds.Sound.{Sound}
 use Rattle.ecam_spec.specs.declared.kinds.Sound.TheVariants.{Quiet, Chime, Repetitive}
-use Rattle.ecam_spec.specs.Book.{Text, Tree, constant}
+use Rattle.ecam_spec.specs.Book.{Text, Tree, constant, NamedTerm}
 use Rattle.ecam_spec.specs.TermNumber.{one_phase}
 use Rattle.ecam_spec.specs.TermText.{Outcome, means}
 use Rattle.book_spec.specs.Fields.{◌>>=◌, string_at, name_at, text_at, number_at, number_from}
 use Rattle.book_spec.specs.Schema.{meaning}
-use Rattle.book_spec.specs.Rules.{Names, outcome_in}
-use Rattle.book_spec.specs.Document.{list_in}
+use Rattle.book_spec.specs.Rules.{Names, list_in, outcome_in}
 
 -- the table that a value is
 abbrev pub table_in : Data → Members
@@ -48,6 +47,12 @@ tree_or default _ = default
 
 unfoldable pub term_or : Bool → Names → Text → Members → Tree
 term_or default names key table = tree_or (constant default) (get_member key table >>= outcome_in names)
+
+-- the condition that an item names; one whose text means none stands for `true`
+unfoldable pub named_in : Names → Data → NamedTerm
+named_in names value =
+    let table = table_in value in
+    record { name = name_or_none table; tree = term_or true names (codes "when") table }
 
 abbrev pub level_of : ℕ → Level
 level_of n = elim (nat_le n 1) [ true ↦ One | false ↦ elim (nat_le n 2) [ true ↦ Two | false ↦ Three ] ]

@@ -11,8 +11,8 @@ use Rattle.ecam_spec.specs.Draft.{DraftAlert, Draft}
 use Rattle.ecam_spec.specs.KeepsLimits.{row_text_limit}
 use Rattle.book_spec.specs.Fields.{◌>>=◌, string_at, text_in, text_at, number_at, label_at}
 use Rattle.book_spec.specs.Schema.{sound_words, section_words, zone_words, colour_words, kind_at}
-use Rattle.book_spec.specs.Rules.{Names}
-use Rattle.book_spec.specs.Document.{list_in, names_of}
+use Rattle.book_spec.specs.Rules.{Names, list_in}
+use Rattle.book_spec.specs.Document.{names_of, named_terms}
 use Rattle.book_spec.specs.Defaults.{table_in, name_or_none, text_or_none, number_or_least, word_or, phases_at, term_or, level_of, sound_of, short_name}
 
 -- ---- pages
@@ -139,6 +139,7 @@ draft_of top =
       systems = map system_in (list_in (codes "systems") top);
       pages = map (page_in names) (list_in (codes "page") top);
       parameters = map parameter_in (list_in (codes "param") top);
+      terms = named_terms top;
       phase = phase_in names (unwrap_or (get_member (codes "phase") top >>= as_table) no_members);
       alerts = map (alert_in names) (list_in (codes "alert") top);
       memos = map (memo_in names) (list_in (codes "memo") top);

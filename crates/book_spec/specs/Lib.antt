@@ -4,7 +4,7 @@ pub mod Verdict
 pub mod Schema
 pub mod Rules
 pub mod TableRules
-pub mod Document
 pub mod Defaults
+pub mod Document
 pub mod DraftOf
 pub mod BookBytes

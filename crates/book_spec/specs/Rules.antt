@@ -2,7 +2,7 @@
 -- leave: a value of another type breaks the rule of types alone.
 use Rattle.std.specs.Prelude.{Option, ℕ, pos, Bool, true, false, not, ◌&&◌, ◌||◌, List, [], ◌∷◌, length, Some, None, is_some, is_none, int_le, option_map}
 use Rattle.std.specs.List.{list_any}
-use Rattle.toml.specs.Data.{Data, Items, no_items, item, as_str, as_integer, as_array}
+use Rattle.toml.specs.Data.{Data, Items, no_items, item, Members, get_member, as_str, as_integer, as_array}
 use Rattle.ecam_spec.specs.declared.limits.TheConstants.{SECONDARIES, PHASES}
 use Rattle.ecam_spec.specs.Book.{Text}
 use Rattle.ecam_spec.specs.BookText.{is_name, is_text, is_term_text}
@@ -32,6 +32,10 @@ values (item first rest) = first ∷ values rest
 -- the members of a list; what is no list has none
 abbrev pub members_of : Data → List Data
 members_of value = elim (as_array value) [ None ↦ [] | Some list ↦ values list ]
+
+-- the members of the list at a key, none where there is none
+unfoldable pub list_in : Text → Members → List Data
+list_in key table = elim (get_member key table) [ None ↦ [] | Some value ↦ members_of value ]
 
 -- it is no list, or has a member that isn't so
 abbrev pub is_no_list_of : (Data → Bool) → Data → Bool

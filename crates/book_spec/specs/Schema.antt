@@ -75,11 +75,6 @@ needs key shape = record { name = key; needed = true; holds = shape }
 abbrev pub may_have : {S : Type 0} → Text → S → Key S
 may_have key shape = record { name = key; needed = false; holds = shape }
 
--- the keys of the whole document
-unfoldable pub top_keys : List Text
-top_keys =
-    codes "version" ∷ codes "systems" ∷ codes "page" ∷ codes "param" ∷ codes "phase" ∷ codes "alert" ∷ codes "memo" ∷ []
-
 -- ---- the tables inside items
 
 -- a row that shows a value has a unit, and a row that shows none has a colour
@@ -130,6 +125,9 @@ param_keys kind =
     needs (codes "name") (shapes.Leaf Name) ∷ needs (codes "kind") (shapes.Leaf (Word words.Kind))
     ∷ needs (codes "stale") (shapes.Leaf (Number 1 STALE)) ∷ needs (codes "source") (Tables (inner.Source kind) 1 SOURCES) ∷ []
 
+unfoldable pub named_keys : List (Key Shape)
+named_keys = needs (codes "name") (shapes.Leaf Name) ∷ needs (codes "when") (shapes.Leaf Term) ∷ []
+
 unfoldable pub phase_keys : List (Key Shape)
 phase_keys =
     may_have (codes "gnd") (shapes.Leaf Term) ∷ may_have (codes "run") (shapes.Leaf Term) ∷ may_have (codes "tp") (shapes.Leaf Term)
@@ -154,6 +152,7 @@ memo_keys =
 unfoldable pub item_keys : Item → Members → List (Key Shape)
 item_keys items.Page table = page_keys
 item_keys items.Param table = param_keys (kind_at table)
+item_keys items.Term table = named_keys
 item_keys items.Phase table = phase_keys
 item_keys items.Alert table = alert_keys
 item_keys items.Memo table = memo_keys

@@ -60,6 +60,7 @@ pub enum Shape {
 pub enum Item {
     Page,
     Param,
+    Term,
     Phase,
     Alert,
     Memo,

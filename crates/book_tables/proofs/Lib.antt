@@ -1,3 +1,4 @@
 pub mod Items
 pub mod NamePlaces
 pub mod FewItems
+pub mod KnownTerms

@@ -4,7 +4,7 @@ use Rattle.ecam_spec.specs.Bytes.{same_text}
 use Rattle.ecam_spec.specs.Book.{Text}
 use Rattle.book_model.specs.NamePlaces.{Numbers, number_by}
 use Rattle.toml.specs.Data.{Members}
-use Rattle.book_spec.specs.Document.{list_in}
+use Rattle.book_spec.specs.Rules.{list_in}
 
 -- how often a name was counted
 abbrev pub times : Numbers → Text → ℕ
@@ -23,5 +23,6 @@ pub record HasFewItems (top : Members) : Type 0 where
   pub systems : length (list_in (codes "systems") top) < 2 ^ 32
   pub pages : length (list_in (codes "page") top) < 2 ^ 32
   pub parameters : length (list_in (codes "param") top) < 2 ^ 32
+  pub terms : length (list_in (codes "term") top) < 2 ^ 32
   pub alerts : length (list_in (codes "alert") top) < 2 ^ 32
   pub memos : length (list_in (codes "memo") top) < 2 ^ 32

@@ -1,20 +1,91 @@
 // The conditions of a document.
-ghost use Rattle.std.specs.Prelude.{◌≤◌, length};
+ghost use Rattle.std.specs.Prelude.{◌≡◌, ◌≤◌, Some, length, option_copied, IfSome, IfOk};
+ghost use Rattle.std.specs.Option.{option_and_then};
+ghost use Rattle.toml.specs.Data.{get_member};
+ghost use Rattle.toml.specs.View.{view, table_view};
+ghost use Rattle.ecam_spec.specs.Book.{constant};
+ghost use Rattle.term_tree.specs.View.{tree_of, named_term};
 ghost use Rattle.term_text.specs.Answer.{Tells};
+ghost use Rattle.book_spec.specs.Fields.{term_text_in};
 ghost use Rattle.book_spec.specs.Verdict.{verdict};
-ghost use Rattle.book_tables.specs.Catalogue.{term_names_in};
+ghost use Rattle.book_spec.specs.Defaults as defaults;
+ghost use Rattle.book_tables.specs.Catalogue.{names_in, term_names_in};
 
-use crate::names::Catalogue;
+use crate::fields::{find, name_or_none, table_or, term_text_in};
+use crate::names::Scope;
 use ecam_spec::limits::TERM_TEXT;
-use std::alloc::Global;
+use std::alloc::{AllocError, Global};
 use term_text::{TermError, read_term_by};
-use term_tree::Cond;
+use term_tree::{Cond, NamedTerm};
+use toml::{Table, Value};
 
 /// The condition that a text means with a document's names, or what it is refused for. An error is that, or want of
 /// memory.
-pub fn read_condition(alloc: Global, text: &str, names: &Catalogue<'_>) -> Result<Cond, TermError>
+pub fn read_condition(alloc: Global, text: &str, names: &Scope<'_, '_>) -> Result<Cond, TermError>
     requires { length text.now ≤ TERM_TEXT }
     ensures { Tells (verdict (term_names_in names.now) text.now) result }
 {
     read_term_by(alloc, text, names)
+}
+
+fn term_text_at<'a>(table: &'a Table, key: &str) -> Option<&'a str>
+    ensures value { option_copied result ≡ option_and_then term_text_in
+        (get_member key.now (table_view table.now)) }
+    ensures short { IfSome result (λ t. length t.now ≤ TERM_TEXT) }
+{
+    term_text_in(find(table, key)?)
+}
+
+// The condition that a text means, or the constant.
+fn meaning_or(
+    alloc: Global,
+    names: &Scope<'_, '_>,
+    text: &str,
+    default: bool,
+) -> Result<Cond, AllocError>
+    requires { length text.now ≤ TERM_TEXT }
+    ensures { IfOk result (λ c. tree_of c ≡ defaults.tree_or (constant default)
+        (Some (verdict (term_names_in names.now) text.now))) }
+{
+    match read_condition(alloc, text, names) {
+        Ok(cond) => Ok(cond),
+        Err(TermError::Memory) => Err(AllocError),
+        Err(_) => Ok(Cond::Const(default)),
+    }
+}
+
+/// The condition at a key, or this constant where there is none or its text is refused.
+#[tactic(auto, unfolding(book_spec::specs::Defaults::term_or, book_spec::specs::Rules::outcome_in))]
+pub fn condition_or(
+    alloc: Global,
+    names: &Scope<'_, '_>,
+    table: &Table,
+    key: &str,
+    default: bool,
+) -> Result<Cond, AllocError>
+    ensures { IfOk result (λ c. tree_of c
+        ≡ defaults.term_or default (names_in names.now) key.now (table_view table.now)) }
+{
+    match term_text_at(table, key) {
+        Some(text) => meaning_or(alloc, names, text, default),
+        None => Ok(Cond::Const(default)),
+    }
+}
+
+/// The condition that an item names, which is `true` where its text means none.
+#[tactic(auto, unfolding(book_spec::specs::Defaults::named_in))]
+pub(crate) fn named_in(
+    alloc: Global,
+    names: &Scope<'_, '_>,
+    value: &Value,
+) -> Result<NamedTerm, AllocError>
+    ensures { IfOk result (λ t. named_term t
+        ≡ defaults.named_in (names_in names.now) (view value.now)) }
+{
+    let empty = Table::new(alloc);
+    let table = table_or(value, &empty);
+    Ok(NamedTerm {
+        name: name_or_none(table),
+        cond: condition_or(alloc, names, table, "when", true)?,
+    })
 }

@@ -1,14 +1,15 @@
 // What stands in a table of a document.
-ghost use Rattle.std.specs.Prelude.{◌≡◌, ◌≤◌, length, map, option_map, option_copied, IfSome, IfOk};
-ghost use Rattle.toml.specs.Data.{get_member};
+ghost use Rattle.std.specs.Prelude.{◌≡◌, ◌≤◌, codes, length, map, option_map, option_copied, IfSome, IfOk};
+ghost use Rattle.toml.specs.Data.{get_member, no_members};
 ghost use Rattle.toml.specs.View.{view, table_view};
 ghost use Rattle.book_model.specs.View.{bytes_of};
 ghost use Rattle.book_spec.specs.Fields as spec;
-ghost use Rattle.book_spec.specs.Rules.{members_of};
-ghost use Rattle.book_spec.specs.Document.{list_in, text_of, name_of};
+ghost use Rattle.book_spec.specs.Rules.{members_of, list_in};
+ghost use Rattle.book_spec.specs.Document.{text_of, name_of};
+ghost use Rattle.book_spec.specs.Defaults as defaults;
 ghost use Rattle.book_tables.specs.Reading.{texts_of, views, item_name};
 
-use crate::texts::{is_one_of, is_term_text, label_from, name_from, text_from};
+use crate::texts::{is_name, is_one_of, is_term_text, label_from, name_from, text_from};
 use book_model::{Name, Text};
 use ecam_spec::limits::{TERM_TEXT, TEXT};
 use std::alloc::{AllocError, Global};
@@ -42,6 +43,27 @@ pub fn name_at(table: &Table, key: &str) -> Option<Name>
     ensures { option_map bytes_of result ≡ spec.name_at key.now (table_view table.now) }
 {
     name_from(string_at(table, key)?)
+}
+
+/// The table that a value is, or an empty one.
+pub fn table_or<'a>(value: &'a Value, empty: &'a Table) -> &'a Table
+    requires { table_view empty.now ≡ no_members }
+    ensures { table_view result.now ≡ defaults.table_in (view value.now) }
+{
+    match value.as_table() {
+        Some(table) => table,
+        None => empty,
+    }
+}
+
+/// The name at the key `name`, or the empty one.
+pub fn name_or_none(table: &Table) -> Name
+    ensures { result.bytes ≡ defaults.name_or_none (table_view table.now) }
+{
+    match name_at(table, "name") {
+        Some(name) => name,
+        None => Name::new(),
+    }
 }
 
 /// The text of 1 to `most` bytes that a value is, if it is a string of a text's form.
@@ -113,7 +135,7 @@ pub fn members_of(value: &Value) -> &[Value]
 }
 
 /// The members of the list at a key, none where there is none.
-#[tactic(auto, unfolding(book_spec::specs::Document::list_in))]
+#[tactic(auto, unfolding(book_spec::specs::Rules::list_in))]
 pub fn list_in<'a>(table: &'a Table, key: &str) -> &'a [Value]
     ensures { views result.now ≡ list_in key.now (table_view table.now) }
 {
@@ -149,6 +171,26 @@ pub(crate) fn name_of(value: &Value) -> &str
     }
 }
 
+// The name that an item has, if it has the form of one.
+#[tactic(auto, unfolding(book_spec::specs::Fields::name_at, book_spec::specs::Fields::string_at))]
+fn name_in_form(value: &Value) -> Option<&str>
+    ensures { option_copied result ≡ spec.name_at (codes "name")
+        (defaults.table_in (view value.now)) }
+{
+    let name = string_at(value.as_table()?, "name")?;
+    if is_name(name) { Some(name) } else { None }
+}
+
+// The same, and the empty text where there is none.
+fn proper_name(value: &Value) -> &str
+    ensures { result.now ≡ defaults.name_or_none (defaults.table_in (view value.now)) }
+{
+    match name_in_form(value) {
+        Some(name) => name,
+        None => "",
+    }
+}
+
 /// The texts that these values are, the empty one for what is none. An error is want of memory.
 pub fn texts_in<'a>(alloc: Global, values: &'a [Value]) -> Result<Vec<&'a str>, AllocError>
     ensures { IfOk result (λ v. texts_of v.items ≡ map text_of (views values.now)) }
@@ -167,6 +209,18 @@ pub fn names_in<'a>(alloc: Global, items: &'a [Value]) -> Result<Vec<&'a str>, A
     let mut names = Vec::new(alloc);
     for item in items {
         names.push(name_of(item))?;
+    }
+    Ok(names)
+}
+
+/// The names that these items have, the empty one for what has no name of the form of one. An error is want of memory.
+pub fn proper_names_in<'a>(alloc: Global, items: &'a [Value]) -> Result<Vec<&'a str>, AllocError>
+    ensures { IfOk result (λ v. texts_of v.items
+        ≡ map (λ d. defaults.name_or_none (defaults.table_in d)) (views items.now)) }
+{
+    let mut names = Vec::new(alloc);
+    for item in items {
+        names.push(proper_name(item))?;
     }
     Ok(names)
 }

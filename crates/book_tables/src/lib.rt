@@ -1,6 +1,7 @@
 //! What stands in the tables of a book's document, and the places of its names.
 #![tactic(auto)]
 
+mod catalogue;
 pub mod conditions;
 pub mod fields;
 mod names;
@@ -8,4 +9,5 @@ pub mod places;
 pub mod texts;
 pub mod words;
 
-pub use names::Catalogue;
+pub use catalogue::Catalogue;
+pub use names::{Places, Scope};

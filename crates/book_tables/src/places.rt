@@ -4,12 +4,12 @@ ghost use Rattle.std.specs.Str.{bytes_eq};
 ghost use Rattle.ecam_spec.specs.Book.{Text};
 ghost use Rattle.ecam_spec.specs.TermText.{name_place};
 ghost use Rattle.toml.specs.View.{table_view};
-ghost use Rattle.book_spec.specs.Document.{system_texts, names_in};
+ghost use Rattle.book_spec.specs.Document.{system_texts, names_in, term_names};
 ghost use Rattle.book_tables.specs.Reading.{texts_of};
 ghost use Rattle.book_model.specs.NamePlaces.{FindsPlaces};
 ghost use Rattle.book_tables.specs.Places.{times, CountsNames, CountsOne};
 
-use crate::fields::{list_in, names_in, texts_in};
+use crate::fields::{list_in, names_in, proper_names_in, texts_in};
 use book_model::{NamePlaces, note_place, place_in};
 use ecam_spec::limits;
 use std::alloc::{AllocError, Global};
@@ -53,6 +53,15 @@ pub(crate) fn name_places<'a>(
     ensures { IfOk result (FindsPlaces (names_in key.now (table_view top.now))) }
 {
     let names = names_in(alloc, list_in(top, key))?;
+    places_of(alloc, names.as_slice())
+}
+
+/// The places of the named conditions.
+pub(crate) fn term_places<'a>(alloc: Global, top: &'a Table) -> Result<NamePlaces<'a>, AllocError>
+    requires { length (term_names (table_view top.now)) < 2 ^ 32 }
+    ensures { IfOk result (FindsPlaces (term_names (table_view top.now))) }
+{
+    let names = proper_names_in(alloc, list_in(top, "term"))?;
     places_of(alloc, names.as_slice())
 }
 

@@ -36,6 +36,11 @@ mutual
     none : Trees
     more : Tree → Trees → Trees
 
+-- a condition that has a name, by which others may ask for it
+pub record NamedTerm : Type 0 where
+  pub name : Text
+  pub tree : Tree
+
 -- where a parameter's words come from, and how their data are read
 pub record Source : Type 0 where
   pub bus : ℕ

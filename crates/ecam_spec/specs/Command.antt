@@ -7,12 +7,16 @@ use Rattle.ecam_spec.specs.Book.{Text}
 use Rattle.ecam_spec.specs.TermNumber.{digits_value}
 
 -- check a book; replay a record by a book, under a limit on the record's bytes; tell where each alert stands at a
--- record's end; replay the record that is made of a seed and a number of moments. Files go by their names.
+-- record's end; replay the record that is made of a seed and a number of moments; tell which heights a parameter, by its
+-- name, comes down to; report what occurred in each flight; write the computers' own words. Files go by their names.
 pub data Command : Type 0 where
   check : Text → Command
   replay : Text → Text → ℕ → Command
   why : Text → Text → Command
   drill : Text → ℕ → ℕ → Command
+  callouts : Text → Text → Text → Command
+  report : Text → Text → Command
+  words : Text → Text → Command
 
 -- without a limit of its own a record has this one
 abbrev pub no_limit : ℕ
@@ -34,35 +38,38 @@ abbrev pub moments_of : Text → Option ℕ
 moments_of = number_of 7 1000000
 
 -- the forms with two words, with three, with four and with five
-abbrev pub check_form : Text → Text → Option Command
-check_form form book = if same_text form (codes "check") then Some (check book) else None
+abbrev pub form_of_two : Text → Text → Option Command
+form_of_two form book = if same_text form (codes "check") then Some (check book) else None
 
-abbrev pub record_form : Text → Text → Text → Option Command
-record_form form book record' =
+abbrev pub form_of_three : Text → Text → Text → Option Command
+form_of_three form book record' =
     if same_text form (codes "replay") then Some (replay book record' no_limit)
-    else (if same_text form (codes "why") then Some (why book record') else None)
+    else (if same_text form (codes "why") then Some (why book record')
+    else (if same_text form (codes "report") then Some (report book record')
+    else (if same_text form (codes "words") then Some (words book record') else None)))
 
 abbrev pub drill_of : Text → Option ℕ → Option ℕ → Option Command
 drill_of book (Some seed) (Some moments) = Some (drill book seed moments)
 drill_of book (Some seed) None = None
 drill_of book None moments = None
 
-abbrev pub drill_form : Text → Text → Text → Text → Option Command
-drill_form form book seed moments =
-    if same_text form (codes "drill") then drill_of book (seed_of seed) (moments_of moments) else None
+abbrev pub form_of_four : Text → Text → Text → Text → Option Command
+form_of_four form book second third =
+    if same_text form (codes "drill") then drill_of book (seed_of second) (moments_of third)
+    else (if same_text form (codes "callouts") then Some (callouts book second third) else None)
 
-abbrev pub limit_form : Text → Text → Text → Text → Text → Option Command
-limit_form form book record' option limit =
+abbrev pub form_of_five : Text → Text → Text → Text → Text → Option Command
+form_of_five form book record' option limit =
     if same_text form (codes "replay") && same_text option (codes "--limit") then option_map (replay book record') (limit_of limit) else None
 
 -- what words ask for, if they have one of the forms
 unfoldable pub command_of : List Text → Option Command
-command_of (form ∷ book ∷ []) = check_form form book
-command_of (form ∷ book ∷ record' ∷ []) = record_form form book record'
-command_of (form ∷ book ∷ seed ∷ moments ∷ []) = drill_form form book seed moments
-command_of (form ∷ book ∷ record' ∷ option ∷ limit ∷ []) = limit_form form book record' option limit
+command_of (form ∷ book ∷ []) = form_of_two form book
+command_of (form ∷ book ∷ record' ∷ []) = form_of_three form book record'
+command_of (form ∷ book ∷ second ∷ third ∷ []) = form_of_four form book second third
+command_of (form ∷ book ∷ record' ∷ option ∷ limit ∷ []) = form_of_five form book record' option limit
 command_of _ = None
 
 -- the line that tells the forms
 abbrev pub usage : Text
-usage = codes "usage: check BOOK | replay BOOK RECORD [--limit N] | why BOOK RECORD | drill BOOK SEED MOMENTS"
+usage = codes "usage: check BOOK | replay BOOK RECORD [--limit N] | why BOOK RECORD | drill BOOK SEED MOMENTS | callouts BOOK RECORD NAME | report BOOK RECORD | words BOOK RECORD"

@@ -1,11 +1,12 @@
--- A draft: a book as it is read, in which an alert's secondaries still go by name. The book is the draft with
--- these names resolved.
+-- A draft: a book as it is read, in which an alert's secondaries still go by name, and which has the conditions that
+-- are named. The book is the draft with the secondaries' names resolved; what a named condition says stands in those
+-- that use it.
 use Rattle.std.specs.Prelude.{ℕ, List, map, Option}
 use Rattle.std.specs.List.{filter_map}
 use Rattle.ecam_spec.specs.declared.kinds.Level.{Level}
 use Rattle.ecam_spec.specs.declared.kinds.Sound.{Sound}
 use Rattle.ecam_spec.specs.Bytes.{place_of}
-use Rattle.ecam_spec.specs.Book.{Text, Tree, Parameter, PhaseTerms, Line, StatusLine, Alert, Memo, Page, Book}
+use Rattle.ecam_spec.specs.Book.{Text, Tree, NamedTerm, Parameter, PhaseTerms, Line, StatusLine, Alert, Memo, Page, Book}
 
 pub record DraftAlert : Type 0 where
   pub name : Text
@@ -25,6 +26,7 @@ pub record Draft : Type 0 where
   pub systems : List Text
   pub pages : List Page
   pub parameters : List Parameter
+  pub terms : List NamedTerm
   pub phase : PhaseTerms
   pub alerts : List DraftAlert
   pub memos : List Memo

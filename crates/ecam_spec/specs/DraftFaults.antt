@@ -105,6 +105,7 @@ module _ (d : Draft) where
   draft_fault = first_of (
       fault_at 20 section.Phase (whole (list_any (has_atom asks_phase_or_alert) (phase_terms d.phase)))
       ∷ at_alert 21 (λ i a. has_atom (asks_alert_from i) a.when)
+      ∷ fault_at 22 section.Term (first_item (λ i t. has_atom (misreads kinds_of) t.tree) d.terms)
       ∷ fault_at 22 section.Phase (whole (one_misreads kinds_of (phase_terms d.phase)))
       ∷ at_alert 22 (λ i a. one_misreads kinds_of (a.when ∷ line_terms a.lines))
       ∷ fault_at 22 section.Memo (first_item (λ i m. has_atom (misreads kinds_of) m.when) d.memos)

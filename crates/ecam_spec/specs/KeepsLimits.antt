@@ -1,10 +1,10 @@
 -- What is so of each draft that is read: its places are there, and its numbers, texts, lists and conditions keep
--- their limits.
+-- their limits. A draft doesn't tell its book's version, and so these are the limits of version 2.
 use Rattle.std.specs.Prelude.{◌≡◌, ◌≢◌, ℕ, suc, pos, neg_ℤ, ◌<◌, ◌≤◌, nat_lt, ◌≤ℤ◌, Bool, true, false, List, length, map, count_by, Option, Some, None, All, IfSome}
 use Rattle.ecam_spec.specs.declared.kinds.Colour.TheVariants.{Blank}
-use Rattle.ecam_spec.specs.declared.limits.TheConstants.{SYSTEMS, PAGES, PARAMETERS, ALERTS, MEMOS, PAGE_ROWS, SOURCES, SECONDARIES, LINES, STATUS_LINES, NAME, TEXT, SYSTEM_TEXT, VALUE_ROW_TEXT, UNIT, TERM_DEPTH, TERM_NODES, NUMBER, WAIT, STALE, PHASE_SETS, BUSES}
+use Rattle.ecam_spec.specs.declared.limits.TheConstants.{SYSTEMS, PAGES, PARAMETERS, NAMED_TERMS, ALERTS, MEMOS, PAGE_ROWS, SOURCES, SECONDARIES, LINES, STATUS_LINES, NAME, TEXT, SYSTEM_TEXT, VALUE_ROW_TEXT, UNIT, TERM_DEPTH, TERM_NODES, NUMBER, WAIT, STALE, PHASE_SETS, BUSES}
 use Rattle.ecam_spec.specs.Bytes.{same_text}
-use Rattle.ecam_spec.specs.Book.{Text, Tree, Trees, compared, in_phase, negation, all, any, at_least, confirmed, held, risen, latched, none, more, Source, Parameter, PhaseTerms, Line, StatusLine, Memo, PageRow, Page}
+use Rattle.ecam_spec.specs.Book.{Text, Tree, Trees, compared, in_phase, negation, all, any, at_least, confirmed, held, risen, latched, none, more, NamedTerm, Source, Parameter, PhaseTerms, Line, StatusLine, Memo, PageRow, Page}
 use Rattle.ecam_spec.specs.BookText.{is_name, is_text}
 use Rattle.ecam_spec.specs.TermSize.{nodes, depth}
 use Rattle.ecam_spec.specs.TermNames.{IsWithin}
@@ -49,6 +49,10 @@ module _ (params alerts : ℕ) where
     pub in_range : IsInRange c
     pub small : nodes c ≤ TERM_NODES
     pub flat : depth c ≤ TERM_DEPTH
+
+  pub record IsSoundNamed (t : NamedTerm) : Type 0 where
+    pub name : is_name t.name ≡ true
+    pub tree : IsSoundTerm t.tree
 
   pub record IsSoundPhase (p : PhaseTerms) : Type 0 where
     pub gnd : IsSoundTerm p.gnd
@@ -137,6 +141,9 @@ pub record IsSound (d : Draft) : Type 0 where
   pub parameter_count : length d.parameters ≤ PARAMETERS
   pub parameters : All IsSoundParameter d.parameters
   pub parameters_once : NoneRepeated (map (λ p. p.name) d.parameters)
+  pub term_count : length d.terms ≤ NAMED_TERMS
+  pub terms : All (IsSoundNamed (length d.parameters) (length d.alerts)) d.terms
+  pub terms_once : NoneRepeated (map (λ t. t.name) d.terms)
   pub phase : IsSoundPhase (length d.parameters) (length d.alerts) d.phase
   pub alert_count : length d.alerts ≤ ALERTS
   pub alerts : All (IsSoundAlert (length d.parameters) (length d.alerts) (length d.systems) (length d.pages)) d.alerts

@@ -1,11 +1,12 @@
 -- What a condition's text means: its tree, or the fault for which it is refused. The language of conditions is
 -- this project's own.
-use Rattle.std.specs.Prelude.{ℕ, suc, true, false, nat_le, nat_lt, List, [], ◌∷◌, ◌++◌, length, fold, Option, Some, None, unwrap_or, is_some, bit_or, ℤ, pos, neg_ℤ}
+use Rattle.std.specs.Prelude.{ℕ, suc, true, false, nat_le, nat_lt, List, [], ◌∷◌, ◌++◌, length, map, fold, slice_get, Option, Some, None, option_map, option_and_then, unwrap_or, is_some, bit_or, ℤ, pos, neg_ℤ}
 use Rattle.std.specs.List.{flat_map}
+use Rattle.std.specs.Option.{option_or}
 use Rattle.ecam_spec.specs.declared.limits.TheConstants.{NAME, TERM_DEPTH, TERM_NODES, NUMBER, WAIT}
 use Rattle.ecam_spec.specs.declared.terms.Span.{Span}
 use Rattle.ecam_spec.specs.Bytes.{place_of}
-use Rattle.ecam_spec.specs.Book.{Text, Tree, Trees, constant, discrete, valid, compared, in_phase, alert, press, computer, negation, all, any, at_least, confirmed, held, risen, latched, none, more}
+use Rattle.ecam_spec.specs.Book.{Text, Tree, Trees, NamedTerm, constant, discrete, valid, compared, in_phase, alert, press, computer, negation, all, any, at_least, confirmed, held, risen, latched, none, more}
 use Rattle.ecam_spec.specs.TermSize.{nodes, depth}
 use Rattle.ecam_spec.specs.Token.{bytes_of}
 use Rattle.ecam_spec.specs.Grammar.{Form, Forms, truth, name_of, compare_of, valid_of, phase_of, alert_of, press_of, fwc_of, not_of, rise_of, all_of, any_of, at_least_of, conf_of, hold_of, latch_of, no_more, and_then, how_many}
@@ -15,10 +16,15 @@ use Rattle.ecam_spec.specs.TermNumber.{magnitude, value, is_within, one_phase}
 pub record TermNames : Type 0 where
   pub parameters : List Text
   pub alerts : List Text
+  pub terms : List NamedTerm
 
 -- where a name stands in a list, first; one that is longer than a name may be is unknown
 unfoldable pub name_place : List Text → Text → Option ℕ
 name_place names name = elim (nat_le (length name) NAME) [ true ↦ place_of names name | false ↦ None ]
+
+-- the tree of the first condition of this name
+unfoldable pub tree_named : List NamedTerm → Text → Option Tree
+tree_named terms name = option_and_then (slice_get (map (λ t. t.tree) terms)) (name_place (map (λ t. t.name) terms) name)
 
 -- what is wrong with a name or a number, and where
 pub data Flaw : Type 0 where
@@ -55,12 +61,21 @@ module _ (names : TermNames) (text : Text) where
   abbrev pub alert_place : Span → ℕ
   alert_place n = unwrap_or (name_place names.alerts (bytes_of text n)) 0
 
+  -- what a name stands for that is a condition by itself: that the parameter of this name is 1, and where there is
+  -- none, the whole condition of this name
+  unfoldable pub tree_of_name : Span → Option Tree
+  tree_of_name n = option_or (option_map (λ p. discrete p) (name_place names.parameters (bytes_of text n))) (tree_named names.terms (bytes_of text n))
+
   abbrev pub amount : Span → ℕ
   amount n = magnitude (bytes_of text n)
 
   -- a name that isn't known
   unfoldable pub name_flaw : List Text → Span → List Flaw
   name_flaw list n = elim (is_some (name_place list (bytes_of text n))) [ true ↦ [] | false ↦ unknown_name n.at ∷ [] ]
+
+  -- a name by itself that stands for nothing
+  unfoldable pub lone_flaw : Span → List Flaw
+  lone_flaw n = elim (is_some (tree_of_name n)) [ true ↦ [] | false ↦ unknown_name n.at ∷ [] ]
 
   -- a number that is out of its range
   unfoldable pub number_flaw : ℤ → ℤ → Span → List Flaw
@@ -79,7 +94,7 @@ module _ (names : TermNames) (text : Text) where
   unfoldable mutual
     pub flaws : Form → List Flaw
     flaws (truth b) = []
-    flaws (name_of n) = name_flaw names.parameters n
+    flaws (name_of n) = lone_flaw n
     flaws (compare_of n op x) = name_flaw names.parameters n ++ compared_flaw x
     flaws (valid_of n) = name_flaw names.parameters n
     flaws (phase_of n ns) = phase_flaw n ++ flat_map phase_flaw ns
@@ -103,7 +118,7 @@ module _ (names : TermNames) (text : Text) where
   unfoldable mutual
     pub tree_of_form : Form → Tree
     tree_of_form (truth b) = constant b
-    tree_of_form (name_of n) = discrete (parameter_of n)
+    tree_of_form (name_of n) = unwrap_or (tree_of_name n) (constant false)
     tree_of_form (compare_of n op x) = compared (parameter_of n) op (value (bytes_of text x))
     tree_of_form (valid_of n) = valid (parameter_of n)
     tree_of_form (phase_of n ns) = in_phase (fold (λ set p. bit_or set (one_phase (amount p))) (one_phase (amount n)) ns)

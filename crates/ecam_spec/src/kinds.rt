@@ -152,6 +152,7 @@ pub enum Section {
     System,
     Page,
     Param,
+    Term,
     Phase,
     Alert,
     Memo,

@@ -9,7 +9,11 @@ pub const PAGES: usize = 16;
 /// The most parameters of a book.
 pub const PARAMETERS: usize = 1024;
 /// The most alerts of a book.
-pub const ALERTS: usize = 1024;
+pub const ALERTS: usize = 2048;
+/// The most alerts of a book of version 1.
+pub const ALERTS_OF_VERSION_1: usize = 1024;
+/// The most named conditions of a book, which has some in version 2 alone.
+pub const NAMED_TERMS: usize = 256;
 /// The most memos of a book.
 pub const MEMOS: usize = 128;
 /// The most rows of a page below its title.

@@ -32,7 +32,7 @@ pub enum Reserved {
 #[derive(Clone, Copy)]
 pub enum Token {
     Word(Reserved),
-    /// The name of a parameter or an alert.
+    /// The name of a parameter, an alert or a condition.
     Name(Span),
     /// A key's word.
     KeyWord(Key),

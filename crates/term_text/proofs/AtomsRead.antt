@@ -1,19 +1,20 @@
 -- What a written name or number is read as: its token, and no flaw.
-use Rattle.std.proofs.Common.{◌≡◌, ℕ, ◌+◌, ◌-◌, ◌^◌, ◌<◌, ◌≤◌, Bool, true, false, leb, List, [], ◌∷◌, ◌++◌, length, take, drop, Option, ℤ, pos, negsuc, refl, sym, ◌∙◌, ap, arith, append_assoc, drop-drop, unwrap_or}
+use Rattle.std.proofs.Common.{◌≡◌, ℕ, ◌+◌, ◌-◌, ◌^◌, ◌<◌, ◌≤◌, Bool, true, false, leb, List, [], ◌∷◌, ◌++◌, length, take, drop, Option, Some, ℤ, pos, negsuc, refl, sym, ◌∙◌, ap, arith, append_assoc, drop-drop, unwrap_or}
 use Rattle.std.specs.Prelude.{codes, decimal, neg_ℤ, int_le, is_some}
 use Rattle.std.specs.Fmt.{signed_decimal}
 use Rattle.std.proofs.lemmas.Bool.{and_parts, and_from, le-leb, leb-true}
 use Rattle.std.proofs.lemmas.List.{take_at, drop_at}
-use Rattle.ecam_spec.specs.Book.{Text}
+use Rattle.ecam_spec.specs.Book.{Text, discrete}
 use Rattle.ecam_spec.specs.declared.terms.Span.{Span}
 use Rattle.ecam_spec.specs.declared.terms.Reserved.{Reserved}
 use Rattle.ecam_spec.specs.declared.terms.Token.TheVariants.{Number}
 use Rattle.ecam_spec.specs.Token.{bytes_of}
-use Rattle.ecam_spec.specs.TermText.{TermNames, Flaw, unknown_name, out_of_range, name_place, amount, name_flaw, number_flaw}
+use Rattle.ecam_spec.specs.TermText.{TermNames, Flaw, unknown_name, out_of_range, name_place, tree_of_name, amount, name_flaw, number_flaw}
 use Rattle.ecam_spec.specs.TermNumber.{is_within, magnitude, value}
 use Rattle.term_text.specs.Written.{name_at, enclosed}
 use Rattle.term_text.proofs.DecimalTexts.{magnitude-decimal, value-decimal, value-negative}
 use Rattle.term_text.proofs.PieceReads.{Ended, word_text, number_reads, negative_reads}
+use Rattle.term_text.proofs.NamesAlone.{stands_for_parameter}
 use Rattle.term_text.specs.Readable.{IsKnownName, IsComparable}
 
 -- the span of a piece at a place
@@ -80,6 +81,12 @@ module _ (names : TermNames) (text : Text) where
   pub known_place : (list : List Text) (p at : ℕ) (rest : Text) → IsKnownName list p → Stands text at (name_at list p ++ rest) → unwrap_or (name_place list (bytes_of text (span_of at (name_at list p)))) 0 ≡ p
   known_place list p at rest known h =
       ap (λ (t : Text). unwrap_or (name_place list t) 0) (bytes_here text at (name_at list p) rest h) ∙ ap (λ (o : Option ℕ). unwrap_or o 0) known.first
+
+  -- the name of a parameter, by itself
+  pub name_stands : (p at : ℕ) (rest : Text) → IsKnownName names.parameters p → Stands text at (name_at names.parameters p ++ rest) → tree_of_name names text (span_of at (name_at names.parameters p)) ≡ Some (discrete p)
+  name_stands p at rest known h =
+      stands_for_parameter names text (span_of at (name_at names.parameters p)) p
+      (ap (name_place names.parameters) (bytes_here text at (name_at names.parameters p) rest h) ∙ known.first)
 
   pub value_flaw : (low high z : ℤ) (at : ℕ) (p rest : Text) → value p ≡ z → is_within low high z ≡ true → Stands text at (p ++ rest) → number_flaw names text low high (span_of at p) ≡ []
   unfolding number_flaw

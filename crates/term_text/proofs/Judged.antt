@@ -1,8 +1,6 @@
 -- A part that is made of others is judged by them.
 use Rattle.std.proofs.Common.{◌≡◌, ℕ, ◌+◌, ◌≤◌, min, max, Option, Some, None, refl, sym, subst, arith}
-use Rattle.std.specs.Prelude.{ℤ}
-use Rattle.ecam_spec.specs.declared.kinds.Op.{Op}
-use Rattle.ecam_spec.specs.Book.{Tree, discrete, compared, in_phase, negation, risen, confirmed, held, latched}
+use Rattle.ecam_spec.specs.Book.{Tree, in_phase, negation, risen, confirmed, held, latched}
 use Rattle.ecam_spec.specs.TermSize.{nodes, depth}
 use Rattle.ecam_spec.specs.TermText.{Flaw}
 use Rattle.term_tree.specs.declared.cond.Cond.{Cond}
@@ -117,14 +115,6 @@ pub atom_over : (self p : Part) (kept wrong all : Option Flaw) (c : Cond) (t t2 
     → (all ≡ None → wrong ≡ None) → depth t2 ≡ depth t → nodes t2 ≡ nodes t → (all ≡ None → tree_of self.cond ≡ t → tree_of c ≡ t2) → Judges self wrong t → Judges p all t2
 atom_over self p kept wrong all c t t2 e told clean same alike tree h =
     judge p kept all self.depth self.size c t2 e told (atom_for wrong all self.depth self.size self.cond c t t2 clean same alike tree h.tree_is)
-
-pub compared-depth : (p : ℕ) (op : Op) (x : ℤ) → depth (compared p op x) ≡ depth (discrete p)
-unfolding depth
-compared-depth p op x = refl
-
-pub compared-nodes : (p : ℕ) (op : Op) (x : ℤ) → nodes (compared p op x) ≡ nodes (discrete p)
-unfolding nodes
-compared-nodes p op x = refl
 
 pub phases-depth : (a b : ℕ) → depth (in_phase a) ≡ depth (in_phase b)
 unfolding depth

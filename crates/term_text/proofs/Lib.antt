@@ -1,4 +1,6 @@
 pub mod NamePlaces
+pub mod NamesAlone
+pub mod NamedTerms
 pub mod ReservedWords
 pub mod Runs
 pub mod TokenAt

@@ -1,21 +1,24 @@
 -- A tree that some text means is readable, and is neither too deep nor too large.
-use Rattle.std.proofs.Common.{◌≡◌, ℕ, zero, suc, ◌-◌, ◌^◌, ◌<◌, ◌≤◌, Bool, true, false, leb, List, [], ◌∷◌, ◌++◌, length, Option, Some, None, ℤ, pos, refl, ◌∙◌, ap, subst, arith, unwrap_or}
-use Rattle.std.specs.Prelude.{neg_ℤ, is_some, fold, bit_or}
-use Rattle.std.specs.List.{flat_map, position_from}
+use Rattle.std.proofs.Common.{◌≡◌, ℕ, zero, suc, ◌-◌, ◌^◌, ◌<◌, ◌≤◌, Bool, true, false, leb, List, [], ◌∷◌, ◌++◌, map, length, slice_get, Option, Some, None, ℤ, pos, refl, ◌∙◌, ap, subst, arith, unwrap_or}
+use Rattle.std.specs.Prelude.{neg_ℤ, is_some, fold, bit_or, option_map, option_and_then}
+use Rattle.std.specs.Option.{option_or}
+use Rattle.std.specs.List.{All, flat_map, position_from}
 use Rattle.std.specs.Str.{bytes_eq}
 use Rattle.std.proofs.lemmas.Bool.{and_parts, leb-true}
 use Rattle.std.proofs.lemmas.Iterator.Adapters.{position_from-zero}
 use Rattle.std.proofs.lemmas.List.Quantifiers.{position-Some}
+use Rattle.std.proofs.lemmas.List.Elements.{All-map, All-get_or}
+use Rattle.std.proofs.lemmas.Option.{slice_get_within, get_or_from_slice_get}
 use Rattle.std.proofs.lemmas.Nat.{or_lt, le_or_l, pow_pos, pow_below}
 use Rattle.std.proofs.lemmas.Slice.Eq.{bytes_eq-Decides}
-use Rattle.ecam_spec.specs.Book.{Text}
+use Rattle.ecam_spec.specs.Book.{Text, Tree, NamedTerm, constant, discrete}
 use Rattle.ecam_spec.specs.declared.terms.Span.{Span}
 use Rattle.ecam_spec.specs.declared.terms.Token.TheVariants.{Number, Comma, Close}
 use Rattle.ecam_spec.specs.KeepsLimits.{count_of}
 use Rattle.ecam_spec.specs.Token.{bytes_of}
 use Rattle.ecam_spec.specs.Grammar.{Form, Forms, truth, name_of, compare_of, valid_of, phase_of, alert_of, press_of, fwc_of, not_of, rise_of, all_of, any_of, at_least_of, conf_of, hold_of, latch_of, no_more, and_then, how_many, spelling, spellings}
 use Rattle.ecam_spec.specs.TermSize.{nodes, nodes_of}
-use Rattle.ecam_spec.specs.TermText.{TermNames, Flaw, unknown_name, out_of_range, name_place, amount, name_flaw, number_flaw, phase_flaw, moments_flaw, compared_flaw, flaws, flaws_of_all, tree_of_form, trees_of_forms}
+use Rattle.ecam_spec.specs.TermText.{TermNames, Flaw, unknown_name, out_of_range, name_place, tree_named, tree_of_name, amount, name_flaw, lone_flaw, number_flaw, phase_flaw, moments_flaw, compared_flaw, flaws, flaws_of_all, tree_of_form, trees_of_forms}
 use Rattle.ecam_spec.specs.TermNumber.{is_within, is_negative, magnitude, value, one_phase}
 use Rattle.term_text.specs.Written.{name_at}
 use Rattle.term_text.specs.Readable.{IsNameWord}
@@ -102,7 +105,34 @@ module _ (names : TermNames) (text : Text) where
   count_of_forms no_more = refl
   count_of_forms (and_then f fs) = ap suc (count_of_forms fs)
 
+-- ---- names of conditions
+
+-- the tree at a place, if there is one, is readable
+tree_there : (names : TermNames) (terms : List NamedTerm) (place : Option ℕ) (c : Tree) → All (λ t. IsReadable names t.tree) terms → option_and_then (slice_get (map (λ (t : NamedTerm). t.tree) terms)) place ≡ Some c → IsReadable names c
+tree_there names terms None c are e = absurd cc
+tree_there names terms (Some i) c are e =
+    let trees = map (λ (t : NamedTerm). t.tree) terms in
+    let all_are = All-map (IsReadable names) (λ (t : NamedTerm). t.tree) terms are in
+    subst (IsReadable names) (get_or_from_slice_get trees i c c e) (All-get_or (IsReadable names) trees i c (slice_get_within trees i c e) all_are)
+
 module _ (names : TermNames) (text : Text) where
+  -- of what a name by itself stands for, a parameter or a condition
+  lone_of : (n : Span) (place : Option ℕ) (other : Option Tree) → name_place names.parameters (bytes_of text n) ≡ place → IsNameWord (bytes_of text n) → ((c : Tree) → other ≡ Some c → IsReadable names c)
+      → elim (is_some (option_or (option_map (λ p. discrete p) place) other)) as (λ v. List Flaw) [ true ↦ [] | false ↦ unknown_name n.at ∷ [] ] ≡ []
+      → IsReadable names (unwrap_or (option_or (option_map (λ p. discrete p) place) other) (constant false))
+  unfolding IsReadable
+  lone_of n (Some p) other e word are clean = known_name names.parameters (bytes_of text n) p word e
+  lone_of n None (Some c) e word are clean = are c refl
+  lone_of n None None e word are clean = tt
+
+  lone_readable : (n : Span) → All (λ t. IsReadable names t.tree) names.terms → IsNameWord (bytes_of text n) → lone_flaw names text n ≡ [] → IsReadable names (tree_of_form names text (name_of n))
+  unfolding lone_flaw tree_of_name tree_named tree_of_form
+  lone_readable n terms word clean =
+      let name = bytes_of text n in
+      lone_of n (name_place names.parameters name) (tree_named names.terms name) refl word
+      (λ c e. tree_there names names.terms (name_place (map (λ (t : NamedTerm). t.name) names.terms) name) c terms e) clean
+
+module _ (names : TermNames) (text : Text) (terms : All (λ t. IsReadable names t.tree) names.terms) where
   -- what is so of a list's parts
   record ListParts (f : Form) (fs : Forms) : Type 0 where
     first : AreFine text (spelling f)
@@ -121,7 +151,7 @@ module _ (names : TermNames) (text : Text) where
 
     pub readable : (f : Form) → AreFine text (spelling f) → flaws names text f ≡ [] → nodes (tree_of_form names text f) ≤ 64 → IsReadable names (tree_of_form names text f)
     readable (truth b) fine clean small = tt
-    readable (name_of n) fine clean small = name_known names text names.parameters n fine.0 clean
+    readable (name_of n) fine clean small = lone_readable names text n terms fine.0 clean
     readable (compare_of n op x) fine clean small =
         let parts = none_of (name_flaw names text names.parameters n) (compared_flaw names text x) clean in
         (name_known names text names.parameters n fine.0 parts.0, comparable names text x parts.1)

@@ -11,16 +11,15 @@ use Rattle.ecam_spec.specs.declared.kinds.Op.{Op}
 use Rattle.ecam_spec.specs.declared.terms.Span.{Span}
 use Rattle.ecam_spec.specs.declared.term_steps.Connective.{Connective}
 use Rattle.ecam_spec.specs.declared.term_steps.Step.TheVariants as steps
-use Rattle.ecam_spec.specs.Book.{Text, Tree, discrete, compared, in_phase, negation, confirmed, held, risen, latched}
+use Rattle.ecam_spec.specs.Book.{Text, Tree, in_phase, negation, confirmed, held, risen, latched}
 use Rattle.ecam_spec.specs.Grammar.{Form, Forms, name_of, compare_of, phase_of, not_of, rise_of, conf_of, hold_of, latch_of, no_more, and_then}
-use Rattle.ecam_spec.specs.TermText.{TermNames, Flaw, earliest, flaws, tree_of_form, phase_flaw, moments_flaw, compared_flaw, amount, name_flaw, parameter_of}
-use Rattle.ecam_spec.specs.TermNumber.{one_phase, value}
+use Rattle.ecam_spec.specs.TermText.{TermNames, Flaw, earliest, flaws, tree_of_form, phase_flaw, moments_flaw, amount}
+use Rattle.ecam_spec.specs.TermNumber.{one_phase}
 use Rattle.ecam_spec.proofs.TermReading.{gathered, list_form, after_step}
-use Rattle.ecam_spec.specs.Token.{bytes_of}
 use Rattle.term_text.specs.declared.part.Part.{Part}
 use Rattle.term_text.specs.declared.members.Members.{Members}
 use Rattle.term_text.specs.Flaws.{earlier_of}
-use Rattle.term_text.specs.Parts.{Judges, JudgesForm, JudgesForms, StandFor}
+use Rattle.term_text.specs.Parts.{Judges, JudgesForm, JudgesForms, StandFor, IsLastName}
 use Rattle.term_text.proofs.Flawed.{earliest-append}
 use Rattle.term_text.proofs.Taken.{top_of}
 
@@ -96,19 +95,17 @@ module _ (names : TermNames) (text : Text) where
         (told _ _ _ _ k (subst (λ (x : Part). JudgesForm names text x f) (sym is.0) top.judged)))
         e below
 
-  pub compare_step : (p popped : Part) (op : Op) (x : Span) (ps rest : List Part) (forms after : List Form) → Pops ps popped rest
-      → ((wrong : Option Flaw) (param : ℕ) → Judges popped wrong (discrete param) → Judges p (earlier_of wrong (earliest (compared_flaw names text x))) (compared param op (value (bytes_of text x))))
-      → StandFor names text ps forms → after_step (steps.Compared op x) forms ≡ Some after → StandFor names text (p ∷ rest) after
-  unfolding after_step flaws tree_of_form
-  compare_step p popped op x ps rest (name_of n ∷ older) after pops told h e =
+  -- a comparison stands for that of the last name by itself
+  pub compare_step : (p popped : Part) (name : Span) (op : Op) (x : Span) (ps rest : List Part) (forms after : List Form) → Pops ps popped rest → JudgesForm names text p (compare_of name op x)
+      → StandFor names text ps forms → IsLastName name forms → after_step (steps.Compared op x) forms ≡ Some after → StandFor names text (p ∷ rest) after
+  unfolding after_step
+  compare_step p popped name op x ps rest (name_of n ∷ older) after pops told h last e =
       let top = top_of names text ps (name_of n) older h in
       let is = pops top.part top.rest top.is in
-      let flaw = name_flaw names text names.parameters n in
       put p rest (compare_of n op x) older after e
-      (subst (λ (w : Option Flaw). Judges p w (compared (parameter_of names text n) op (value (bytes_of text x)))) (sym (earliest-append flaw (compared_flaw names text x)))
-      (told _ _ (subst (λ (y : Part). JudgesForm names text y (name_of n)) (sym is.0) top.judged)))
+      (subst (λ (m : Span). JudgesForm names text p (compare_of m op x)) last told)
       (subst (λ (xs : List Part). StandFor names text xs older) (sym is.1) top.stand)
-  compare_step p popped op x ps rest _ after pops told h e = absurd cc
+  compare_step p popped name op x ps rest _ after pops told h last e = absurd cc
 
   -- one more number of a phase
   phase_flaws : (n m : Span) (ns : List Span) → phase_flaw names text n ++ flat_map (phase_flaw names text) (ns ++ m ∷ []) ≡ (phase_flaw names text n ++ flat_map (phase_flaw names text) ns) ++ phase_flaw names text m

@@ -20,7 +20,8 @@ use Rattle.term_text.proofs.NodeCounts.{some_nodes, counted_nodes}
 use Rattle.term_text.proofs.PieceReads.{Always, Ended, Delimits, always_ended, nothing, always_then_ended, ended_then_always, ended_then_ended, separating, comparing, word_text, word_reads, wrapped, name_reads, key_reads, number_reads}
 use Rattle.term_text.proofs.PhaseSets.{with_phases, ArePhases, phases_make_set, phases_are_phases}
 use Rattle.term_text.specs.Readable.{IsKnownName, IsReadable, AreReadable}
-use Rattle.term_text.proofs.AtomsRead.{span_of, none_at_all, signed_reads, signed_value, Stands, front, behind, inside, bytes_here, known_flaw, known_place, value_flaw, decimal_flaw, decimal_amount}
+use Rattle.term_text.proofs.NamesAlone.{no_lone_flaw, lone_tree}
+use Rattle.term_text.proofs.AtomsRead.{span_of, none_at_all, signed_reads, signed_value, Stands, front, behind, inside, bytes_here, known_flaw, known_place, name_stands, value_flaw, decimal_flaw, decimal_amount}
 
 module _ (names : TermNames) (text : Text) where
   -- the text of a condition at a place spells it
@@ -179,8 +180,8 @@ module _ (names : TermNames) (text : Text) where
     spelt (discrete p) is small at rest h = record {
       form = name_of (span_of at (name_at names.parameters p));
       words = name_reads at (name_at names.parameters p) is.word;
-      sound = known_flaw names text names.parameters p at rest is h;
-      tree = ap discrete (known_place names text names.parameters p at rest is h);
+      sound = no_lone_flaw names text (span_of at (name_at names.parameters p)) (discrete p) (name_stands names text p at rest is h);
+      tree = lone_tree names text (span_of at (name_at names.parameters p)) (discrete p) (name_stands names text p at rest is h);
     }
     spelt (valid p) is small at rest h =
         let within = inside text at words.Valid (name_at names.parameters p) rest h in

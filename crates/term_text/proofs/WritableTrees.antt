@@ -1,8 +1,10 @@
 -- A tree that some text means has a written text: it names what is there, the text is short, and it means the
 -- tree again.
-use Rattle.std.proofs.Common.{◌≡◌, ◌≤◌, Bool, true, false, ltb, List, [], ◌∷◌, length, Some, refl, sym, subst, arith}
+use Rattle.std.proofs.Common.{◌≡◌, ◌≤◌, Bool, true, false, ltb, List, [], ◌∷◌, length, get_or, Some, refl, sym, subst, arith}
+use Rattle.std.specs.List.{All}
+use Rattle.std.proofs.lemmas.List.Elements.{All-nil, All-cons}
 use Rattle.std.proofs.lemmas.Bool.{ltb-false}
-use Rattle.ecam_spec.specs.Book.{Text, Tree, Trees, constant, discrete, valid, compared, in_phase, alert, press, computer, negation, all, any, at_least, confirmed, held, risen, latched, none, more}
+use Rattle.ecam_spec.specs.Book.{Text, Tree, Trees, NamedTerm, constant, discrete, valid, compared, in_phase, alert, press, computer, negation, all, any, at_least, confirmed, held, risen, latched, none, more}
 use Rattle.ecam_spec.specs.Token.{tokens}
 use Rattle.ecam_spec.specs.Grammar.{Form, spelling}
 use Rattle.ecam_spec.specs.TermNames.{IsWithin, AreWithin}
@@ -10,7 +12,7 @@ use Rattle.ecam_spec.specs.TermSize.{nodes, depth}
 use Rattle.ecam_spec.specs.TermText.{TermNames, Flaw, unknown_name, out_of_range, Outcome, unknown, number_error, too_deep, too_large, means, earlier, earliest, flaws, tree_of_form, judged_tree, judged}
 use Rattle.ecam_spec.specs.TermVerdict.{words_of, IsVerdict}
 use Rattle.term_text.specs.Written.{written}
-use Rattle.term_text.specs.Readable.{CanBeRead, IsReadable, AreReadable, IsWritable}
+use Rattle.term_text.specs.Readable.{CanBeRead, without_terms, TermsCanBeRead, IsReadable, AreReadable, IsWritable}
 use Rattle.term_text.proofs.FineTokens.{fine_tokens, AreFine}
 use Rattle.term_text.proofs.MeantTrees.{readable}
 use Rattle.term_text.proofs.VerdictsBack.{means_back}
@@ -43,21 +45,60 @@ module _ (names : TermNames) (text : Text) where
   judged_means [] t c is = judged_size t c (ltb 16 (depth t)) (ltb 64 (nodes t)) refl refl is
   judged_means (f ∷ fs) t c is = absurd (flaw_means_nothing (earlier f (earliest fs)) t c is)
 
-  form_writable : (f : Form) (c : Tree) → spelling f ≡ words_of (tokens text) → judged names text f ≡ means c → IsWritable names c
+  form_writable : All (λ t. IsReadable names t.tree) names.terms → (f : Form) (c : Tree) → spelling f ≡ words_of (tokens text) → judged names text f ≡ means c → IsWritable names c
   unfolding judged
-  form_writable f c spells is =
+  form_writable terms f c spells is =
       let j = judged_means (flaws names text f) (tree_of_form names text f) c is in
       let fine : AreFine text (spelling f) = subst (AreFine text) (sym spells) (fine_tokens text 0 0 text refl) in
-      let whole : IsWritable names (tree_of_form names text f) = record { readable = readable names text f fine j.clean j.small; flat = j.flat; small = j.small } in
+      let whole : IsWritable names (tree_of_form names text f) = record { readable = readable names text terms f fine j.clean j.small; flat = j.flat; small = j.small } in
       subst (IsWritable names) j.same whole
 
-  verdict_writable : (c : Tree) → IsVerdict names text (means c) → IsWritable names c
+  verdict_writable : All (λ t. IsReadable names t.tree) names.terms → (c : Tree) → IsVerdict names text (means c) → IsWritable names c
   unfolding IsVerdict
-  verdict_writable c told = form_writable told.0 c told.1 told.2
+  verdict_writable terms c told = form_writable terms told.0 c told.1 told.2
+
+-- readable by parameters and alerts alone, a condition is readable
+mutual
+  unfolding IsReadable
+
+  readable_with : (names : TermNames) (c : Tree) → IsReadable (without_terms names) c → IsReadable names c
+  readable_with names (constant b) is = tt
+  readable_with names (discrete p) is = is
+  readable_with names (valid p) is = is
+  readable_with names (compared p op x) is = is
+  readable_with names (in_phase set) is = is
+  readable_with names (alert a) is = is
+  readable_with names (press key) is = is
+  readable_with names (computer n) is = is
+  readable_with names (negation c) is = readable_with names c is
+  readable_with names (all cs) is = (is.0, all_readable_with names cs is.1)
+  readable_with names (any cs) is = (is.0, all_readable_with names cs is.1)
+  readable_with names (at_least n cs) is = (is.0, is.1, all_readable_with names cs is.2)
+  readable_with names (confirmed c n) is = (is.0, readable_with names c is.1)
+  readable_with names (held c n) is = (is.0, readable_with names c is.1)
+  readable_with names (risen c) is = readable_with names c is
+  readable_with names (latched s r) is = (readable_with names s is.0, readable_with names r is.1)
+
+  all_readable_with : (names : TermNames) (cs : Trees) → AreReadable (without_terms names) cs → AreReadable names cs
+  all_readable_with names none are = tt
+  all_readable_with names (more c cs) are = (readable_with names c are.0, all_readable_with names cs are.1)
+
+no_terms : (names : TermNames) → All (λ t. IsReadable (without_terms names) t.tree) (without_terms names).terms
+no_terms names i d within = absurd (omega arith)
+
+readable_terms : (names : TermNames) → TermsCanBeRead names → All (λ t. IsReadable names t.tree) names.terms
+readable_terms names from i d within =
+    let text = from i d within in
+    let c = (get_or names.terms i d).tree in
+    readable_with names c (verdict_writable (without_terms names) text.text (no_terms names) c text.meaning).readable
 
 module _ (names : TermNames) where
-  pub writable : (c : Tree) → CanBeRead names c → IsWritable names c
-  writable c from = verdict_writable names from.text c from.meaning
+  pub writable : TermsCanBeRead names → (c : Tree) → CanBeRead names c → IsWritable names c
+  writable terms c from = verdict_writable names from.text (readable_terms names terms) c from.meaning
+
+  -- one named condition, which can be read without it
+  pub one_can_be_read : (t : NamedTerm) → names.terms ≡ t ∷ [] → CanBeRead (without_terms names) t.tree → TermsCanBeRead names
+  one_can_be_read t e from = subst (All (λ u. CanBeRead (without_terms names) u.tree)) (sym e) (All-cons (λ u. CanBeRead (without_terms names) u.tree) t [] from (All-nil (λ u. CanBeRead (without_terms names) u.tree)))
 
   -- what some text means can be read
   pub can_be_read : (text : Text) (c : Tree) → IsVerdict names text (means c) → CanBeRead names c
@@ -92,11 +133,11 @@ module _ (names : TermNames) where
     readable_within_all (more c cs) are = (readable_within c are.0, readable_within_all cs are.1)
 
   -- it names what is there
-  pub names_there : (c : Tree) → CanBeRead names c → IsWithin (length names.parameters) (length names.alerts) c
-  names_there c from = readable_within c (writable c from).readable
+  pub names_there : TermsCanBeRead names → (c : Tree) → CanBeRead names c → IsWithin (length names.parameters) (length names.alerts) c
+  names_there terms c from = readable_within c (writable terms c from).readable
 
-  pub text_short : (c : Tree) → CanBeRead names c → length (written names c) ≤ 4096
-  text_short c from = let w = writable c from in omega (arith, written_length names c w.readable w.small, w.small)
+  pub text_short : TermsCanBeRead names → (c : Tree) → CanBeRead names c → length (written names c) ≤ 4096
+  text_short terms c from = let w = writable terms c from in omega (arith, written_length names c w.readable w.small, w.small)
 
-  pub text_means : (c : Tree) → CanBeRead names c → IsVerdict names (written names c) (means c)
-  text_means c from = let w = writable c from in means_back names c w.readable w.flat w.small
+  pub text_means : TermsCanBeRead names → (c : Tree) → CanBeRead names c → IsVerdict names (written names c) (means c)
+  text_means terms c from = let w = writable terms c from in means_back names c w.readable w.flat w.small

@@ -1,9 +1,11 @@
 -- The conditions that the program has read, and how they stand to the grammar's.
-use Rattle.std.specs.Prelude.{◌≡◌, ⊤, ℕ, ℤ, bit_or, ◌≤◌, ◌-◌, ◌^◌, min, List, [], ◌∷◌, length, reverse, Option, None}
-use Rattle.ecam_spec.specs.declared.kinds.Op.{Op}
+use Rattle.std.specs.Prelude.{◌≡◌, ⊤, ℕ, bit_or, ◌≤◌, ◌-◌, ◌^◌, min, List, [], ◌∷◌, length, reverse, Option, None}
+use Rattle.ecam_spec.specs.declared.terms.Span.{Span}
+use Rattle.ecam_spec.specs.declared.term_steps.Step.{Step}
+use Rattle.ecam_spec.specs.declared.term_steps.Step.TheVariants.{Named}
 use Rattle.ecam_spec.specs.declared.limits.TheConstants.{TERM_DEPTH, TERM_NODES}
-use Rattle.ecam_spec.specs.Book.{Text, Tree, discrete, compared, in_phase}
-use Rattle.ecam_spec.specs.Grammar.{Form, Forms, how_many}
+use Rattle.ecam_spec.specs.Book.{Text, Tree, in_phase}
+use Rattle.ecam_spec.specs.Grammar.{Form, Forms, name_of, how_many}
 use Rattle.ecam_spec.specs.TermSize.{nodes, nodes_of, depth, depth_of}
 use Rattle.ecam_spec.specs.TermText.{TermNames, Flaw, earliest, flaws, flaws_of_all, tree_of_form, trees_of_forms}
 use Rattle.ecam_spec.specs.TermNumber.{one_phase}
@@ -29,10 +31,15 @@ pub record Judges (p : Part) (wrong : Option Flaw) (tree : Tree) : Type 0 where
   pub wrong_is : flaw_in p.flaw ≡ wrong
   pub tree_is : Measures wrong p.depth p.size p.cond tree
 
--- a comparison of a parameter's value, in place of the parameter's truth
-abbrev pub with_comparison : Op → ℤ → Tree → Tree
-with_comparison op x (discrete p) = compared p op x
-with_comparison op x t = t
+-- the last name by itself, after a step
+abbrev pub last_name : Step → Span → Span
+last_name (Named n) before = n
+last_name _ before = before
+
+-- where the condition that was read last is a name by itself, it is this name
+abbrev pub IsLastName : Span → List Form → Type 0
+IsLastName name (name_of n ∷ older) = name ≡ n
+IsLastName name _ = ⊤
 
 -- one more phase
 abbrev pub with_phase : ℕ → Tree → Tree

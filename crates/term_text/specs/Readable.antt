@@ -1,6 +1,6 @@
 -- Which trees some text means: those whose names are known, each by the first place at which it stands, whose
 -- numbers are in their ranges, and which are neither too deep nor too large.
-use Rattle.std.specs.Prelude.{◌≡◌, ℕ, ◌<◌, ◌≤◌, true, List, length, Some, None, slice_index, ℤ, pos, neg_ℤ}
+use Rattle.std.specs.Prelude.{◌≡◌, ℕ, ◌<◌, ◌≤◌, true, List, [], length, Some, None, slice_index, ℤ, pos, neg_ℤ, All}
 use Rattle.std.specs.List.{list_all}
 use Rattle.ecam_spec.specs.declared.limits.TheConstants.{NAME, NUMBER, WAIT, PHASE_SETS, TERM_DEPTH, TERM_NODES}
 use Rattle.ecam_spec.specs.Book.{Text, Tree, Trees, constant, discrete, valid, compared, in_phase, alert, press, computer, negation, all, any, at_least, confirmed, held, risen, latched, none, more}
@@ -18,6 +18,14 @@ use Rattle.term_text.specs.Written.{name_at}
 pub record CanBeRead (names : TermNames) (c : Tree) : Type 0 where
   pub text : Text
   pub meaning : IsVerdict names text (means c)
+
+-- the parameters and the alerts alone
+abbrev pub without_terms : TermNames → TermNames
+without_terms names = record { parameters = names.parameters; alerts = names.alerts; terms = [] }
+
+-- each named condition is what some text means by parameters and alerts alone
+abbrev pub TermsCanBeRead : TermNames → Type 0
+TermsCanBeRead names = All (λ t. CanBeRead (without_terms names) t.tree) names.terms
 
 -- a name that a condition may use: it begins with a letter, has small letters, digits and low lines alone, and
 -- isn't reserved

@@ -4,14 +4,14 @@ ghost use Rattle.ecam_spec.specs.Grammar.{Form};
 ghost use Rattle.ecam_spec.specs.TermText.{judged};
 ghost use Rattle.ecam_spec.proofs.TermReading.{after_step, after_all};
 ghost use Rattle.term_text.specs.Answer.{Tells};
-ghost use Rattle.term_text.specs.Parts.{StandFor, parts};
+ghost use Rattle.term_text.specs.Parts.{IsLastName, StandFor, last_name, parts};
 
-use crate::atoms::{alerted, computer, discrete, in_phase, valid};
+use crate::atoms::{alerted, compared, computer, in_phase, named, valid};
 use crate::error::TermError;
 use crate::names::Dictionary;
 use crate::part::Part;
 use crate::parts::Parts;
-use ecam_spec::Step;
+use ecam_spec::{Span, Step};
 use std::alloc::{AllocError, Global};
 use term_tree::Cond;
 
@@ -28,53 +28,71 @@ pub(crate) fn condition_of<D: Dictionary>(
         → Tells (judged (D.known names.now) text.now f) result }
 {
     let mut read = Parts::new(alloc);
+    let mut name = Span { at: 0, end: 0 };
     for step in steps {
-        apply(alloc, text, names, *step, &mut read)?;
+        apply(alloc, text, names, name, *step, &mut read)?;
+        name = last_name(*step, name);
     }
     read.pop().judged()
 }
 
-// Makes one step.
+// The last name by itself, after a step.
+fn last_name(step: Step, before: Span) -> Span
+    ensures { result ≡ last_name step before }
+{
+    match step {
+        Step::Named(name) => name,
+        _ => before,
+    }
+}
+
+// Makes one step, before which this was the last name by itself.
 fn apply<D: Dictionary>(
     alloc: Global,
     text: &[u8],
     names: &D,
+    name: Span,
     step: Step,
     read: &mut Parts,
 ) -> Result<(), AllocError>
     requires few_parameters { length (D.known names.now).parameters < 2 ^ 32 }
     requires few_alerts { length (D.known names.now).alerts < 2 ^ 32 }
     ensures { (forms after : List Form) → StandFor (D.known names.now) text.now (parts read.old)
-        forms → after_step step forms ≡ Some after
+        forms → IsLastName name forms → after_step step forms ≡ Some after
         → OnOk result (StandFor (D.known names.now) text.now (parts read.new) after) }
 {
-    let part = part_of(alloc, text, names, step, read)?;
+    let part = part_of(alloc, text, names, name, step, read)?;
     read.push(part)
 }
 
-// The condition that a step makes, of those that were read.
+// The condition that a step makes, of those that were read. What is compared is the last name by itself, which then
+// stands for no condition.
 fn part_of<D: Dictionary>(
     alloc: Global,
     text: &[u8],
     names: &D,
+    name: Span,
     step: Step,
     read: &mut Parts,
 ) -> Result<Part, AllocError>
     requires few_parameters { length (D.known names.now).parameters < 2 ^ 32 }
     requires few_alerts { length (D.known names.now).alerts < 2 ^ 32 }
     ensures { (forms after : List Form) → StandFor (D.known names.now) text.now (parts read.old)
-        forms → after_step step forms ≡ Some after
+        forms → IsLastName name forms → after_step step forms ≡ Some after
         → IfOk result (λ p. StandFor (D.known names.now) text.now (p ∷ parts read.new) after) }
 {
     match step {
         Step::Constant(value) => Ok(Part::atom(None, Cond::Const(value))),
-        Step::Named(name) => Ok(discrete(text, names, name)),
+        Step::Named(name) => named(alloc, text, names, name),
         Step::Valid(name) => Ok(valid(text, names, name)),
         Step::Alerted(name) => Ok(alerted(text, names, name)),
         Step::Pressed(key) => Ok(Part::atom(None, Cond::Press(key))),
         Step::Computer(number) => Ok(computer(text, number)),
         Step::Phase(number) => Ok(in_phase(text, number)),
-        Step::Compared(op, number) => Ok(read.pop().compared(text, op, number)),
+        Step::Compared(op, number) => {
+            drop(read.pop());
+            Ok(compared(text, names, name, op, number))
+        }
         Step::AlsoPhase(number) => Ok(read.pop().also_in_phase(text, number)),
         Step::Negation => read.pop().negated(alloc),
         Step::Risen => read.pop().risen(alloc),

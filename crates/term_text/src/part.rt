@@ -1,21 +1,20 @@
 // A condition that was read, and what is to be judged of it.
-ghost use Rattle.std.specs.Prelude.{◌≡◌, ℕ, ◌+◌, ◌≤◌, min, None, false, Option, IfOk, bit_or, if◌then◌else◌};
-ghost use Rattle.ecam_spec.specs.Book.{Text, Tree, constant, discrete, compared, in_phase, negation, risen, confirmed, held, latched};
-ghost use Rattle.ecam_spec.specs.Token.{bytes_of};
+ghost use Rattle.std.specs.Prelude.{◌≡◌, ℕ, ◌+◌, ◌≤◌, min, None, true, false, Option, IfOk, bit_or, if◌then◌else◌};
+ghost use Rattle.ecam_spec.specs.Book.{Text, Tree, constant, in_phase, negation, risen, confirmed, held, latched};
 ghost use Rattle.ecam_spec.specs.TermSize.{nodes, depth};
-ghost use Rattle.ecam_spec.specs.TermText.{TermNames, Flaw as Wrong, earliest, moments_flaw, compared_flaw, phase_flaw, judged_tree, amount};
-ghost use Rattle.ecam_spec.specs.TermNumber.{one_phase, value};
+ghost use Rattle.ecam_spec.specs.TermText.{TermNames, Flaw as Wrong, earliest, moments_flaw, phase_flaw, judged_tree, amount};
+ghost use Rattle.ecam_spec.specs.TermNumber.{one_phase};
 ghost use Rattle.term_tree.specs.View.{tree_of};
 ghost use Rattle.term_text.specs.Answer.{Tells};
 ghost use Rattle.term_text.specs.Flaws.{flaw_in, earlier_of};
-ghost use Rattle.term_text.specs.Parts.{Judges, Measures, most, with_comparison, with_phase};
+ghost use Rattle.term_text.specs.Parts.{Judges, Measures, most, with_phase};
 
 use crate::error::TermError;
 use crate::flaw::{Flaw, earlier_of};
-use crate::resolve::{amount_at, compared_at};
+use crate::resolve::amount_at;
 use bitflags::Flags;
 use ecam_kinds::{Phase, PhaseSet};
-use ecam_spec::{Op, Span, limits};
+use ecam_spec::{Span, limits};
 use std::alloc::{AllocError, Global};
 use term_tree::Cond;
 
@@ -63,6 +62,21 @@ impl Part {
             → (flaw_in flaw ≡ None → tree_of cond ≡ tree) → Judges result (flaw_in flaw) tree }
     {
         Part::new(flaw, 1, 1, cond)
+    }
+
+    /// A copy of this condition, which is made only where it is neither too deep nor too large.
+    pub fn copy_of(alloc: Global, cond: &Cond) -> Result<Part, AllocError>
+        ensures { IfOk result (λ p. Judges p None (tree_of cond.now)) }
+    {
+        let depth = cond.depth();
+        let size = cond.size();
+        let cond = copy_if(alloc, depth <= DEEPEST && size <= LARGEST, cond)?;
+        Ok(Part {
+            flaw: None,
+            depth,
+            size,
+            cond,
+        })
     }
 
     /// A node over conditions of this depth and this size.
@@ -153,28 +167,6 @@ impl Part {
         Ok(Part::above(flaw, depth, size, node))
     }
 
-    /// Compares the value of a parameter, whose truth this condition is.
-    pub fn compared(self, text: &[u8], op: Op, number: Span) -> Part
-        ensures { (names : TermNames) (wrong : Option Wrong) (param : ℕ)
-            → Judges self wrong (discrete param)
-            → Judges result (earlier_of wrong (earliest (compared_flaw names text.now number)))
-            (compared param op (value (bytes_of text.now number))) }
-    {
-        let Part {
-            flaw,
-            depth,
-            size,
-            cond,
-        } = self;
-        let number = compared_at(text, number);
-        Part::new(
-            earlier_of(flaw, number.flaw),
-            depth,
-            size,
-            comparison(cond, op, number.value),
-        )
-    }
-
     /// Takes one more phase to those that this condition has.
     pub fn also_in_phase(self, text: &[u8], number: Span) -> Part
         ensures { (names : TermNames) (wrong : Option Wrong) (set : ℕ)
@@ -226,16 +218,6 @@ impl Part {
     }
 }
 
-// A comparison in place of a parameter's truth.
-fn comparison(cond: Cond, op: Op, value: i64) -> Cond
-    ensures { tree_of result ≡ with_comparison op value (tree_of cond) }
-{
-    match cond {
-        Cond::Disc(param) => Cond::Cmp(param, op, value),
-        other => other,
-    }
-}
-
 // One more phase in a set of phases.
 #[tactic(auto, unfolding(ecam_spec::specs::TermNumber::one_phase))]
 fn with_phase(cond: Cond, phase: Phase) -> Cond
@@ -254,4 +236,15 @@ fn kept(is_kept: bool, cond: Cond) -> Cond
     ensures { tree_of result ≡ (if is_kept then tree_of cond else constant false) }
 {
     if is_kept { cond } else { Cond::Const(false) }
+}
+
+// A copy of a tree, or a constant in its place.
+fn copy_if(alloc: Global, is_kept: bool, cond: &Cond) -> Result<Cond, AllocError>
+    ensures { is_kept ≡ true → IfOk result (λ c. tree_of c ≡ tree_of cond.now) }
+{
+    if is_kept {
+        cond.copy(alloc)
+    } else {
+        Ok(Cond::Const(false))
+    }
 }

@@ -10,7 +10,8 @@ use crate::steps::steps_of;
 use std::alloc::Global;
 use term_tree::Cond;
 
-/// Reads a condition's text, whose names are looked up one after the other.
+/// Reads a condition's text, whose names are looked up one after the other. A name by itself that is no parameter's
+/// may be a named condition's, whose tree is copied to its place; a tree that is too deep or too large isn't.
 pub fn read_term(alloc: Global, text: &str, names: &Names<'_>) -> Result<Cond, TermError>
     requires short { length text.now ≤ 4096 }
     requires few_parameters { length names.now.params.now < 2 ^ 32 }
@@ -20,7 +21,8 @@ pub fn read_term(alloc: Global, text: &str, names: &Names<'_>) -> Result<Cond, T
     read_term_by(alloc, text, names)
 }
 
-/// Reads a condition's text, whose names a dictionary finds.
+/// Reads a condition's text, whose names a dictionary finds. Beside them it costs as much as the text is long, and for
+/// each name by itself as much as the named condition is large.
 pub fn read_term_by<D: Dictionary>(alloc: Global, text: &str, names: &D) -> Result<Cond, TermError>
     requires short { length text.now ≤ 4096 }
     requires few_parameters { length (D.known names.now).parameters < 2 ^ 32 }

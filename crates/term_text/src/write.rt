@@ -6,7 +6,7 @@ ghost use Rattle.ecam_spec.specs.TermNames.{IsWithin, AreWithin};
 ghost use Rattle.term_tree.specs.View.{tree_of, trees_of};
 ghost use Rattle.term_text.specs.Known.{known_names};
 ghost use Rattle.term_text.specs.Written.{enclosed, written, listed};
-ghost use Rattle.term_text.specs.Readable.{CanBeRead};
+ghost use Rattle.term_text.specs.Readable.{CanBeRead, TermsCanBeRead};
 
 use crate::names::Names;
 use crate::write_atoms::{
@@ -18,9 +18,11 @@ use term_tree::Cond;
 
 /// The text of a condition that some text means with these names: words, names and numbers without blanks in
 /// them, a blank after each comma and on each side of a comparison's sign, numbers without leading zeros, and
-/// phases rising, each once. It has at most 4096 bytes, and read with the same names it is the condition again.
+/// phases rising, each once. It names no condition. It has at most 4096 bytes, and read with the same names it is
+/// the condition again. The named conditions are ones that can be read without them.
 pub fn write_term(alloc: Global, cond: &Cond, names: &Names<'_>) -> Result<String, AllocError>
-    requires { CanBeRead (known_names names.now) (tree_of cond.now) }
+    requires terms { TermsCanBeRead (known_names names.now) }
+    requires readable { CanBeRead (known_names names.now) (tree_of cond.now) }
     ensures normal { IfOk result (λ t. string_bytes t
         ≡ written (known_names names.now) (tree_of cond.now)) }
     ensures short { IfOk result (λ t. length (string_bytes t) ≤ 4096) }

@@ -1,10 +1,11 @@
 // The tree of a condition, and its measures.
-ghost use Rattle.std.specs.Prelude.{◌≡◌, min};
+ghost use Rattle.std.specs.Prelude.{◌≡◌, min, IfOk};
 ghost use Rattle.ecam_spec.specs.TermSize.{nodes, nodes_of, depth, depth_of, slots, slots_of};
 ghost use Rattle.term_tree.specs.View.{tree_of, trees_of};
 
 use ecam_kinds::{Key, PhaseSet};
 use ecam_spec::Op;
+use std::alloc::{AllocError, Global};
 
 /// A condition on what a flight warning computer knows in each moment, in past-time logic. Parameters and
 /// alerts go by their places in the book.
@@ -122,6 +123,34 @@ impl Cond {
             }
         }
     }
+
+    /// An equal tree. It costs as much as the tree is large. An error is want of memory.
+    #[cycle(copy)]
+    pub fn copy(&self, alloc: Global) -> Result<Cond, AllocError>
+        ensures { IfOk result (λ c. tree_of c ≡ tree_of self.now) }
+    {
+        match self {
+            Cond::Const(value) => Ok(Cond::Const(*value)),
+            Cond::Disc(param) => Ok(Cond::Disc(*param)),
+            Cond::Valid(param) => Ok(Cond::Valid(*param)),
+            Cond::Cmp(param, op, number) => Ok(Cond::Cmp(*param, *op, *number)),
+            Cond::InPhase(phases) => Ok(Cond::InPhase(*phases)),
+            Cond::Alert(alert) => Ok(Cond::Alert(*alert)),
+            Cond::Press(key) => Ok(Cond::Press(*key)),
+            Cond::Fwc(number) => Ok(Cond::Fwc(*number)),
+            Cond::Not(of) => Ok(Cond::Not(boxed_copy(alloc, of)?)),
+            Cond::All(members) => Ok(Cond::All(copies(alloc, members)?)),
+            Cond::Any(members) => Ok(Cond::Any(copies(alloc, members)?)),
+            Cond::AtLeast(least, members) => Ok(Cond::AtLeast(*least, copies(alloc, members)?)),
+            Cond::Conf(of, moments) => Ok(Cond::Conf(boxed_copy(alloc, of)?, *moments)),
+            Cond::Hold(of, moments) => Ok(Cond::Hold(boxed_copy(alloc, of)?, *moments)),
+            Cond::Rise(of) => Ok(Cond::Rise(boxed_copy(alloc, of)?)),
+            Cond::Latch(set, reset) => {
+                let set = boxed_copy(alloc, set)?;
+                Ok(Cond::Latch(set, boxed_copy(alloc, reset)?))
+            }
+        }
+    }
 }
 
 #[cycle(size)]
@@ -155,4 +184,24 @@ fn slots_of_all(members: &[Cond]) -> usize
         sum = sum.saturating_add(member.slots());
     }
     sum
+}
+
+#[cycle(copy)]
+fn boxed_copy(alloc: Global, cond: &Cond) -> Result<Box<Cond>, AllocError>
+    ensures { IfOk result (λ b. tree_of b.value ≡ tree_of cond.now) }
+{
+    let copy = cond.copy(alloc)?;
+    Ok(Box::new(alloc, copy)?)
+}
+
+#[cycle(copy)]
+fn copies(alloc: Global, members: &[Cond]) -> Result<Vec<Cond>, AllocError>
+    ensures { IfOk result (λ v. trees_of v.items ≡ trees_of members.now) }
+{
+    let mut copies = Vec::new(alloc);
+    for member in members {
+        let copy = member.copy(alloc)?;
+        copies.push(copy)?;
+    }
+    Ok(copies)
 }

@@ -3,6 +3,8 @@
 #![tactic(auto)]
 
 #[cfg(test)]
+mod named;
+#[cfg(test)]
 mod reading;
 #[cfg(test)]
 mod writing;

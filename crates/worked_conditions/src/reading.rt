@@ -10,7 +10,7 @@ use term_tree::{Cond, Op};
 
 // What a text is answered with.
 #[derive(Clone, Copy, Debug, PartialEq, Eq)]
-enum Told {
+pub(crate) enum Told {
     Read,
     Syntax(usize),
     Unknown(usize),
@@ -183,7 +183,7 @@ const TEXTS: [(&str, Told); 147] = [
     ("press(CLR\u{e9})", Told::Syntax(9)),
 ];
 
-fn name(text: &str) -> Result<ArrayString<24>, Fail> {
+pub(crate) fn name(text: &str) -> Result<ArrayString<24>, Fail> {
     match ArrayString::from(text) {
         Ok(name) => Ok(name),
         Err(_) => Err(Fail::from("no name")),
@@ -204,12 +204,13 @@ fn answer(alloc: Global, text: &str) -> Result<Result<Cond, TermError>, Fail> {
     let names = Names {
         params: &params,
         alerts: &alerts,
+        terms: &[],
     };
     Ok(read_term(alloc, text, &names))
 }
 
-fn verdict_on(alloc: Global, text: &str) -> Result<Told, Fail> {
-    Ok(match answer(alloc, text)? {
+pub(crate) fn told_by(answer: Result<Cond, TermError>) -> Told {
+    match answer {
         Ok(_) => Told::Read,
         Err(TermError::Syntax { at }) => Told::Syntax(at),
         Err(TermError::UnknownName { at }) => Told::Unknown(at),
@@ -217,7 +218,11 @@ fn verdict_on(alloc: Global, text: &str) -> Result<Told, Fail> {
         Err(TermError::TooDeep) => Told::Deep,
         Err(TermError::TooLarge) => Told::Large,
         Err(TermError::Memory) => Told::Memory,
-    })
+    }
+}
+
+fn verdict_on(alloc: Global, text: &str) -> Result<Told, Fail> {
+    Ok(told_by(answer(alloc, text)?))
 }
 
 fn is_tree(alloc: Global, text: &str, tree: Cond) -> Result<bool, Fail> {
@@ -228,7 +233,7 @@ fn is_tree(alloc: Global, text: &str, tree: Cond) -> Result<bool, Fail> {
 }
 
 // A text inside so many `not(..)`.
-fn nested(alloc: Global, inner: &str, levels: usize) -> Result<String, Fail> {
+pub(crate) fn nested(alloc: Global, inner: &str, levels: usize) -> Result<String, Fail> {
     let mut text = String::new(alloc);
     for _ in 0..levels {
         text.push_str("not(")?;
@@ -241,7 +246,7 @@ fn nested(alloc: Global, inner: &str, levels: usize) -> Result<String, Fail> {
 }
 
 // `all(..)` of so many conditions, one or more.
-fn many(alloc: Global, count: usize) -> Result<String, Fail> {
+pub(crate) fn many(alloc: Global, count: usize) -> Result<String, Fail> {
     let mut text = String::from_str(alloc, "all(g_lo")?;
     for _ in 1..count {
         text.push_str(",g_lo")?;
@@ -346,6 +351,7 @@ fn the_first_of_two_equal_names_counts(rt: HostRuntime) -> Result<(), Fail> {
     let names = Names {
         params: &params,
         alerts: &alerts,
+        terms: &[],
     };
     let tree = match read_term(rt.alloc(), "g_lo", &names) {
         Ok(cond) => cond,

@@ -1,4 +1,7 @@
 // Conditions of every form, read and then written.
+ghost use Rattle.term_text.specs.Known.{known_names};
+ghost use Rattle.term_text.specs.Readable.{TermsCanBeRead};
+
 use arrayvec::ArrayString;
 use std::alloc::Global;
 use std::test::Fail;
@@ -69,7 +72,9 @@ fn names_of(alloc: Global, names: &[&str]) -> Result<Vec<ArrayString<24>>, Fail>
 
 // The condition of a text, written again.
 #[tactic(auto, using(term_text::proofs::WritableTrees::can_be_read))]
-fn rewritten(alloc: Global, text: &str, names: &Names<'_>) -> Result<String, Fail> {
+fn rewritten(alloc: Global, text: &str, names: &Names<'_>) -> Result<String, Fail>
+    requires { TermsCanBeRead (known_names names.now) }
+{
     if text.len() > 4096 || names.params.len() > 1024 || names.alerts.len() > 1024 {
         return Err("too long".into());
     }
@@ -87,6 +92,7 @@ fn what_is_read_is_written(rt: HostRuntime) -> Result<(), Fail> {
     let names = Names {
         params: &params,
         alerts: &alerts,
+        terms: &[],
     };
     for (text, want) in ROWS {
         assert_eq!(rt; rewritten(alloc, text, &names)?.as_str(), want, "{text}");

@@ -1,5 +1,5 @@
 -- The books of the worked rows, as plain data.
-use Rattle.std.specs.Prelude.{ℕ, ◌-◌, ◌^◌, true, false, List, [], ◌∷◌, ◌++◌, map, sum_by, Some, None, pos, codes, decimal}
+use Rattle.std.specs.Prelude.{ℕ, ◌-◌, ◌^◌, true, false, List, [], ◌∷◌, ◌++◌, map, replicate, sum_by, Some, None, pos, codes, decimal}
 use Rattle.ecam_spec.specs.declared.kinds.Key.TheVariants.{ToCfg}
 use Rattle.ecam_spec.specs.declared.kinds.Op.TheVariants.{Less}
 use Rattle.ecam_spec.specs.declared.kinds.Colour.TheVariants.{Green, Cyan}
@@ -70,6 +70,10 @@ book_a = hydraulics (low_level ∷ []) (reservoir One (discrete 0) ∷ [])
 -- Book B: the same alert of level 2
 abbrev pub book_b : Book
 book_b = hydraulics (low_level ∷ []) (reservoir Two (discrete 0) ∷ [])
+
+-- Book A with the same alert seventeen times
+abbrev pub book_of_seventeen : Book
+book_of_seventeen = hydraulics (low_level ∷ []) (replicate 17 (reservoir One (discrete 0)))
 
 -- Book A or B with the alert confirmed for three moments
 abbrev pub book_confirmed : Level → Book

@@ -5,3 +5,4 @@ pub mod Books
 pub mod DisplayBooks
 pub mod Signals
 pub mod Flights
+pub mod CalloutRows

@@ -4,11 +4,13 @@
 //! a line's end.
 #![tactic(auto, unfolding(ecam_spec::specs::Opened::opened))]
 
+pub mod callouts;
 pub mod computers;
 pub mod conditions;
 pub mod keys;
 pub mod lamps;
 pub mod memos;
+pub mod own_words;
 pub mod page_keys;
 pub mod pages;
 pub mod phases;

@@ -4,6 +4,7 @@ use Rattle.book_checker.proofs.sealing.fault_by.Goals as goal
 pub returns : goal.returns
 returns c =
     rw (
+      c.or-9.ensures,
       c.or-8.ensures,
       c.or-7.ensures,
       c.or-6.ensures,
@@ -14,6 +15,7 @@ returns c =
       c.or.ensures,
       c.phase_fault.ensures,
       c.alert_fault.ensures,
+      c.named_fault.ensures,
       c.phase_fault-2.ensures,
       c.alert_fault-2.ensures,
       c.memo_fault.ensures,
@@ -23,5 +25,6 @@ returns c =
       c.alert_fault-6.ensures,
       c.as_slice-alerts.ensures.value,
       c.as_slice.ensures.value,
+      c.as_slice-2.ensures.value,
     )
     (told c.args.draft.now c.as_slice-params.result c.args.places c.as_slice-params.ensures.value)

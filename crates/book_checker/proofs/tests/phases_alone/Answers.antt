@@ -15,6 +15,7 @@ returns c =
       systems = c.new.result;
       pages = c.new-2.result;
       params = c.new-3.result;
+      terms = c.new-4.result;
       phase = record {
         gnd = c.term.result;
         run = c.term-2.result;
@@ -23,10 +24,10 @@ returns c =
         high = c.term-5.result;
         low = c.term-6.result;
       };
-      alerts = c.new-4.result;
-      memos = c.new-5.result;
+      alerts = c.new-5.result;
+      memos = c.new-6.result;
     } in
-    sound_alone d c.new.ensures.items c.new-2.ensures.items c.new-3.ensures.items c.new-4.ensures.items c.new-5.ensures.items
+    sound_alone d c.new.ensures.items c.new-2.ensures.items c.new-3.ensures.items c.new-4.ensures.items c.new-5.ensures.items c.new-6.ensures.items
     (record {
       gnd = sound_as _ _ c.term.ensures c.requires;
       run = sound_as _ _ c.term-2.ensures (constant_sound false);

@@ -6,4 +6,4 @@ use Rattle.book_faults.proofs.FirstItems.{first_after}
 use Rattle.book_faults.proofs.searches.first_counted_twice.Given as goal
 
 abbrev pub invariant-loop-i : goal.invariant-loop-i
-invariant-loop-i l = first_item (λ i n. is_repeated (texts_of l.names) n) (texts_of l.names) ≡ first_after (λ s. s.now) (is_repeated (texts_of l.names)) l.names l.i
+invariant-loop-i l = first_item (λ i n. is_repeated (texts_of l.names) n) (texts_of l.names) ≡ first_after (λ s. s.now) (λ i n. is_repeated (texts_of l.names) n) l.names l.i

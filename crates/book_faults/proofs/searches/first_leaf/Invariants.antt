@@ -8,4 +8,4 @@ use Rattle.book_faults.proofs.FirstItems.{first_after}
 use Rattle.book_faults.proofs.searches.first_leaf.Given as goal
 
 abbrev pub invariant-loop-i : goal.invariant-loop-i
-invariant-loop-i l = first_item (λ i d. leaf_fails (names_in l.names) l.asked l.leaf d) (views l.values) ≡ first_after view (leaf_fails (names_in l.names) l.asked l.leaf) l.values l.i
+invariant-loop-i l = first_item (λ i d. leaf_fails (names_in l.names) l.asked l.leaf d) (views l.values) ≡ first_after view (λ i d. leaf_fails (names_in l.names) l.asked l.leaf d) l.values l.i

@@ -14,7 +14,7 @@ pub push_condition-requires : goal.push_condition-requires
 push_condition-requires c =
     let names = c.args.names.now in
     let tree = tree_of c.args.cond.now in
-    let there = names_there (known_names names) tree c.requires in
+    let there = names_there (known_names names) c.requires.terms tree c.requires.readable in
     subst (λ (n : ℕ). IsWithin n (length names.alerts.now) tree) (length-map names.params.now (λ n. n.bytes))
     (subst (λ (n : ℕ). IsWithin (length (texts_of names.params.now)) n tree) (length-map names.alerts.now (λ n. n.bytes)) there)
 
@@ -23,11 +23,11 @@ returns-clause-short c =
     let names = known_names c.args.names.now in
     let tree = tree_of c.args.cond.now in
     let e : string_bytes c.push_condition.new.text ≡ written names tree = c.in_ok-push_condition.ensures ∙ ap (λ (t : Text). t ++ written names tree) c.new-text.ensures.bytes in
-    subst (λ (t : Text). length t ≤ 4096) (sym e) (text_short names tree c.requires)
+    subst (λ (t : Text). length t ≤ 4096) (sym e) (text_short names c.requires.terms tree c.requires.readable)
 
 pub returns-clause-reads_back : goal.returns-clause-reads_back
 returns-clause-reads_back c =
     let names = known_names c.args.names.now in
     let tree = tree_of c.args.cond.now in
     let e : string_bytes c.push_condition.new.text ≡ written names tree = c.in_ok-push_condition.ensures ∙ ap (λ (t : Text). t ++ written names tree) c.new-text.ensures.bytes in
-    subst (λ (t : Text). IsVerdict names t (means tree)) (sym e) (text_means names tree c.requires)
+    subst (λ (t : Text). IsVerdict names t (means tree)) (sym e) (text_means names c.requires.terms tree c.requires.readable)

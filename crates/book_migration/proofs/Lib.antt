@@ -1,0 +1,5 @@
+pub mod Versions
+pub mod SameParts
+pub mod SameFaults
+pub mod Found
+pub mod Depths

@@ -1,0 +1,9 @@
+use Rattle.std.proofs.Common.{◌≡◌, take}
+use Rattle.toml.specs.View.{table_view}
+use Rattle.term_tree.specs.View.{named_terms}
+use Rattle.book_spec.specs.Document.{named_among}
+use Rattle.book_tables.specs.Reading.{views}
+use Rattle.book_tables.proofs.catalogue.named_terms.Given as goal
+
+abbrev pub invariant-loop-item : goal.invariant-loop-item
+invariant-loop-item l = named_terms l.terms.items ≡ named_among (table_view l.places.top.now) (views (take l.item-index l.items))
