@@ -8,7 +8,7 @@ use Rattle.std.proofs.lemmas.List.Elements.{All-cons, All-nil}
 use Rattle.ecam_spec.specs.declared.kinds.Section.{Section}
 use Rattle.ecam_spec.specs.declared.kinds.Section.TheVariants as section
 use Rattle.ecam_spec.specs.BookTerms.{phase_terms, line_terms}
-use Rattle.ecam_spec.specs.Book.{Text, Alert}
+use Rattle.ecam_spec.specs.Book.{Text, Alert, NamedTerm}
 use Rattle.ecam_spec.specs.Bytes.{place_of}
 use Rattle.ecam_spec.specs.Draft.{DraftAlert, Draft as PlainDraft, alert_names, book_of, resolved}
 use Rattle.ecam_spec.specs.Faults.{first_from, first_item, fault_at, whole}
@@ -55,13 +55,14 @@ module _ (names : List Text) where
   later-from n (x ∷ xs) none (suc i) k own at there = later-from (suc n) xs (not-here _ (suc n) (first_from (suc n) _ xs) none).1 i k own (omega arith) there
 
 module _ (d : PlainDraft) (faultless : draft_fault d ≡ None) where
-  -- the eighth fault that is looked for isn't there, since none is
+  -- the ninth fault that is looked for isn't there, since none is
   none-early : first_item (λ i (x : DraftAlert). list_any (stands_early (alert_names d.alerts) i) x.secondary) d.alerts ≡ None
   unfolding draft_fault
   none-early =
       let one = rest-none (fault_at 20 section.Phase (whole (list_any (has_atom asks_phase_or_alert) (phase_terms d.phase)))) _ faultless in
       let two = rest-none (at_alert d 21 (λ i a. has_atom (asks_alert_from i) a.when)) _ one in
-      let three = rest-none (fault_at 22 section.Phase (whole (one_misreads (kinds_of d) (phase_terms d.phase)))) _ two in
+      let named = rest-none (fault_at 22 section.Term (first_item (λ i (t : NamedTerm). has_atom (misreads (kinds_of d)) t.tree) d.terms)) _ two in
+      let three = rest-none (fault_at 22 section.Phase (whole (one_misreads (kinds_of d) (phase_terms d.phase)))) _ named in
       let four = rest-none (at_alert d 22 (λ i a. one_misreads (kinds_of d) (a.when ∷ line_terms a.lines))) _ three in
       let five = rest-none (fault_at 22 section.Memo (first_item (λ i m. has_atom (misreads (kinds_of d)) m.when) d.memos)) _ four in
       let six = rest-none (at_alert d 23 (λ i a. not (may_sound a.level a.sound))) _ five in

@@ -1,22 +1,41 @@
 -- One alert more is stepped, and the moment ends.
-use Rattle.std.proofs.Common.{◌≡◌, ℕ, zero, suc, ◌<◌, Bool, true, false, not, ◌&&◌, List, length, get_or, replicate, Option, None, cond, inl, inr, refl, sym, ap, ◌∙◌, subst, arith}
-use Rattle.std.specs.Prelude.{is_some, find, ◌↔◌}
+use Rattle.std.proofs.Common.{◌≡◌, ℕ, zero, suc, ◌<◌, Bool, true, false, not, ◌&&◌, List, length, get_or, replicate, Option, Some, None, cond, inl, inr, refl, sym, ap, ◌∙◌, subst, arith}
+use Rattle.std.specs.Prelude.{is_some, is_none, find, ◌↔◌}
 use Rattle.std.specs.List.{list_any}
-use Rattle.std.proofs.lemmas.Bool.{cases_lt}
+use Rattle.std.proofs.lemmas.Bool.{cases_lt, cases_eq, eq-eqb, ne_eqb}
 use Rattle.std.proofs.lemmas.List.{length-set, get_or-set_same, get_or-set_other, get_or-replicate}
-use Rattle.ecam_spec.specs.Past.{Signal, previous, running_since, previously}
+use Rattle.ecam_spec.specs.Past.{Signal, previous, running_since, start_of, previously}
+use Rattle.ecam_spec.proofs.PastRuns.{running_since-start}
+use Rattle.wakes.specs.Marks.{is_marked}
 use Rattle.ecam_spec.specs.Book.{Book}
 use Rattle.ecam_spec.specs.Alert as alert
 use Rattle.ecam_spec.specs.Situation.{alert_at, primaries}
 use Rattle.alert_truth.specs.Alerts.{Tells, inhibited, present, active, waiting, starred, starred_by, up}
 use Rattle.alert_truth.specs.Stars.{StarsFit, StarsStand}
-use Rattle.alert_truth.specs.TruthsState.{TruthsFit, TruthsStand, HalfStand, IsStepped, IsStill, Unchanged}
+use Rattle.alert_truth.specs.TruthsState.{TruthsFit, TruthsStand, HalfStand, IsStepped, IsStill, Unchanged, is_restless}
 use Rattle.alert_truth.specs.Noting.{Notes}
 use Rattle.alert_truth.specs.declared.stars.Stars.{Stars}
 use Rattle.alert_truth.specs.declared.truths.Truths.{Truths}
 use Rattle.alert_truth.proofs.Listings.{find-is_some}
-use Rattle.alert_truth.proofs.Staying.{IsSame}
+use Rattle.alert_truth.proofs.Staying.{IsSame, stays-same}
 use Rattle.alert_truth.proofs.Starring.{still-by}
+
+-- a note of one alert leaves the others, and its own place tells whether it is restless now
+notes-restless : (b : Book) (i a : ℕ) (start : Option ℕ) (is_present is_active : Bool) (old new : Truths) → Notes i start is_present is_active old new → TruthsFit b old → a < length b.alerts
+    → is_marked new.restless a ≡ is_restless new a
+notes-restless b i a start is_present is_active old new notes fits within = elim (cases_eq a i) [
+  | inl same ↦
+      let inside : i < length b.alerts = omega (arith, same) in
+      subst (λ n. is_marked new.restless n ≡ is_restless new n) (sym same)
+      (notes.restless i ∙ ap (λ t. cond t (is_some start && not is_active) (is_marked old.restless i)) (eq-eqb i i refl)
+      ∙ sym (ap (λ (o : Option ℕ). is_some o && not (get_or new.active.items i false)) (ap (λ xs. get_or xs i None) notes.since ∙ get_or-set_same old.since.items i start None (omega (arith, fits.since, inside)))
+      ∙ ap (λ x. is_some start && not x) (ap (λ xs. get_or xs i false) notes.active ∙ get_or-set_same old.active.items i is_active false (omega (arith, fits.active, inside)))))
+  | inr apart ↦
+      notes.restless a ∙ ap (λ t. cond t (is_some start && not is_active) (is_marked old.restless a)) (ne_eqb a i apart)
+      ∙ fits.restless a within
+      ∙ sym (ap (λ (o : Option ℕ). is_some o && not (get_or new.active.items a false)) (ap (λ xs. get_or xs a None) notes.since ∙ get_or-set_other old.since.items i a start None apart)
+      ∙ ap (λ x. is_some (get_or old.since.items a None) && not x) (ap (λ xs. get_or xs a false) notes.active ∙ get_or-set_other old.active.items i a is_active false apart))
+]
 
 -- the places stay
 pub notes-fits : (b : Book) (i : ℕ) (start : Option ℕ) (is_present is_active : Bool) (old new : Truths) → Notes i start is_present is_active old new → TruthsFit b old → TruthsFit b new
@@ -25,6 +44,8 @@ notes-fits b i start is_present is_active old new notes fits = record {
   present = ap length notes.present ∙ length-set old.present.items i is_present ∙ fits.present;
   active = ap length notes.active ∙ length-set old.active.items i is_active ∙ fits.active;
   waiting = ap length notes.waiting ∙ length-set old.waiting.items i _ ∙ fits.waiting;
+  room = notes.room ∙ fits.room;
+  restless = λ a within. notes-restless b i a start is_present is_active old new notes fits within;
   stars = subst (StarsFit b) (sym notes.stars) fits.stars;
 }
 
@@ -132,6 +153,23 @@ module _ (b : Book) (conditions : ℕ → Signal) (phases : ℕ → ℕ) where
         );
         changed = half.changed;
       }
+
+  -- one that isn't restless stays as it is where its condition holds where it held
+  stays-by : (holds : Bool) (was : Bool) (since : Option ℕ) (start : ℕ) → since ≡ cond holds (Some start) None → (is_some since && not was) ≡ false → cond holds was (is_none since) ≡ true
+  stays-by true true since start is rests = refl
+  stays-by true false since start is rests = absurd (let w : ⊥ = (let clash : true ≡ false = sym (ap (λ (o : Option ℕ). is_some o && true) is) ∙ rests in cc) in w)
+  stays-by false was since start is rests = ap is_none is
+
+  pub half-rests : (h i : ℕ) (t : Truths) → i < length b.alerts → conditions i (suc h) ≡ conditions i h → is_marked t.restless i ≡ false
+      → HalfStand b conditions phases (suc h) i t → HalfStand b conditions phases (suc h) (suc i) t
+  half-rests h i t within same off half =
+      let left = half.left i (omega arith) within in
+      half-stays (suc h) i t within
+      (stays-same (inhibited b conditions phases i) (conditions i) (alert_at b i).confirm (suc h) (conditions i (suc h)) (get_or t.active.items i false) (get_or t.since.items i None) refl left.active left.since
+      (stays-by (conditions i (suc h)) (get_or t.active.items i false) (get_or t.since.items i None) (start_of (conditions i) h)
+      (left.since ∙ running_since-start (conditions i) h ∙ ap (λ c. cond c (Some (start_of (conditions i) h)) None) (sym same))
+      (sym (half.fits.restless i within) ∙ off)))
+      half
 
   star-some : (x : Bool) (q : ℕ → Bool) (ps : List ℕ) → is_some (cond (x && list_any q ps) (find q ps) None) ≡ (x && list_any q ps)
   star-some false q ps = refl

@@ -1,7 +1,8 @@
 -- What the truths of a book's alerts say of the moments so far.
-use Rattle.std.specs.Prelude.{◌≡◌, ◌↔◌, ℕ, suc, ◌<◌, ◌≤◌, ◌^◌, false, length, get_or, None}
+use Rattle.std.specs.Prelude.{◌≡◌, ◌↔◌, ℕ, suc, ◌<◌, ◌≤◌, ◌+◌, ◌*◌, ◌/◌, ◌^◌, Bool, false, not, ◌&&◌, length, get_or, None, is_some}
 use Rattle.ecam_spec.specs.Past.{Signal, previous, running_since, previously}
 use Rattle.ecam_spec.specs.Book.{Book}
+use Rattle.wakes.specs.Marks.{is_marked, room}
 use Rattle.alert_truth.specs.Alerts.{present, active, waiting, starred, starred_by, up}
 use Rattle.alert_truth.specs.Stars.{StarsFit, StarsStand}
 use Rattle.alert_truth.specs.declared.truths.Truths.{Truths}
@@ -10,12 +11,18 @@ use Rattle.alert_truth.specs.declared.truths.Truths.{Truths}
 abbrev pub CanGoOn : Truths → Type 0
 CanGoOn t = t.moments < 2 ^ 63
 
--- the truths were made for the book
+-- alert a can change without its condition: that held in the moment before, and the alert isn't active
+abbrev pub is_restless : Truths → ℕ → Bool
+is_restless t a = is_some (get_or t.since.items a None) && not (get_or t.active.items a false)
+
+-- the truths were made for the book, and the restless alerts are known
 pub record TruthsFit (b : Book) (t : Truths) : Type 0 where
   pub since : length t.since.items ≡ length b.alerts
   pub present : length t.present.items ≡ length b.alerts
   pub active : length t.active.items ≡ length b.alerts
   pub waiting : length t.waiting.items ≡ length b.alerts
+  pub room : room t.restless ≡ 64 * (length b.alerts / 64 + 1)
+  pub restless : (a : ℕ) → a < length b.alerts → is_marked t.restless a ≡ is_restless t a
   pub stars : StarsFit b t.stars
 
 -- over any truths of the conditions, and any phases

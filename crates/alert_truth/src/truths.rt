@@ -1,21 +1,23 @@
 // The truths of all alerts.
-ghost use Rattle.std.specs.Prelude.{◌≡◌, ◌↔◌, ℕ, suc, ◌+◌, ◌<◌, ◌≤◌, false, length, set, get_or, slice_index_or, is_none, Option, None, IfOk, if◌then◌else◌};
+ghost use Rattle.std.specs.Prelude.{◌≡◌, ◌↔◌, ℕ, suc, ◌+◌, ◌<◌, ◌≤◌, ◌==◌, false, length, set, get_or, slice_index_or, is_none, Option, None, IfOk, if◌then◌else◌};
 ghost use Rattle.ecam_spec.specs.Past.{Signal, previously};
 ghost use Rattle.ecam_spec.specs.Book as plain;
 ghost use Rattle.book_model.specs.Sealed.{the_book};
 ghost use Rattle.alert_truth.specs.Alerts.{Tells, present, active, waiting, starred, starred_by, up};
 ghost use Rattle.alert_truth.specs.TruthsState.{TruthsFit, TruthsStand, HalfStand, Unchanged, CanGoOn};
 ghost use Rattle.alert_truth.specs.Noting.{HasAlert, Notes};
+ghost use Rattle.wakes.specs.Marks.{is_marked, room};
 
 use crate::run::{is_active, is_present, since_when};
 use crate::stars::Stars;
 use book_model::Book;
 use ecam_kinds::Phase;
 use std::alloc::{AllocError, Global};
+use wakes::Marked;
 
 /// Per alert of a book, whether it is present, active, waiting, starred and up. In each moment `step_one` is called
-/// for each alert in the book's order, and then `settle`. Memory is taken in `new` alone, and nothing grows with the
-/// history.
+/// for each alert in the book's order, and then `settle`; an alert that isn't restless may be passed over where its condition
+/// holds where it held. Memory is taken in `new` alone, and nothing grows with the history.
 #[derive(Drop)]
 pub struct Truths {
     // How many moments have ended.
@@ -25,6 +27,8 @@ pub struct Truths {
     present: Vec<bool>,
     active: Vec<bool>,
     waiting: Vec<bool>,
+    // The alerts whose condition held in the moment before, and which aren't active.
+    restless: Marked,
     stars: Stars,
     // Some alert has become another in the moment that hasn't ended.
     changing: bool,
@@ -48,6 +52,7 @@ impl Truths {
             present: vec![in alloc; false; alerts]?,
             active: vec![in alloc; false; alerts]?,
             waiting: vec![in alloc; false; alerts]?,
+            restless: Marked::new(alloc, alerts)?,
             stars: Stars::new(alloc, alerts)?,
             changing: false,
             changed: false,
@@ -68,6 +73,7 @@ impl Truths {
         self.present.fill(false);
         self.active.fill(false);
         self.waiting.fill(false);
+        self.restless.clear();
         self.stars.clear();
         self.changing = false;
         self.changed = false;
@@ -89,6 +95,7 @@ impl Truths {
         self.present.copy_from_slice(&other.present);
         self.active.copy_from_slice(&other.active);
         self.waiting.copy_from_slice(&other.waiting);
+        self.restless.copy_from(&other.restless);
         self.stars.copy_from(&other.stars);
         self.changing = other.changing;
         self.changed = other.changed;
@@ -150,6 +157,7 @@ impl Truths {
         put_flag(&mut self.present, alert, present);
         put_flag(&mut self.active, alert, active);
         put_flag(&mut self.waiting, alert, present && !active);
+        put_mark(&mut self.restless, alert, since.is_some() && !active);
         self.changing |= (present != was_present) | (active != was_active);
     }
 
@@ -242,6 +250,14 @@ impl Truths {
         }
     }
 
+    /// The alerts that change without their condition: those whose condition held in the moment before, and which aren't
+    /// active. They wait for their confirmation, or for a phase that doesn't inhibit them.
+    pub fn restless(&self) -> &Marked
+        ensures { result.now ≡ self.now.restless }
+    {
+        &self.restless
+    }
+
     /// Whether anything that the calls above tell changed in the last moment, for some alert: it is `false` exactly
     /// where each of them tells what it told a moment earlier. Before the first moment nothing has changed.
     pub fn changed(&self) -> bool
@@ -261,6 +277,20 @@ fn put_flag(flags: &mut Vec<bool>, place: usize, flag: bool)
 {
     if flags[place] != flag {
         flags[place] = flag;
+    }
+}
+
+// Puts a number in or takes it out.
+fn put_mark(marks: &mut Marked, place: usize, on: bool)
+    requires { place < room marks.old }
+    ensures room { room marks.new ≡ room marks.old }
+    ensures marks { (j : ℕ) → is_marked marks.new j
+        ≡ (if j == place then on else is_marked marks.old j) }
+{
+    if on {
+        marks.mark(place);
+    } else {
+        marks.unmark(place);
     }
 }
 

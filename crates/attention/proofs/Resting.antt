@@ -1,5 +1,5 @@
 -- A moment in which nothing comes leaves what is kept of each alert, and what they call for.
-use Rattle.std.proofs.Common.{◌≡◌, ℕ, suc, Bool, true, false, not, ◌&&◌, ◌||◌, Some, cond, refl, sym, ◌∙◌, ap}
+use Rattle.std.proofs.Common.{◌≡◌, ℕ, zero, suc, Bool, true, false, not, ◌&&◌, ◌||◌, Some, cond, refl, sym, ◌∙◌, ap}
 use Rattle.std.specs.Prelude.{option_map}
 use Rattle.ecam_spec.specs.Past.{previous, rise}
 use Rattle.ecam_spec.specs.Alert.{onset}
@@ -11,7 +11,9 @@ use Rattle.ecam_spec.proofs.LampLaws.{last_onset-suc, open_now}
 use Rattle.attention.specs.declared.calls.Calls.{Calls}
 use Rattle.attention.specs.Watches.{watch_after}
 use Rattle.attention.specs.Calling.{AreCalls, chimes_in}
-use Rattle.attention.specs.State.{NothingComes}
+use Rattle.ecam_spec.specs.Book.{Book}
+use Rattle.attention.specs.declared.state.Attention.{Attention}
+use Rattle.attention.specs.State.{AreStill, NothingComes, AttentionStands}
 use Rattle.attention.proofs.Passing.{find-agree, any-agree}
 
 same-before : (x y : Bool) → x ≡ y → (x && not y) ≡ false
@@ -56,3 +58,10 @@ module _ (a : lamps.Attention) (k : ℕ) (nothing : NothingComes a k) where
         caution = are.caution ∙ any-agree (λ i. is_two (a.level i) && lamps.calls a i k) (λ i. is_two (a.level i) && lamps.calls a i (suc k)) (λ i. ap (λ x. is_two (a.level i) && x) (sym (same-calls i))) (a.shown k);
         chime = λ j. are.chime j ∙ any-agree (chimes_in a k j) (chimes_in a (suc k) j) (λ i. rw (same-calls i, same-onset i) refl) (a.shown k);
       })
+
+-- a moment in which each alert is up and shown as before, and no press acknowledges
+pub still-rests : (b : Book) (a : lamps.Attention) (k : ℕ) (old new : Attention) → (old.moments ≡ 0 → ⊥) → AreStill a k → a.mw k ≡ false → a.mc k ≡ false → a.emer k ≡ false
+    → ((j : ℕ) → NothingComes a j → AttentionStands b a (suc j) old → AttentionStands b a (suc (suc j)) new) → AttentionStands b a k old → AttentionStands b a (suc k) new
+still-rests b a zero old new begun still mw mc emer rest stands = absurd (begun stands.moments)
+still-rests b a (suc j) old new begun still mw mc emer rest stands =
+    rest j (record { up = still.up j refl; shown = still.shown j refl; mw = mw; mc = mc; emer = emer }) stands

@@ -43,6 +43,11 @@ pub record NothingComes (a : lamps.Attention) (k : ℕ) : Type 0 where
   pub mc : a.mc (suc k) ≡ false
   pub emer : a.emer (suc k) ≡ false
 
+-- in moment k what is up and shown is so as in the moment before
+pub record AreStill (a : lamps.Attention) (k : ℕ) : Type 0 where
+  pub up : (j : ℕ) → k ≡ suc j → (i : ℕ) → a.up i k ≡ a.up i j
+  pub shown : (j : ℕ) → k ≡ suc j → a.shown k ≡ a.shown j
+
 -- the lights and the sound in the last of k moments; before the first there are none
 abbrev pub lights_after : lamps.Attention → ℕ → Lights
 lights_after a zero = record { warn = false; caut = false; sound = Quiet }

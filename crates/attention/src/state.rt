@@ -1,9 +1,9 @@
 // The lights and the sound.
-ghost use Rattle.std.specs.Prelude.{◌≡◌, ◌↔◌, ℕ, suc, ◌+◌, length, IfOk, false};
+ghost use Rattle.std.specs.Prelude.{◌≡◌, ◌↔◌, ℕ, suc, ◌+◌, length, IfOk, false, true};
 ghost use Rattle.ecam_spec.specs.Book as plain;
 ghost use Rattle.ecam_spec.specs.Lamps as lamps;
 ghost use Rattle.book_model.specs.Sealed.{the_book};
-ghost use Rattle.attention.specs.State.{AttentionFits, CanGoOn, AreOfBook, Brings, NothingComes, AttentionStands, lights_after, lights_of, TellsChange};
+ghost use Rattle.attention.specs.State.{AttentionFits, CanGoOn, AreOfBook, Brings, AreStill, NothingComes, AttentionStands, lights_after, lights_of, TellsChange};
 
 use crate::calls::Calls;
 use crate::moment::{Moment, Presses};
@@ -121,6 +121,37 @@ impl Attention {
             → AttentionStands b a (suc k) self.old → AttentionStands b a (suc (suc k)) self.new }
     {
         self.hear(self.calls);
+    }
+
+    /// Takes one moment more like `step`, where each alert is up and shown as in the moment before. It looks at no alert
+    /// unless a press acknowledges or the moment is the first.
+    pub fn step_still(&mut self, book: &Book, up: &[bool], shown: &[bool], keys: &Keys)
+        requires fits { AttentionFits (the_book book.now) self.old }
+        requires goes_on { CanGoOn self.old }
+        requires up { length up.now ≡ length book.now.alerts.items }
+        requires shown { length shown.now ≡ length book.now.alerts.items }
+        ensures fits { AttentionFits (the_book book.now) self.new }
+        ensures moments { self.new.moments ≡ self.old.moments + 1 }
+        ensures stands { (a : lamps.Attention) (k : ℕ) → AreOfBook (the_book book.now) a
+            → Brings (the_book book.now) a k up.now shown.now keys.now → AreStill a k
+            → AttentionStands (the_book book.now) a k self.old
+            → AttentionStands (the_book book.now) a (suc k) self.new }
+    {
+        if self.must_look(Presses::among(keys)) {
+            self.step(book, up, shown, keys);
+            return;
+        }
+        self.rest();
+    }
+
+    // Whether a moment with these presses takes a look at the alerts, even where each is up and shown as before.
+    fn must_look(&self, presses: Presses) -> bool
+        ensures first { self.now.moments ≡ 0 → result ≡ true }
+        ensures mw { result ≡ false → presses.mw ≡ false }
+        ensures mc { result ≡ false → presses.mc ≡ false }
+        ensures emer { result ≡ false → presses.emer ≡ false }
+    {
+        self.moments == 0 || presses.mw || presses.mc || presses.emer
     }
 
     // One moment more, with these calls.

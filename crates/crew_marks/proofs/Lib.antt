@@ -4,3 +4,5 @@ pub mod Walking
 pub mod Stretches
 pub mod Crews
 pub mod Stepping
+pub mod Resting
+pub mod Ending

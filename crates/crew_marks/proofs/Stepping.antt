@@ -116,6 +116,12 @@ walked-steps b ups waits x y before old sets found same acts many marks first = 
   first = first;
 }
 
+-- the same, where the sets and the first are known by other names
+pub ended-steps : (b : Book) (ups waits : List Bool) (x : Actions) (old new : CrewMarks) (sets : MarkSets) (found : Option ℕ) → new.sets ≡ sets → new.first ≡ found
+    → IsStepped b ups waits x old sets found → IsStepped b ups waits x old new.sets new.first
+ended-steps b ups waits x old new sets found same first step =
+    subst (λ (s : MarkSets). IsStepped b ups waits x old s new.first) (sym same) (subst (IsStepped b ups waits x old sets) (sym first) step)
+
 -- whether the alert is shown, where ca is that it is cancelled, u that it is up, s that it is struck, w that it was
 -- cleared, r that RCL is pressed, v that it waits, and p that it was recalled
 abbrev shows : Bool → Bool → Bool → Bool → Bool → Bool → Bool → Bool

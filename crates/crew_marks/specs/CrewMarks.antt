@@ -1,9 +1,10 @@
 -- What is kept of the crew's actions, as plain data.
-use Rattle.std.specs.Prelude.{ℕ, ◌^◌, ◌<◌, Bool, false, ◌&&◌, Option, get_or}
+use Rattle.std.specs.Prelude.{◌≡◌, ℕ, ◌+◌, ◌^◌, ◌<◌, Bool, false, ◌&&◌, Option, get_or}
 use Rattle.ecam_spec.specs.declared.kinds.Key.TheVariants.{Clr}
 use Rattle.ecam_spec.specs.Crew.{is_alert}
 use Rattle.ecam_kinds.specs.declared.keys.Keys.{Keys}
 use Rattle.ecam_kinds.specs.KeyState.{is_pressed}
+use Rattle.crew_marks.specs.declared.walk.Walked.{Walked}
 use Rattle.crew_marks.specs.MarkSets.{MarkSets}
 
 pub record CrewMarks : Type 0 where
@@ -40,3 +41,12 @@ is_shown m a = get_or m.sets.shown a false
 -- CLR strikes the alert in the next moment, where these are its keys
 abbrev pub strikes : CrewMarks → Keys → ℕ → Bool
 strikes m keys a = is_pressed keys Clr && is_alert a m.first
+
+-- a moment ends that found this, and before whose end RCL was held since then
+pub record EndsMoment (found : Walked) (held : Option ℕ) (old new : CrewMarks) : Type 0 where
+  pub sets : new.sets ≡ old.sets
+  pub target : new.target ≡ old.first
+  pub first : new.first ≡ found.first
+  pub changed : new.changed ≡ found.changed
+  pub moments : new.moments ≡ old.moments + 1
+  pub held_since : new.held_since ≡ held

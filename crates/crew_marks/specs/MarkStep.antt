@@ -46,3 +46,7 @@ mark_after m s x =
 -- what the crew does by these keys, where cancellations end or go on
 abbrev pub actions_of : Keys → Bool → Actions
 actions_of keys ends = record { clr = is_pressed keys Clr; rcl = is_pressed keys Rcl; emer = is_pressed keys Emer; restores = ends }
+
+-- a mark may change by them
+abbrev pub acts : Actions → Bool
+acts x = x.clr || (x.rcl || (x.emer || x.restores))

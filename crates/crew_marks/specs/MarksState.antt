@@ -29,6 +29,11 @@ pub record SeesCrew (c : Cockpit) (k : ℕ) (ups waits : List Bool) (keys : Keys
   pub rcl_held : is_held keys Rcl ≡ c.rcl_held k
   pub enters_one : enters ≡ c.enters_one k
 
+-- in moment k each alert is up and waits as in the moment before; before moment 0 none does
+pub record AreStill (b : Book) (c : Cockpit) (k : ℕ) : Type 0 where
+  pub up : (a : ℕ) → a < length b.alerts → c.up a k ≡ previous (c.up a) k
+  pub waiting : (a : ℕ) → a < length b.alerts → c.waiting a k ≡ previous (c.waiting a) k
+
 -- the marks are those of the book: there is one for each alert, the target is an alert, the first shown is the first in
 -- order, and an alert that is cleared and not recalled isn't shown
 pub record MarksFit (b : Book) (m : CrewMarks) : Type 0 where

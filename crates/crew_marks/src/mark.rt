@@ -1,6 +1,6 @@
 // What the crew made of one alert.
 ghost use Rattle.std.specs.Prelude.{◌≡◌, Bool, not, ◌&&◌, ◌||◌};
-ghost use Rattle.crew_marks.specs.MarkStep.{is_struck, is_called_off, cleared_after, cancelled_after, recalled_after, shown_by, mark_after, actions_of};
+ghost use Rattle.crew_marks.specs.MarkStep.{is_struck, is_called_off, cleared_after, cancelled_after, recalled_after, shown_by, mark_after, acts, actions_of};
 
 use ecam_kinds::{Key, Keys};
 
@@ -89,6 +89,15 @@ impl Sight {
         ensures { result ≡ is_called_off self.now actions.now }
     {
         actions.emer && self.is_target
+    }
+}
+
+impl Actions {
+    /// Whether a mark may change by them.
+    pub fn act(&self) -> bool
+        ensures { result ≡ acts self.now }
+    {
+        self.clr || self.rcl || self.emer || self.restores
     }
 }
 

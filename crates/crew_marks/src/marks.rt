@@ -1,18 +1,18 @@
 // The marks of a book's alerts, stepped moment by moment.
-ghost use Rattle.std.specs.Prelude.{◌≡◌, ◌↔◌, ℕ, suc, ◌+◌, ◌<◌, true, false, not, ◌&&◌, length, slice_index_or, IfOk, IfSome};
+ghost use Rattle.std.specs.Prelude.{◌≡◌, ◌↔◌, ℕ, suc, ◌+◌, ◌<◌, true, false, not, ◌&&◌, length, slice_index_or, IfOk, IfSome, is_none};
 ghost use Rattle.ecam_spec.specs.declared.kinds.Key.TheVariants.{Rcl};
 ghost use Rattle.ecam_spec.specs.Book as plain;
-ghost use Rattle.ecam_spec.specs.Past.{previous};
+ghost use Rattle.ecam_spec.specs.Past.{Signal, previous, previously, last_since};
 ghost use Rattle.ecam_spec.specs.Crew.{Cockpit, normal};
 ghost use Rattle.ecam_kinds.specs.KeyState.{is_pressed};
 ghost use Rattle.book_model.specs.Sealed.{the_book};
-ghost use Rattle.crew_marks.specs.CrewMarks.{CanGoOn, is_shown, is_cancelled, strikes};
-ghost use Rattle.crew_marks.specs.MarksState.{IsCrewOf, SeesCrew, MarksFit, MarksStand, OnlyCleared};
+ghost use Rattle.crew_marks.specs.CrewMarks.{CanGoOn, EndsMoment, is_shown, is_cancelled, strikes};
+ghost use Rattle.crew_marks.specs.MarksState.{IsCrewOf, SeesCrew, AreStill, MarksFit, MarksStand, OnlyCleared};
 
 use crate::mark::actions_of;
 use crate::sets::Sets;
 use crate::stretch::{is_normal, press_after, restores, running_after};
-use crate::walk::walk;
+use crate::walk::{Walked, walk, walk_still};
 use book_model::Book;
 use ecam_kinds::{Key, Keys};
 use std::alloc::{AllocError, Global};
@@ -141,15 +141,50 @@ impl Marks {
         let held_since = running_after(self.held_since, keys.held(Key::Rcl), self.moments);
         let actions = actions_of(keys, restores(held_since, self.moments, enters_one));
         let walked = walk(&mut self.sets, book, up, waiting, self.first, &actions);
+        self.end_moment(walked, actions.rcl, held_since);
+    }
+
+    /// Takes one moment more like `step`, where each alert is up and waits as in the moment before. It looks at no alert
+    /// unless CLR, RCL or EMER CANC is pressed or what was cancelled is restored.
+    pub fn step_still(
+        &mut self,
+        book: &Book,
+        up: &[bool],
+        waiting: &[bool],
+        keys: &Keys,
+        enters_one: bool,
+    )
+        requires fits { MarksFit (the_book book.now) self.old }
+        requires up { length up.now ≡ length (the_book book.now).alerts }
+        requires waiting { length waiting.now ≡ length (the_book book.now).alerts }
+        requires moments { CanGoOn self.old }
+        ensures fits { MarksFit (the_book book.now) self.new }
+        ensures moments { self.new.moments ≡ self.old.moments + 1 }
+        ensures stands { (c : Cockpit) (k : ℕ) → IsCrewOf (the_book book.now) c
+            → SeesCrew c k up.now waiting.now keys.now enters_one
+            → AreStill (the_book book.now) c k
+            → MarksStand (the_book book.now) c k self.old
+            → MarksStand (the_book book.now) c (suc k) self.new }
+        ensures changed { (self.new.changed ≡ false) ↔ (self.new.sets ≡ self.old.sets) }
+    {
+        let held_since = running_after(self.held_since, keys.held(Key::Rcl), self.moments);
+        let actions = actions_of(keys, restores(held_since, self.moments, enters_one));
+        let walked = walk_still(&mut self.sets, book, up, waiting, self.first, &actions);
+        self.end_moment(walked, actions.rcl, held_since);
+    }
+
+    // Ends the moment in which the marks became what they are.
+    fn end_moment(&mut self, walked: Walked, rcl: bool, held_since: Option<u64>)
+        requires { CanGoOn self.old }
+        ensures ends { EndsMoment walked held_since self.old self.new }
+        ensures press { (p q : Signal) (k : ℕ) → self.old.moments ≡ k → rcl ≡ p k
+            → is_none walked.first ≡ q k → self.old.quiet_press ≡ previously (last_since p q) k
+            → self.new.quiet_press ≡ previously (last_since p q) (suc k) }
+    {
         self.target = self.first;
         self.first = walked.first;
         self.changed = walked.changed;
-        self.quiet_press = press_after(
-            self.quiet_press,
-            actions.rcl,
-            walked.first.is_none(),
-            self.moments,
-        );
+        self.quiet_press = press_after(self.quiet_press, rcl, walked.first.is_none(), self.moments);
         self.held_since = held_since;
         self.moments += 1;
     }

@@ -1,10 +1,10 @@
 // A walk over the alerts in their order.
-ghost use Rattle.std.specs.Prelude.{◌≡◌, ◌↔◌, ℕ, ◌<◌, false, length, find, slice_index_or};
+ghost use Rattle.std.specs.Prelude.{◌≡◌, ◌↔◌, ℕ, ◌<◌, true, false, length, find, slice_index_or};
 ghost use Rattle.ecam_spec.specs.Levels.{is_caution_level};
 ghost use Rattle.ecam_spec.specs.Screen.{order};
 ghost use Rattle.book_model.specs.Sealed.{the_book};
 ghost use Rattle.crew_marks.specs.MarkSets.{mark_at, AreMany};
-ghost use Rattle.crew_marks.specs.MarkStep.{mark_after, sight_of};
+ghost use Rattle.crew_marks.specs.MarkStep.{mark_after, sight_of, acts};
 
 use crate::mark::{Actions, Sight};
 use crate::sets::Sets;
@@ -51,6 +51,38 @@ pub fn walk(
         first = first.or(sets.is_shown(*place as usize).then_some(*place));
     }
     Walked { first, changed }
+}
+
+/// Steps the marks where each alert is up and waits as in the moment before, and `first` is the first that is shown. Where
+/// the crew does nothing in the moment each mark stays as it is, and no alert is looked at.
+pub fn walk_still(
+    sets: &mut Sets,
+    book: &Book,
+    up: &[bool],
+    waiting: &[bool],
+    first: Option<u32>,
+    actions: &Actions,
+) -> Walked
+    requires many { AreMany sets.old (length (the_book book.now).alerts) }
+    requires up { length up.now ≡ length (the_book book.now).alerts }
+    requires waiting { length waiting.now ≡ length (the_book book.now).alerts }
+    ensures many { AreMany sets.new (length (the_book book.now).alerts) }
+    ensures rests { acts actions.now ≡ false → (sets.new ≡ sets.old) × (result.first ≡ first) }
+    ensures marks { acts actions.now ≡ true → (a : ℕ) → a < length (the_book book.now).alerts
+        → mark_at sets.new a
+        ≡ mark_after (mark_at sets.old a) (sight_of (the_book book.now) up.now waiting.now first a)
+        actions.now }
+    ensures first { acts actions.now ≡ true → result.first
+        ≡ find (λ a. slice_index_or sets.new.shown a false) (order (the_book book.now)) }
+    ensures changed { (result.changed ≡ false) ↔ (sets.new ≡ sets.old) }
+{
+    if actions.act() {
+        return walk(sets, book, up, waiting, first, actions);
+    }
+    Walked {
+        first,
+        changed: false,
+    }
 }
 
 // How an alert stands in the moment.

@@ -1,5 +1,5 @@
 -- One alert more is stepped.
-use Rattle.std.proofs.Common.{◌≡◌, ℕ, suc, ◌+◌, ◌<◌, Bool, false, ◌&&◌, eqb, List, length, take, get_or, sym, ap, subst, ◌∙◌, arith}
+use Rattle.std.proofs.Common.{◌≡◌, ℕ, zero, suc, ◌+◌, ◌-◌, ◌^◌, ◌<◌, ◌≤◌, Bool, true, false, ◌&&◌, eqb, List, length, take, get_or, slice_get, Some, refl, sym, ap, subst, ◌∙◌, arith}
 use Rattle.std.specs.List.{list_any}
 use Rattle.ecam_spec.specs.Book as plain
 use Rattle.ecam_spec.specs.Past.{previous}
@@ -22,13 +22,18 @@ use Rattle.alert_truth.specs.Alerts.{active}
 use Rattle.alert_truth.specs.TruthsState.{HalfStand, TruthsStand}
 use Rattle.term_eval.specs.declared.env.Env.{Env}
 use Rattle.term_eval.specs.Shown.{Shows}
-use Rattle.term_eval.specs.Woken.{operands, moved, differ}
+use Rattle.term_eval.specs.Woken.{Operand, operands, moved, differ}
 use Rattle.fwc_lane.specs.declared.terms.Terms.{Terms}
-use Rattle.fwc_lane.specs.Waking.{WakesBy}
-use Rattle.fwc_lane.specs.Conditions.{StepsTerm, TellsMoved, BookHalf, AlertsHalf, known_world}
+use Rattle.wakes.specs.Marks.{is_marked}
+use Rattle.alert_truth.proofs.Stepping.{half-rests}
+use Rattle.fwc_lane.specs.Waking.{WakesBy, NoneMarked}
+use Rattle.fwc_lane.specs.Conditions.{IsLeft, HalfStepped, StepsTerm, TellsMoved, BookHalf, AlertsHalf, known_world}
 use Rattle.fwc_lane.specs.Given.{Lends}
 use Rattle.fwc_lane.proofs.Showing.{shows-own, active-is}
 use Rattle.fwc_lane.proofs.Stages.{more-known, alert-moves}
+use Rattle.fwc_lane.proofs.Stepping.{half-rest, rest-holds}
+use Rattle.fwc_lane.proofs.Hitting.{wakes-off}
+use Rattle.fwc_lane.proofs.FlagSteps.{with-item}
 
 module _ (d : Draft) (sealed : IsSealed d) (xs : List Alert) (a : ℕ) (x : Alert) (same : xs ≡ d.alerts.items) (within : a < length xs) (here : x ≡ get_or xs a x)
     (m : ℕ → Moment) (k : ℕ) (env : Env) (lends : Lends (the_book d) m k env) (t : Truths) (phase : env.phase.number ≡ phase_in (the_book d) m k)
@@ -72,6 +77,91 @@ pub alert-known : (d : Draft) (sealed : IsSealed d) (m : ℕ → Moment) (k a vi
 alert-known d sealed m k a visited t marks other now was lt is now-is was-is wakes half =
     more-known d sealed m k (alerts_from + suc a) (suc a) visited t marks (λ o. other && eqb o (length (the_book d).parameters + a)) wakes
     (λ h e. alert-moves (the_book d) m k h a other now was e is now-is (was-is h e) lt) half
+
+differ-self : (b : Bool) → differ b b ≡ false
+differ-self true = refl
+differ-self false = refl
+
+-- an alert that neither its condition nor time changes, and some alerts of that kind
+module _ (d : Draft) (sealed : IsSealed d) (m : ℕ → Moment) (k visited : ℕ) (terms : Terms) (t : Truths) (small : k < 2 ^ 63) where
+  module _ (a : ℕ) (x : Alert) (within : a < length d.alerts.items) (here : x ≡ get_or d.alerts.items a x)
+      (off : is_marked terms.woken (alerts_from + a) ≡ false) (rests : is_marked t.restless a ≡ false) (half : AlertsHalf (the_book d) m k a visited terms t) where
+    there : a < length (the_book d).alerts
+    there = omega (arith, many-alerts d, within)
+
+    own-world-is : world_of (the_book d) m (alerts_from + a) ≡ alert_world (the_book d) m (known_below (the_book d) m a)
+    own-world-is = own-world (the_book d) m a there
+
+    hits : Operand → Bool
+    hits = moved (known_world (the_book d) m (suc a)) k
+
+    tells-own : TellsMoved hits (world_of (the_book d) m (alerts_from + a)) k (placed_of x.when)
+    unfolding hits
+    tells-own = ap (λ w. list_any (moved w k) (operands (tree_in x.when))) (sym own-world-is)
+
+    at-place : slice_get (places (the_book d)) (alerts_from + a) ≡ Some (placed_of x.when)
+    at-place = own-place d sealed d.alerts.items a x refl within here
+
+    was : HalfStepped (places (the_book d)) (world_of (the_book d) m) hits k (alerts_from + a) visited terms
+    unfolding hits
+    was = half.terms
+
+    own-left : IsLeft (world_of (the_book d) m (alerts_from + a)) hits k (alerts_from + a) (placed_of x.when) terms
+    own-left = was.left (alerts_from + a) (placed_of x.when) (let w : alerts_from + a ≤ alerts_from + a = omega arith in w) at-place
+
+    -- its condition holds where it held
+    same-condition : (h : ℕ) → k ≡ suc h → condition_in (the_book d) m a h ≡ condition_in (the_book d) m a k
+    unfolding condition_in situation.condition
+    same-condition h e =
+        ap (λ (y : plain.Alert). holds (alert_world (the_book d) m (known_below (the_book d) m a)) y.when h) (alert-read d d.alerts.items a x refl within here)
+        ∙ subst (λ w. holds w (tree_in x.when) h ≡ holds w (tree_in x.when) k) own-world-is
+        (rest-holds (world_of (the_book d) m (alerts_from + a)) hits k h (alerts_from + a) (placed_of x.when) terms small e tells-own own-left off)
+        ∙ sym (ap (λ (y : plain.Alert). holds (alert_world (the_book d) m (known_below (the_book d) m a)) y.when k) (alert-read d d.alerts.items a x refl within here))
+
+    truths-rest : (n : ℕ) → k ≡ n → HalfStand (the_book d) (condition_in (the_book d) m) (phase_in (the_book d) m) k (suc a) t
+    truths-rest zero e = absurd (let w : ⊥ = (let clash : true ≡ false = sym (own-left.first e) ∙ off in cc) in w)
+    truths-rest (suc h) e =
+        subst (λ n. HalfStand (the_book d) (condition_in (the_book d) m) (phase_in (the_book d) m) n (suc a) t) (sym e)
+        (half-rests (the_book d) (condition_in (the_book d) m) (phase_in (the_book d) m) h a t there
+        (ap (condition_in (the_book d) m a) (sym e) ∙ sym (same-condition h e)) rests
+        (subst (λ n. HalfStand (the_book d) (condition_in (the_book d) m) (phase_in (the_book d) m) n a t) e half.alerts))
+
+    -- it is active where it was
+    same-active : (h : ℕ) → k ≡ suc h → active_in (the_book d) m a k ≡ active_in (the_book d) m a h
+    unfolding previous
+    same-active h e =
+        sym (active-is (the_book d) m a k) ∙ sym ((truths-rest k refl).stepped a (omega arith)).active ∙ was-active (the_book d) m k h a t e there half.alerts
+
+    terms-rest : BookHalf (the_book d) m k (alerts_from + suc a) (suc a) visited terms
+    unfolding hits
+    terms-rest =
+        subst (λ n. BookHalf (the_book d) m k n (suc a) visited terms) (let e : suc (alerts_from + a) ≡ alerts_from + suc a = omega arith in e)
+        (half-rest (places (the_book d)) (world_of (the_book d) m) k (alerts_from + a) (placed_of x.when) at-place hits visited terms small tells-own off was)
+
+    alert-off : AlertsHalf (the_book d) m k (suc a) visited terms t
+    alert-off = record {
+      terms = alert-known d sealed m k a visited terms terms.woken false (active_in (the_book d) m a k) (active_in (the_book d) m a k) there (sym (differ-self (active_in (the_book d) m a k))) refl
+          (λ h e. same-active h e) (wakes-off (the_book d) (length (the_book d).parameters + a) terms.woken false refl) terms-rest;
+      alerts = truths-rest k refl;
+    }
+
+  some-off : (a n : ℕ) → a + n ≤ length d.alerts.items → NoneMarked terms.woken (alerts_from + a) (alerts_from + (a + n)) → NoneMarked t.restless a (a + n)
+      → AlertsHalf (the_book d) m k a visited terms t → AlertsHalf (the_book d) m k (a + n) visited terms t
+  some-off a zero le off rests half = let e : a ≡ a + 0 = omega arith in subst (λ i. AlertsHalf (the_book d) m k i visited terms t) e half
+  some-off a (suc n) le off rests half =
+      let e : suc (a + n) ≡ a + suc n = omega arith in
+      with-item d.alerts.items (a + n) (omega arith)
+      (λ x here. subst (λ i. AlertsHalf (the_book d) m k i visited terms t) e
+      (alert-off (a + n) x (omega arith) here (off _ (omega arith) (omega arith)) (rests _ (omega arith) (omega arith))
+      (some-off a n (omega arith) (λ i from to. off i from (omega arith)) (λ i from to. rests i from (omega arith)) half)))
+
+  -- up to the next that may change, or to the end
+  pub alerts-skip : (a i : ℕ) → a ≤ i → i ≤ length d.alerts.items → NoneMarked terms.woken (alerts_from + a) (alerts_from + i) → NoneMarked t.restless a i
+      → AlertsHalf (the_book d) m k a visited terms t → AlertsHalf (the_book d) m k i visited terms t
+  alerts-skip a i le most off rests half =
+      let e : a + (i - a) ≡ i = omega arith in
+      subst (λ n. AlertsHalf (the_book d) m k n visited terms t) e
+      (some-off a (i - a) (omega arith) (subst (λ n. NoneMarked terms.woken (alerts_from + a) (alerts_from + n)) (sym e) off) (subst (NoneMarked t.restless a) (sym e) rests) half)
 
 -- before the first alert
 pub alerts-begin : (d : Draft) (m : ℕ → Moment) (k visited : ℕ) (terms : Terms) (t : Truths) → BookHalf (the_book d) m k alerts_from 1 visited terms

@@ -1,21 +1,32 @@
 -- What the alerts and the keys of a moment are for the marks, for the lights with the sound, and for the selection.
-use Rattle.std.proofs.Common.{◌≡◌, ℕ, zero, suc, ◌<◌, Bool, false, not, ◌&&◌, List, length, get_or, refl, ap, ◌∙◌, arith, eqb, ltb}
-use Rattle.std.proofs.lemmas.Bool.{lt-ltb}
+use Rattle.std.proofs.Common.{◌≡◌, ℕ, zero, suc, ◌<◌, ◌≤◌, Bool, true, false, not, ◌&&◌, List, length, get_or, filter, refl, sym, ap, subst, ◌∙◌, arith, eqb, ltb, inl, inr}
+use Rattle.std.proofs.lemmas.Bool.{cases_lt, lt-ltb}
+use Rattle.std.proofs.lemmas.List.{get_or_past}
 use Rattle.ecam_spec.specs.declared.kinds.Key.TheVariants.{Clr, Rcl, Emer, Mw, Mc}
-use Rattle.ecam_spec.specs.Past.{previous}
-use Rattle.ecam_spec.specs.Book.{Book}
+use Rattle.ecam_spec.specs.Past.{previous, historically_within}
+use Rattle.ecam_spec.specs.Alert as alert
+use Rattle.ecam_spec.specs.Book.{Book, Alert}
+use Rattle.ecam_spec.specs.Term.{holds}
 use Rattle.ecam_spec.specs.History.{Moment}
-use Rattle.ecam_spec.specs.Situation.{strokes_in, phase_in, condition_in}
+use Rattle.ecam_spec.specs.Situation as situation
+use Rattle.ecam_spec.specs.Situation.{no_alert, alert_at, strokes_in, phase_in, condition_in, present_in, active_in, waiting_in, starred_in, up_in, alert_world, known_below}
 use Rattle.ecam_spec.specs.Crew as crew
-use Rattle.ecam_spec.specs.Screen.{cockpit, attention, shown_in, is_shown_in, cancelled_in, target_in, enters_one}
+use Rattle.ecam_spec.specs.Screen.{order, cockpit, attention, shown_in, is_shown_in, cancelled_in, target_in, enters_one}
+use Rattle.ecam_spec.proofs.PastLaws.{since-implies, historically_within-now}
 use Rattle.ecam_spec.proofs.CrewSteps.{shown-flags}
 use Rattle.ecam_kinds.specs.declared.keys.Keys.{Keys}
 use Rattle.ecam_kinds.specs.KeyState.{KeysStand}
 use Rattle.alert_truth.specs.Alerts.{Tells, waiting, up}
+use Rattle.alert_truth.specs.TruthsState.{Unchanged}
+use Rattle.attention.specs.State as lighted
 use Rattle.attention.specs.State.{AreOfBook, Brings}
 use Rattle.crew_marks.specs.CrewMarks.{CrewMarks}
+use Rattle.crew_marks.specs.MarkSets.{MarkSets}
+use Rattle.crew_marks.specs.MarksState as crewed
 use Rattle.crew_marks.specs.MarksState.{IsCrewOf, SeesCrew, MarksStand}
+use Rattle.fwc_lane.specs.CrewStands.{IsShownAsBefore}
 use Rattle.fwc_lane.proofs.Showing.{waiting-is, up-is}
+use Rattle.fwc_lane.proofs.FlagSteps.{left-true}
 
 module _ (b : Book) (m : ℕ → Moment) where
   pub crew-of : IsCrewOf b (cockpit b m)
@@ -67,6 +78,54 @@ module _ (b : Book) (m : ℕ → Moment) where
       mc = strokes.pressed Mc tt;
       emer = strokes.pressed Emer tt;
     }
+
+-- ---- what is as in the moment before
+
+-- what isn't in the book is no alert, and never up
+module _ (b : Book) (m : ℕ → Moment) (i : ℕ) (past : length b.alerts ≤ i) where
+  never-holds : (k : ℕ) → condition_in b m i k ≡ false
+  unfolding condition_in situation.condition holds
+  never-holds k = ap (λ (a : Alert). holds (alert_world b m (known_below b m i)) a.when k) (get_or_past b.alerts i no_alert past)
+
+  only-where : (k : ℕ) → active_in b m i k ≡ true → condition_in b m i k ≡ true
+  unfolding active_in situation.active_knowing situation.present_knowing condition_in alert.active alert.present
+  only-where k =
+      since-implies (λ j. historically_within (alert_at b i).confirm (situation.condition b m (known_below b m i) i) j && not (situation.inhibited b m i j))
+      (historically_within (alert_at b i).confirm (situation.condition b m (known_below b m i) i))
+      (situation.condition b m (known_below b m i) i k) k
+      (λ h. historically_within-now (alert_at b i).confirm (situation.condition b m (known_below b m i) i) k (left-true _ _ h))
+      (historically_within-now (alert_at b i).confirm (situation.condition b m (known_below b m i) i) k)
+
+  never-active : (k : ℕ) (on : Bool) → active_in b m i k ≡ on → on ≡ false
+  never-active k false e = refl
+  never-active k true e = sym (only-where k e) ∙ never-holds k
+
+  never-up : (k : ℕ) → up_in b m i k ≡ false
+  unfolding up_in alert.up
+  never-up k = ap (λ a. a && not (starred_in b m i k)) (never-active k (active_in b m i k) refl)
+
+module _ (b : Book) (m : ℕ → Moment) (k : ℕ) (same : Unchanged b (condition_in b m) (phase_in b m) k) where
+  pub still-crew : crewed.AreStill b (cockpit b m) k
+  unfolding cockpit up_in waiting_in present_in starred_in active_in situation.active_knowing situation.present_knowing situation.inhibited condition_in
+  still-crew = record { up = same.up; waiting = same.waiting }
+
+  up-before : (j : ℕ) → k ≡ suc j → (i : ℕ) → i < length b.alerts → up_in b m i k ≡ up_in b m i j
+  unfolding previous up_in waiting_in present_in starred_in active_in situation.active_knowing situation.present_knowing situation.inhibited condition_in
+  up-before j e i lt = same.up i lt ∙ ap (previous (up_in b m i)) e
+
+  pub still-lights : IsShownAsBefore b m k → lighted.AreStill (attention b m) k
+  unfolding attention
+  still-lights shows = record {
+    up = λ j e i. elim (cases_lt i (length b.alerts)) [ inl lt ↦ up-before j e i lt | inr past ↦ never-up b m i past k ∙ sym (never-up b m i past j) ];
+    shown = shows;
+  }
+
+-- where no mark changed, what is shown is as it was
+pub shown-kept : (b : Book) (m : ℕ → Moment) (k : ℕ) (old new : CrewMarks) → MarksStand b (cockpit b m) k old → MarksStand b (cockpit b m) (suc k) new → new.sets ≡ old.sets → IsShownAsBefore b m k
+shown-kept b m k old new before after same = λ j e.
+    shown-flags b m (λ a. get_or new.sets.shown a false) k (shown-told b m k new after)
+    ∙ ap (λ (s : MarkSets). filter (λ a. get_or s.shown a false) (order b)) same
+    ∙ sym (shown-flags b m (λ a. get_or old.sets.shown a false) j (shown-told b m j old (subst (λ n. MarksStand b (cockpit b m) n old) e before)))
 
 pub enters-is : (b : Book) (m : ℕ → Moment) (k was phase : ℕ) (ticked : Bool) → ticked ≡ ltb 0 k → phase ≡ phase_in b m k → ((j : ℕ) → k ≡ suc j → was ≡ phase_in b m j)
     → (eqb phase 1 && (ticked && not (eqb was 1))) ≡ enters_one b m k

@@ -1,5 +1,5 @@
 -- One memo more is stepped.
-use Rattle.std.proofs.Common.{◌≡◌, ℕ, suc, ◌+◌, ◌-◌, ◌^◌, ◌<◌, ◌≤◌, min, Bool, false, List, length, get_or, set, slice_get, Some, sym, ap, subst, ◌∙◌, inl, inr, arith}
+use Rattle.std.proofs.Common.{◌≡◌, ℕ, zero, suc, ◌+◌, ◌-◌, ◌^◌, ◌<◌, ◌≤◌, min, Bool, true, false, List, length, get_or, set, slice_get, Some, refl, sym, ap, subst, ◌∙◌, inl, inr, arith}
 use Rattle.std.proofs.Math.Nat.{eq-or-lt_of_le}
 use Rattle.std.proofs.lemmas.Option.{slice_get_within}
 use Rattle.ecam_spec.specs.Book as plain
@@ -22,9 +22,12 @@ use Rattle.term_eval.specs.Shown.{Shows}
 use Rattle.term_eval.specs.Woken.{Operand, moved}
 use Rattle.fwc_lane.specs.declared.terms.Terms.{Terms}
 use Rattle.fwc_lane.specs.Visits.{visits_below}
-use Rattle.fwc_lane.specs.Conditions.{StepsTerm, TellsMoved, BookHalf, MemosHalf, AllStepped, known_world}
+use Rattle.fwc_lane.specs.Conditions.{StepsTerm, TellsMoved, IsLeft, HalfStepped, BookHalf, MemosHalf, MemosWere, AllStepped, known_world}
 use Rattle.fwc_lane.proofs.Stages.{rest-tells}
-use Rattle.fwc_lane.proofs.FlagSteps.{set-own, set-other}
+use Rattle.fwc_lane.proofs.FlagSteps.{set-own, set-other, set-behind, with-item}
+use Rattle.wakes.specs.Marks.{is_marked}
+use Rattle.fwc_lane.specs.Waking.{NoneMarked, memo_start}
+use Rattle.fwc_lane.proofs.Stepping.{half-rest, rest-holds}
 
 module _ (d : Draft) (sealed : IsSealed d) (xs : List Memo) (j : ℕ) (x : Memo) (same : xs ≡ d.memos.items) (within : j < length xs) (here : x ≡ get_or xs j x)
     (m : ℕ → Moment) (k : ℕ) (env : Env) (shows : Shows env (world (the_book d) m) k) (visited : ℕ) (old new : Terms) (answer : Bool)
@@ -73,14 +76,87 @@ module _ (d : Draft) (sealed : IsSealed d) (xs : List Memo) (j : ℕ) (x : Memo)
         terms = subst (λ n. BookHalf (the_book d) m k n (suc (length (the_book d).alerts)) visited new) (let e : suc place ≡ memos_from (the_book d) + suc j = omega arith in e)
             (steps.stands (places (the_book d)) (world_of (the_book d) m) hit visited (memo-place-at d sealed xs j x same within here) (ranges-apart (the_book d)) shown tells half.terms);
         told = told;
+        left = λ h e i y le there. set-behind flags later j answer false is i le ∙ half.left h e i y (let w : j ≤ i = omega arith in w) there;
       }
 
+-- a memo whose condition isn't woken, and some memos of that kind
+module _ (d : Draft) (sealed : IsSealed d) (m : ℕ → Moment) (k visited : ℕ) (t : Terms) (flags : List Bool) (small : k < 2 ^ 63) where
+  hits : Operand → Bool
+  hits = moved (known_world (the_book d) m (suc (length (the_book d).alerts))) k
+
+  module _ (j : ℕ) (x : Memo) (within : j < length d.memos.items) (here : x ≡ get_or d.memos.items j x) (off : is_marked t.woken (memos_from (the_book d) + j) ≡ false)
+      (half : MemosHalf (the_book d) m k j visited t flags) where
+    at-place : slice_get (places (the_book d)) (memos_from (the_book d) + j) ≡ Some (placed_of x.when)
+    at-place = memo-place-at d sealed d.memos.items j x refl within here
+
+    world-there : world_of (the_book d) m (memos_from (the_book d) + j) ≡ world (the_book d) m
+    world-there = rest-world (the_book d) m (memos_from (the_book d) + j) (omega arith)
+
+    tells-there : TellsMoved hits (world_of (the_book d) m (memos_from (the_book d) + j)) k (placed_of x.when)
+    unfolding hits
+    tells-there = subst (λ w. TellsMoved hits w k (placed_of x.when)) (sym world-there) (rest-tells d sealed m k (memos_from (the_book d) + j) (placed_of x.when) at-place)
+
+    was : HalfStepped (places (the_book d)) (world_of (the_book d) m) hits k (memos_from (the_book d) + j) visited t
+    unfolding hits
+    was = half.terms
+
+    own : IsLeft (world_of (the_book d) m (memos_from (the_book d) + j)) hits k (memos_from (the_book d) + j) (placed_of x.when) t
+    own = was.left (memos_from (the_book d) + j) (placed_of x.when) (let w : memos_from (the_book d) + j ≤ memos_from (the_book d) + j = omega arith in w) at-place
+
+    held : (h : ℕ) → k ≡ suc h → holds (world (the_book d) m) (tree_in x.when) h ≡ holds (world (the_book d) m) (tree_in x.when) k
+    held h e =
+        subst (λ w. holds w (tree_in x.when) h ≡ holds w (tree_in x.when) k) world-there
+        (rest-holds (world_of (the_book d) m (memos_from (the_book d) + j)) hits k h (memos_from (the_book d) + j) (placed_of x.when) t small e tells-there own off)
+
+    by-moment : (n : ℕ) → k ≡ n → (i : ℕ) (y : plain.Memo) → i ≡ j → memo_of x ≡ y → slice_get (the_book d).memos i ≡ Some y → get_or flags i false ≡ holds (world (the_book d) m) y.when k
+    by-moment zero e i y same one there = absurd (let w : ⊥ = (let clash : true ≡ false = sym (own.first e) ∙ off in cc) in w)
+    by-moment (suc h) e i y same one there =
+        half.left h e i y (let le : j ≤ i = omega arith in le) there
+        ∙ ap (λ (z : plain.Memo). holds (world (the_book d) m) z.when h) (sym one) ∙ held h e ∙ ap (λ (z : plain.Memo). holds (world (the_book d) m) z.when k) one
+
+    rest-told : (i : ℕ) (y : plain.Memo) → i < suc j → slice_get (the_book d).memos i ≡ Some y → get_or flags i false ≡ holds (world (the_book d) m) y.when k
+    rest-told i y lt there =
+        elim (eq-or-lt_of_le (let le : i ≤ j = omega arith in le)) [
+          | inl e ↦
+              let both : Some (memo_of x) ≡ Some y = sym (memo-get d d.memos.items j x refl within here) ∙ ap (slice_get (the_book d).memos) (sym e) ∙ there in
+              let one : memo_of x ≡ y = cc in
+              by-moment k refl i y e one there
+          | inr less ↦ half.told i y less there
+        ]
+
+    memo-off : MemosHalf (the_book d) m k (suc j) visited t flags
+    unfolding hits
+    memo-off = record {
+      terms = subst (λ n. BookHalf (the_book d) m k n (suc (length (the_book d).alerts)) visited t) (let e : suc (memos_from (the_book d) + j) ≡ memos_from (the_book d) + suc j = omega arith in e)
+          (half-rest (places (the_book d)) (world_of (the_book d) m) k (memos_from (the_book d) + j) (placed_of x.when) at-place hits visited t small tells-there off was);
+      told = rest-told;
+      left = λ h e i y le there. half.left h e i y (let w : j ≤ i = omega arith in w) there;
+    }
+
+  memos-off : (j n : ℕ) → j + n ≤ length d.memos.items → NoneMarked t.woken (memo_start (the_book d) j) (memo_start (the_book d) (j + n))
+      → MemosHalf (the_book d) m k j visited t flags → MemosHalf (the_book d) m k (j + n) visited t flags
+  memos-off j zero le off half = let e : j ≡ j + 0 = omega arith in subst (λ i. MemosHalf (the_book d) m k i visited t flags) e half
+  memos-off j (suc n) le off half =
+      let e : suc (j + n) ≡ j + suc n = omega arith in
+      with-item d.memos.items (j + n) (omega arith)
+      (λ x here. subst (λ i. MemosHalf (the_book d) m k i visited t flags) e
+      (memo-off (j + n) x (omega arith) here (off _ (omega arith) (omega arith)) (memos-off j n (omega arith) (λ i from to. off i from (omega (arith, to))) half)))
+
+  -- up to the next that has one, or to the end
+  pub memos-skip : (j i : ℕ) → j ≤ i → i ≤ length d.memos.items → NoneMarked t.woken (memo_start (the_book d) j) (memo_start (the_book d) i)
+      → MemosHalf (the_book d) m k j visited t flags → MemosHalf (the_book d) m k i visited t flags
+  memos-skip j i le most off half =
+      let e : j + (i - j) ≡ i = omega arith in
+      subst (λ n. MemosHalf (the_book d) m k n visited t flags) e
+      (memos-off j (i - j) (omega arith) (subst (λ n. NoneMarked t.woken (memo_start (the_book d) j) (memo_start (the_book d) n)) (sym e) off) half)
+
 -- before the first memo
-pub memos-begin : (d : Draft) (m : ℕ → Moment) (k visited : ℕ) (terms : Terms) (flags : List Bool) → BookHalf (the_book d) m k (memos_from (the_book d)) (suc (length (the_book d).alerts)) visited terms
+pub memos-begin : (d : Draft) (m : ℕ → Moment) (k visited : ℕ) (terms : Terms) (flags : List Bool) → MemosWere (the_book d) m k flags → BookHalf (the_book d) m k (memos_from (the_book d)) (suc (length (the_book d).alerts)) visited terms
     → MemosHalf (the_book d) m k 0 visited terms flags
-memos-begin d m k visited terms flags half = record {
+memos-begin d m k visited terms flags were half = record {
   terms = subst (λ n. BookHalf (the_book d) m k n (suc (length (the_book d).alerts)) visited terms) (let e : memos_from (the_book d) ≡ memos_from (the_book d) + 0 = omega arith in e) half;
   told = λ j l lt is. absurd (omega arith);
+  left = λ h e j x le is. were h e j x is;
 }
 
 -- behind the last

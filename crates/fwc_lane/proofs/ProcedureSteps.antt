@@ -1,5 +1,5 @@
 -- One line more is stepped.
-use Rattle.std.proofs.Common.{◌≡◌, ℕ, suc, ◌+◌, ◌*◌, ◌<◌, ◌≤◌, Bool, false, not, ◌&&◌, List, [], ◌∷◌, ◌++◌, map, length, take, get_or, set, slice_get, Some, sym, ap, subst, ◌∙◌, inl, inr, arith, add-one, length-append}
+use Rattle.std.proofs.Common.{◌≡◌, ℕ, zero, suc, ◌+◌, ◌-◌, ◌*◌, ◌^◌, ◌<◌, ◌≤◌, Bool, true, false, not, ◌&&◌, List, [], ◌∷◌, ◌++◌, map, length, take, get_or, set, slice_get, Some, refl, sym, ap, subst, ◌∙◌, inl, inr, arith, add-one, length-append}
 use Rattle.std.proofs.Math.Nat.{eq-or-lt_of_le}
 use Rattle.std.proofs.lemmas.List.{take_all, length-map}
 use Rattle.std.proofs.lemmas.Grind.{flat_map-append}
@@ -29,9 +29,12 @@ use Rattle.ecam_spec.specs.TermSize.{Placed}
 use Rattle.term_eval.specs.Shown.{Shows}
 use Rattle.term_eval.specs.Woken.{Operand, moved}
 use Rattle.fwc_lane.specs.declared.terms.Terms.{Terms}
-use Rattle.fwc_lane.specs.Conditions.{StepsLine, HalfStepped, TellsMoved, BookHalf, LinesHalf, known_world}
+use Rattle.fwc_lane.specs.Conditions.{StepsLine, HalfStepped, TellsMoved, BookHalf, LinesHalf, LinesWere, known_world}
 use Rattle.fwc_lane.proofs.Stages.{rest-tells}
-use Rattle.fwc_lane.proofs.FlagSteps.{set-own, set-other}
+use Rattle.fwc_lane.proofs.FlagSteps.{set-own, set-other, set-behind, with-item}
+use Rattle.wakes.specs.Marks.{is_marked}
+use Rattle.fwc_lane.specs.Waking.{NoneMarked, lines_start}
+use Rattle.fwc_lane.proofs.Stepping.{half-rest, rest-holds}
 
 module _ (d : Draft) (sealed : IsSealed d) (xs : List Alert) (a : ℕ) (x : Alert) (same : xs ≡ d.alerts.items) (within : a < length xs) (here : x ≡ get_or xs a x)
     (ls : List Line) (j : ℕ) (l : Line) (own : ls ≡ x.lines.items) (inside : j < length ls) (at : l ≡ get_or ls j l) where
@@ -103,6 +106,69 @@ module _ (d : Draft) (sealed : IsSealed d) (xs : List Alert) (a : ℕ) (x : Aler
               (own-steps.stands (places (the_book d)) (world_of (the_book d) m) hit visited when-here done-here (ranges-apart (the_book d)) (world-at first from) (world-at (suc first) (omega (arith, from)))
               (tells-at first from _ when-here) (tells-at (suc first) (omega (arith, from)) _ done-here) old-half);
           told = told;
+          left = λ h e i y le there. set-behind flags later line answer false is i le ∙ half.left h e i y (let w : line ≤ i = omega arith in w) there;
+        }
+
+  -- a line of which no condition is woken
+  module _ (m : ℕ → Moment) (k visited : ℕ) (t : Terms) (flags : List Bool) (small : k < 2 ^ 63)
+      (when-off : is_marked t.woken (lines_from (the_book d) + 2 * line) ≡ false) (done-off : is_marked t.woken (suc (lines_from (the_book d) + 2 * line)) ≡ false)
+      (half : LinesHalf (the_book d) m k line visited t flags) where
+    hits : Operand → Bool
+    hits = moved (known_world (the_book d) m (suc (length (the_book d).alerts))) k
+
+    tells-there : (i : ℕ) → lines_from (the_book d) ≤ i → (p : Placed) → slice_get (places (the_book d)) i ≡ Some p → TellsMoved hits (world_of (the_book d) m i) k p
+    unfolding hits
+    tells-there i le p at' = subst (λ w. TellsMoved hits w k p) (sym (rest-world (the_book d) m i le)) (rest-tells d sealed m k i p at')
+
+    from-there : lines_from (the_book d) ≤ first
+    unfolding first
+    from-there = omega arith
+
+    was : HalfStepped (places (the_book d)) (world_of (the_book d) m) hits k first visited t
+    unfolding first hits
+    was = half.terms
+
+    keeps : (h i : ℕ) → k ≡ suc h → lines_from (the_book d) ≤ i → first ≤ i → (p : Placed) → slice_get (places (the_book d)) i ≡ Some p → is_marked t.woken i ≡ false
+        → holds (world (the_book d) m) p.tree h ≡ holds (world (the_book d) m) p.tree k
+    keeps h i e le next p here' off =
+        subst (λ w. holds w p.tree h ≡ holds w p.tree k) (rest-world (the_book d) m i le)
+        (rest-holds (world_of (the_book d) m i) hits k h i p t small e (tells-there i le p here') (was.left i p next here') off)
+
+    stood : (h : ℕ) → k ≡ suc h → line_stands (the_book d) m h (line_of l) ≡ line_stands (the_book d) m k (line_of l)
+    unfolding line_stands first
+    stood h e =
+        ap (λ b. b && not (holds (world (the_book d) m) (tree_in l.done) h)) (keeps h first e from-there (let w : first ≤ first = omega arith in w) _ when-here when-off)
+        ∙ ap (λ b. holds (world (the_book d) m) (tree_in l.when) k && not b) (keeps h (suc first) e (omega (arith, from-there)) (let w : first ≤ suc first = omega arith in w) _ done-here done-off)
+
+    by-moment : (n : ℕ) → k ≡ n → (i : ℕ) (y : plain.Line) → i ≡ line → line_of l ≡ y → slice_get (lines_of (the_book d).alerts) i ≡ Some y → get_or flags i false ≡ line_stands (the_book d) m k y
+    unfolding first
+    by-moment zero e i y same' one there =
+        absurd (let w : ⊥ = (let clash : true ≡ false = sym ((was.left first _ (let le : first ≤ first = omega arith in le) when-here).first e) ∙ when-off in cc) in w)
+    by-moment (suc h) e i y same' one there =
+        half.left h e i y (let le : line ≤ i = omega arith in le) there
+        ∙ ap (line_stands (the_book d) m h) (sym one) ∙ stood h e ∙ ap (line_stands (the_book d) m k) one
+
+    rest-told : (i : ℕ) (y : plain.Line) → i < suc line → slice_get (lines_of (the_book d).alerts) i ≡ Some y → get_or flags i false ≡ line_stands (the_book d) m k y
+    rest-told i y lt there =
+        elim (eq-or-lt_of_le (let le : i ≤ line = omega arith in le)) [
+          | inl e ↦
+              let both : Some (line_of l) ≡ Some y = sym (line-place d xs a x same within here ls j l own inside at) ∙ ap (slice_get (lines_of (the_book d).alerts)) (sym e) ∙ there in
+              let one : line_of l ≡ y = cc in
+              by-moment k refl i y e one there
+          | inr less ↦ half.told i y less there
+        ]
+
+    pub line-off : LinesHalf (the_book d) m k (length (lines_of (take a (the_book d).alerts)) + (j + 1)) visited t flags
+    unfolding first hits
+    line-off =
+        let next : suc line ≡ length (lines_of (take a (the_book d).alerts)) + (j + 1) = omega arith in
+        let after : suc (suc first) ≡ lines_from (the_book d) + 2 * suc line = omega arith in
+        let when-rest = half-rest (places (the_book d)) (world_of (the_book d) m) k first _ when-here hits visited t small (tells-there first from-there _ when-here) when-off was in
+        subst (λ n. LinesHalf (the_book d) m k n visited t flags) next record {
+          terms = subst (λ n. BookHalf (the_book d) m k n (suc (length (the_book d).alerts)) visited t) after
+              (half-rest (places (the_book d)) (world_of (the_book d) m) k (suc first) _ done-here hits visited t small (tells-there (suc first) (omega (arith, from-there)) _ done-here) done-off when-rest);
+          told = rest-told;
+          left = λ h e i y le there. half.left h e i y (let w : line ≤ i = omega arith in w) there;
         }
 
 -- before the first line of an alert, and behind its last
@@ -127,12 +193,78 @@ module _ (d : Draft) (xs : List Alert) (a : ℕ) (x : Alert) (same : xs ≡ d.al
       subst (λ n. LinesHalf (the_book d) m k n visited terms flags)
       (let e : length (lines_of (take a (the_book d).alerts)) + i ≡ length (lines_of (take (a + 1) (the_book d).alerts)) = omega (arith, own-many, all) in e) half
 
+-- where the lines of an alert start among all
+module _ (d : Draft) where
+  abbrev start : ℕ → ℕ
+  start a = length (lines_of (take a (the_book d).alerts))
+
+  start-grows : (a : ℕ) → a < length d.alerts.items → start a ≤ start (a + 1)
+  start-grows a within = with-item d.alerts.items a within (λ x here. omega (arith, own-many d d.alerts.items a x refl within here))
+
+  start-next : (a n : ℕ) → a + n ≤ length d.alerts.items → start a ≤ start (a + n)
+  start-next a zero le = let e : a ≡ a + 0 = omega arith in subst (λ i. start a ≤ start i) e (let w : start a ≤ start a = omega arith in w)
+  start-next a (suc n) le =
+      let e : (a + n) + 1 ≡ a + suc n = omega arith in
+      subst (λ i. start a ≤ start i) e (omega (arith, start-next a n (omega arith), start-grows (a + n) (omega arith)))
+
+  pub start-all : (a : ℕ) → length d.alerts.items ≤ a → start a ≡ length (lines_of (the_book d).alerts)
+  start-all a le = ap (λ as'. length (lines_of as')) (take_all a (the_book d).alerts (omega (arith, many-alerts d)))
+
+  pub start-most : (a : ℕ) → a ≤ length d.alerts.items → start a ≤ length (lines_of (the_book d).alerts)
+  start-most a le =
+      let n = length d.alerts.items in
+      let e : a + (n - a) ≡ n = omega arith in
+      let up : start a ≤ start n = subst (λ i. start a ≤ start i) e (start-next a (n - a) (omega arith)) in
+      omega (arith, up, start-all n (let w : n ≤ n = omega arith in w))
+
+-- an alert of whose lines no condition is woken, and some alerts of that kind
+module _ (d : Draft) (sealed : IsSealed d) (m : ℕ → Moment) (k visited : ℕ) (t : Terms) (flags : List Bool) (small : k < 2 ^ 63) where
+  each-off : (a : ℕ) (x : Alert) (within : a < length d.alerts.items) → x ≡ get_or d.alerts.items a x → NoneMarked t.woken (lines_start (the_book d) a) (lines_start (the_book d) (a + 1))
+      → (j : ℕ) → j ≤ length x.lines.items → LinesHalf (the_book d) m k (start d a + 0) visited t flags → LinesHalf (the_book d) m k (start d a + j) visited t flags
+  each-off a x within here off zero le half = half
+  each-off a x within here off (suc j) le half =
+      let inside : j < length x.lines.items = omega arith in
+      let many = own-many d d.alerts.items a x refl within here in
+      with-item x.lines.items j inside
+      (λ l at.
+      subst (λ n. LinesHalf (the_book d) m k (start d a + n) visited t flags) (add-one j)
+      (line-off d sealed d.alerts.items a x refl within here x.lines.items j l refl inside at m k visited t flags small
+      (off _ (omega arith) (omega (arith, many, inside))) (off _ (omega arith) (omega (arith, many, inside)))
+      (each-off a x within here off j (omega arith) half)))
+
+  own-off : (a : ℕ) → a < length d.alerts.items → NoneMarked t.woken (lines_start (the_book d) a) (lines_start (the_book d) (a + 1))
+      → LinesHalf (the_book d) m k (start d a) visited t flags → LinesHalf (the_book d) m k (start d (a + 1)) visited t flags
+  own-off a within off half =
+      with-item d.alerts.items a within
+      (λ x here. own-end d d.alerts.items a x refl within here m k (length x.lines.items) visited t flags refl
+      (each-off a x within here off (length x.lines.items) (let le : length x.lines.items ≤ length x.lines.items = omega arith in le) (own-begin (the_book d) m k (start d a) visited t flags half)))
+
+  lines-off : (a n : ℕ) → a + n ≤ length d.alerts.items → NoneMarked t.woken (lines_start (the_book d) a) (lines_start (the_book d) (a + n))
+      → LinesHalf (the_book d) m k (start d a) visited t flags → LinesHalf (the_book d) m k (start d (a + n)) visited t flags
+  lines-off a zero le off half = let e : a ≡ a + 0 = omega arith in subst (λ i. LinesHalf (the_book d) m k (start d i) visited t flags) e half
+  lines-off a (suc n) le off half =
+      let e : (a + n) + 1 ≡ a + suc n = omega arith in
+      let last : start d (a + n) ≤ start d (a + suc n) = subst (λ i. start d (a + n) ≤ start d i) e (start-grows d (a + n) (omega arith)) in
+      subst (λ i. LinesHalf (the_book d) m k (start d i) visited t flags) e
+      (own-off (a + n) (omega arith)
+      (λ j from to. off j (omega (arith, from, start-next d a n (omega arith))) (subst (λ i. j < lines_start (the_book d) i) e to))
+      (lines-off a n (omega arith) (λ j from to. off j from (omega (arith, to, last))) half))
+
+  -- up to the next alert that has one, or to the end
+  pub lines-skip : (a b : ℕ) → a ≤ b → b ≤ length d.alerts.items → NoneMarked t.woken (lines_start (the_book d) a) (lines_start (the_book d) b)
+      → LinesHalf (the_book d) m k (start d a) visited t flags → LinesHalf (the_book d) m k (start d b) visited t flags
+  lines-skip a b le most off half =
+      let e : a + (b - a) ≡ b = omega arith in
+      subst (λ i. LinesHalf (the_book d) m k (start d i) visited t flags) e
+      (lines-off a (b - a) (omega arith) (subst (λ i. NoneMarked t.woken (lines_start (the_book d) a) (lines_start (the_book d) i)) (sym e) off) half)
+
 -- before the first line
-pub lines-begin : (d : Draft) (m : ℕ → Moment) (k visited : ℕ) (terms : Terms) (flags : List Bool) → BookHalf (the_book d) m k (lines_from (the_book d)) (suc (length (the_book d).alerts)) visited terms
+pub lines-begin : (d : Draft) (m : ℕ → Moment) (k visited : ℕ) (terms : Terms) (flags : List Bool) → LinesWere (the_book d) m k flags → BookHalf (the_book d) m k (lines_from (the_book d)) (suc (length (the_book d).alerts)) visited terms
     → LinesHalf (the_book d) m k 0 visited terms flags
-lines-begin d m k visited terms flags half = record {
+lines-begin d m k visited terms flags were half = record {
   terms = subst (λ n. BookHalf (the_book d) m k n (suc (length (the_book d).alerts)) visited terms) (let e : lines_from (the_book d) ≡ lines_from (the_book d) + 2 * 0 = omega arith in e) half;
   told = λ j l lt is. absurd (omega arith);
+  left = λ h e j l le is. were h e j l is;
 }
 
 -- behind the last

@@ -44,6 +44,11 @@ rest-asked w hit (suc h) j p t small tells left off =
       next = subst (IsDue (staying w (suc h)) p.tree (suc h)) (sym (is.kept off)) (rests_due w p.tree h is.due small rests is.next);
     }
 
+-- and holds where it held
+pub rest-holds : (w : World) (hit : Operand → Bool) (k h j : ℕ) (p : Placed) (t : Terms) → k < 2 ^ 63 → k ≡ suc h → TellsMoved hit w k p → IsLeft w hit k j p t → is_marked t.woken j ≡ false
+    → holds w p.tree h ≡ holds w p.tree k
+rest-holds w hit k h j p t small e tells left off = sym (left.later h e).told ∙ (rest-asked w hit k j p t small tells left off).told
+
 module _ (ps : List Placed) (worlds : ℕ → World) (k i : ℕ) (p : Placed) (here : slice_get ps i ≡ Some p) where
   -- what the condition adds to the visits
   nodes-is : (b : Bool) → woken (worlds i) p.tree k ≡ b → nodes_woken ps worlds k i ≡ cond b (nodes p.tree) 0

@@ -106,15 +106,15 @@ unfolding value_before value_in
 values-before b m k values told = told
 
 -- what is kept of the conditions after a moment
-pub terms-after : (b : Book) (m : ℕ → Moment) (k visited : ℕ) (t : Terms) (params : Params) (keys : Keys) (one two : Bool) → AllStepped b m k visited t → Came b m k params keys one two
-    → TermsStand b m (suc k) (record t { keys = keys; one_up = one; two_up = two })
-terms-after b m k visited t params keys one two all came =
+pub terms-after : (b : Book) (m : ℕ → Moment) (k visited : ℕ) (t : Terms) (params : Params) (keys kept : Keys) (one two : Bool) → kept ≡ keys → AllStepped b m k visited t → Came b m k params keys one two
+    → TermsStand b m (suc k) (record t { keys = kept; one_up = one; two_up = two })
+terms-after b m k visited t params keys kept one two same all came =
     let back : (h : ℕ) → suc k ≡ suc h → k ≡ h = λ h e. omega (arith, e) in
     record {
       cells = λ j p is. (all.asked j p is).stands;
       told = λ h e j p is. (all.asked j p is).told ∙ ap (holds (world_of b m j) p.tree) (back h e);
       next = λ h e j p is. subst (λ n. IsDue (staying (world_of b m j) n) p.tree n (slice_index t.dues j)) (back h e) (all.asked j p is).next;
-      keys = λ h e x at. came.strokes.pressed x at ∙ ap (pressed (strokes_in b m) x) (back h e);
+      keys = λ h e x at. ap (λ (q : Keys). is_pressed q x) same ∙ came.strokes.pressed x at ∙ ap (pressed (strokes_in b m) x) (back h e);
       one_up = λ h e. came.one_up ∙ ap (computer_up b m 1) (back h e);
       two_up = λ h e. came.two_up ∙ ap (computer_up b m 2) (back h e);
     }

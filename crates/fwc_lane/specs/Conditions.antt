@@ -12,6 +12,7 @@ use Rattle.ecam_spec.specs.Situation.{flight, world, condition_in, phase_in, str
 use Rattle.ecam_spec.specs.Screen.{line_stands}
 use Rattle.ecam_kinds.specs.KeyState.{is_pressed}
 use Rattle.ecam_kinds.specs.declared.phase.Phase.{Phase}
+use Rattle.book_model.specs.Told.{TellsOf}
 use Rattle.book_model.specs.Conditions.{places, lines_from, memos_from, alerts_from, world_of}
 use Rattle.term_eval.specs.declared.env.Env.{Env}
 use Rattle.term_eval.specs.Shown.{Shows}
@@ -119,29 +120,43 @@ module _ (b : Book) (moments : ℕ → Moment) where
   abbrev pub WasPhase : ℕ → Phase → Type 0
   WasPhase k was = (h : ℕ) → k ≡ suc h → was.number ≡ phase_in b moments h
 
+  -- these flags tell which lines stood in the moment before k, and these which memos held
+  abbrev pub LinesWere : ℕ → List Bool → Type 0
+  LinesWere k flags = (h : ℕ) → k ≡ suc h → TellsOf flags (lines_of b.alerts) (line_stands b moments h)
+
+  abbrev pub MemosWere : ℕ → List Bool → Type 0
+  MemosWere k flags = (h : ℕ) → k ≡ suc h → TellsOf flags b.memos (λ x. holds (world b moments) x.when h)
+
   -- the alerts below i have been stepped
   pub record AlertsHalf (k i visited : ℕ) (t : Terms) (truths : Truths) : Type 0 where
     pub terms : BookHalf k (alerts_from + i) (suc i) visited t
     pub alerts : HalfStand b (condition_in b moments) (phase_in b moments) k i truths
 
-  -- the procedure lines below i have been stepped, and of these the flags tell which stand
+  -- the procedure lines below i have been stepped. Of these the flags tell which stand, and of the others which stood in the
+  -- moment before
   pub record LinesHalf (k i visited : ℕ) (t : Terms) (flags : List Bool) : Type 0 where
     pub terms : BookHalf k (lines_from b + 2 * i) (suc (length b.alerts)) visited t
     pub told : (j : ℕ) (l : Line) → j < i → slice_get (lines_of b.alerts) j ≡ Some l
         → slice_index_or flags j false ≡ line_stands b moments k l
+    pub left : (h : ℕ) → k ≡ suc h → (j : ℕ) (l : Line) → i ≤ j → slice_get (lines_of b.alerts) j ≡ Some l
+        → slice_index_or flags j false ≡ line_stands b moments h l
 
-  -- the memos below i have been stepped, and of these the flags tell which hold
+  -- the memos below i have been stepped. Of these the flags tell which hold, and of the others which held in the moment before
   pub record MemosHalf (k i visited : ℕ) (t : Terms) (flags : List Bool) : Type 0 where
     pub terms : BookHalf k (memos_from b + i) (suc (length b.alerts)) visited t
     pub told : (j : ℕ) (x : Memo) → j < i → slice_get b.memos j ≡ Some x
         → slice_index_or flags j false ≡ holds (world b moments) x.when k
+    pub left : (h : ℕ) → k ≡ suc h → (j : ℕ) (x : Memo) → i ≤ j → slice_get b.memos j ≡ Some x
+        → slice_index_or flags j false ≡ holds (world b moments) x.when h
 
   -- what moment k finds, before it steps any condition
-  pub record ConditionsWait (k visited : ℕ) (t : Terms) (state : PhaseState) (alerts : Truths) (last : Phase) : Type 0 where
+  pub record ConditionsWait (k visited : ℕ) (t : Terms) (state : PhaseState) (alerts : Truths) (last : Phase) (stood held : List Bool) : Type 0 where
     pub terms : BookHalf k 0 0 visited t
     pub phases : flight_phases.Stands (flight b moments) k state
     pub truths : TruthsStand b (condition_in b moments) (phase_in b moments) k alerts
     pub was : WasPhase k last
+    pub lines : LinesWere k stood
+    pub memos : MemosWere k held
 
   -- all that the conditions of the moments up to k leave
   pub record ConditionsStepped (k visited : ℕ) (t : Terms) (state : PhaseState) (alerts : Truths) : Type 0 where

@@ -1,23 +1,20 @@
 -- When a lane stands for an era: what each of its parts holds of the moments so far.
 use Rattle.std.specs.Prelude.{◌≡◌, ℕ, suc, ◌<◌, ◌≤◌, Bool, nat_lt, List, length}
 use Rattle.ecam_spec.specs.Book.{Book}
-use Rattle.ecam_spec.specs.BookTerms.{lines_of}
-use Rattle.ecam_spec.specs.Term.{holds}
 use Rattle.ecam_spec.specs.Value.{BusWord}
 use Rattle.ecam_spec.specs.History.{Moment, Stroke, Era}
 use Rattle.ecam_spec.specs.Replay.{moment_of}
-use Rattle.ecam_spec.specs.Situation.{words_in, flight, phase_in, condition_in, world}
-use Rattle.ecam_spec.specs.Screen.{cockpit, attention, panel, line_stands, picture_in}
+use Rattle.ecam_spec.specs.Situation.{words_in, flight, phase_in, condition_in}
+use Rattle.ecam_spec.specs.Screen.{cockpit, attention, panel, picture_in}
 use Rattle.ecam_kinds.specs.KeyState.{KeysStand}
 use Rattle.ecam_kinds.specs.Shown.{picture_of}
-use Rattle.book_model.specs.Told.{TellsOf}
 use Rattle.param_table.specs.TableState.{ParamsStand}
 use Rattle.flight_phases.specs.State as flight_phases
 use Rattle.alert_truth.specs.TruthsState.{TruthsStand}
 use Rattle.crew_marks.specs.MarksState.{MarksStand}
 use Rattle.attention.specs.State.{AttentionStands}
 use Rattle.system_display.specs.Selecting as selecting
-use Rattle.fwc_lane.specs.Conditions.{TermsStand}
+use Rattle.fwc_lane.specs.Conditions.{TermsStand, LinesWere, MemosWere}
 use Rattle.fwc_lane.specs.Given.{AreBefore}
 use Rattle.fwc_lane.specs.ChangedRows.{TellsRows}
 use Rattle.fwc_lane.specs.Drawn.{IsDrawn}
@@ -36,8 +33,8 @@ pub record WholeStands (b : Book) (m : ℕ → Moment) (k : ℕ) (l : Lane) : Ty
   pub selector : selecting.Stands (panel b m) k l.selector
   pub phase : (j : ℕ) → k ≡ suc j → l.phase.number ≡ phase_in b m j
   pub values : AreBefore b (words_in b m) k l.values.items
-  pub lines : (j : ℕ) → k ≡ suc j → TellsOf l.lines.items (lines_of b.alerts) (line_stands b m j)
-  pub memos : (j : ℕ) → k ≡ suc j → TellsOf l.memos.items b.memos (λ x. holds (world b m) x.when j)
+  pub lines : LinesWere b m k l.lines.items
+  pub memos : MemosWere b m k l.memos.items
   pub drawn : IsDrawn b m k (picture_of l.picture) l.counts
   pub changed : TellsRows (picture_in b m) k l.changed
 

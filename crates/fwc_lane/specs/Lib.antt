@@ -1,3 +1,4 @@
+pub mod Strokes
 pub mod TermsFit
 pub mod Waking
 pub mod Visits

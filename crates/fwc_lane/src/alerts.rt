@@ -10,6 +10,7 @@ ghost use Rattle.fwc_lane.specs.Given.{Lends};
 ghost use Rattle.fwc_lane.specs.TermsFit.{TermsFit};
 
 use crate::conditions::step_term;
+use crate::next::next_alert;
 use crate::numbers::alert_number;
 use crate::terms::Terms;
 use crate::waking::{differ, wake_alert};
@@ -54,9 +55,10 @@ fn step_alert(
     wake_alert(&mut terms.woken, &terms.watch, book, alert, other);
 }
 
-/// Steps all alerts by moment `now`, and settles which are starred and up. Its cost is a look at each alert, one visit of
-/// each node of the conditions that are woken, a write for each condition that an alert wakes, and, where an alert changed,
-/// two looks more at each and one at each secondary of the active ones.
+/// Steps by moment `now` the alerts that may change, and settles which are starred and up: those whose condition is woken,
+/// and those that are restless. The others are as they were, and aren't looked at. Its cost is a look for each 64 alerts and
+/// a few at each that may change, one visit of each node of the conditions that are woken, a write for each condition that an
+/// alert wakes, and, where an alert changed, a look at each and one at each secondary of the active ones.
 pub fn step_alerts(terms: &mut Terms, truths: &mut Truths, book: &Book, env: &Env<'_>, now: u64)
     requires terms { TermsFit (the_book book.now) terms.old }
     requires fits { TruthsFit (the_book book.now) truths.old }
@@ -83,8 +85,11 @@ pub fn step_alerts(terms: &mut Terms, truths: &mut Truths, book: &Book, env: &En
         → BookHalf (the_book book.now) m now (lines_from (the_book book.now))
         (suc (length (the_book book.now).alerts)) visits terms.new }
 {
-    for alert in 0..book.alerts().len() {
-        step_alert(terms, truths, book, alert, env, now);
+    let end = book.alerts().len();
+    let mut next = next_alert(&terms.woken, truths, book, 0);
+    while next < end {
+        step_alert(terms, truths, book, next, env, now);
+        next = next_alert(&terms.woken, truths, book, next + 1);
     }
     truths.settle(book);
 }

@@ -10,22 +10,22 @@ ghost use Rattle.fwc_lane.specs.Conditions.{TermsStand, BookHalf};
 ghost use Rattle.fwc_lane.specs.Given.{Came, AreBefore};
 ghost use Rattle.fwc_lane.specs.TermsFit.{TermsFit};
 
+use crate::strokes::Strokes;
 use crate::terms::Terms;
 use crate::values::read_values;
 use crate::waking::{differ, wake_computers, wake_first, wake_keys};
 use book_model::Book;
-use ecam_kinds::Keys;
 use param_table::Params;
 
 /// Begins the end of moment `now`: reads its values, and marks the conditions that are due, and those that name a value, a
 /// key or a computer that is another than it was. Answers whether some value is. Its cost is a look for each 64 parameters
-/// and at each source of those that may have another value, two at each key, and a write for each condition that names what
-/// is another, or is due.
+/// and at each source of those that may have another value, two at each key if one is or was pressed, and a write for each
+/// condition that names what is another, or is due.
 pub fn begin_moment(
     terms: &mut Terms,
     values: &mut Vec<Option<i64>>,
     params: &Params,
-    keys: &Keys,
+    keys: &Strokes,
     book: &Book,
     one_up: bool,
     two_up: bool,

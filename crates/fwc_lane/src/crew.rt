@@ -4,17 +4,19 @@ ghost use Rattle.ecam_spec.specs.Book as plain;
 ghost use Rattle.ecam_spec.specs.History.{Moment};
 ghost use Rattle.ecam_spec.specs.Situation.{strokes_in, phase_in, condition_in};
 ghost use Rattle.ecam_spec.specs.Screen as screen;
+ghost use Rattle.ecam_spec.specs.Screen.{cockpit};
 ghost use Rattle.ecam_kinds.specs.KeyState.{KeysStand};
 ghost use Rattle.book_model.specs.Sealed.{the_book};
 ghost use Rattle.alert_truth.specs.TruthsState.{TruthsFit, TruthsStand};
-ghost use Rattle.crew_marks.specs.MarksState.{MarksFit};
+ghost use Rattle.crew_marks.specs.MarksState.{MarksFit, MarksStand};
 ghost use Rattle.crew_marks.specs.CrewMarks as marking;
-ghost use Rattle.attention.specs.State.{AttentionFits};
+ghost use Rattle.attention.specs.State.{AttentionFits, AttentionStands};
 ghost use Rattle.attention.specs.State as lighting;
 ghost use Rattle.system_display.specs.Selecting.{SelectorFits};
 ghost use Rattle.system_display.specs.Selecting as selecting;
-ghost use Rattle.fwc_lane.specs.CrewStands.{CrewStands};
+ghost use Rattle.fwc_lane.specs.CrewStands.{CrewStands, IsShownAsBefore};
 
+use crate::flags::is_either;
 use alert_truth::Truths;
 use attention::Attention;
 use book_model::Book;
@@ -37,8 +39,64 @@ fn enters(ticked: bool, was: u8, phase: u8) -> bool
     phase == 1 && ticked && was != 1
 }
 
+// Steps the crew's marks. Where no alert turned it looks at none, unless the crew does something.
+fn step_marks(marks: &mut Marks, truths: &Truths, book: &Book, keys: &Keys, enters_one: bool)
+    requires truths { TruthsFit (the_book book.now) truths.now }
+    requires marks { MarksFit (the_book book.now) marks.old }
+    requires goes_on { marking.CanGoOn marks.old }
+    ensures marks { MarksFit (the_book book.now) marks.new }
+    ensures moments { marks.new.moments ≡ marks.old.moments + 1 }
+    ensures stands { (m : ℕ → Moment) (k : ℕ)
+        → TruthsStand (the_book book.now) (condition_in (the_book book.now) m)
+        (phase_in (the_book book.now) m) (suc k) truths.now
+        → KeysStand (strokes_in (the_book book.now) m) k keys.now
+        → enters_one ≡ screen.enters_one (the_book book.now) m k
+        → MarksStand (the_book book.now) (cockpit (the_book book.now) m) k marks.old
+        → MarksStand (the_book book.now) (cockpit (the_book book.now) m) (suc k) marks.new }
+    ensures kept { marks.new.changed ≡ false → marks.new.sets ≡ marks.old.sets }
+{
+    if truths.changed() {
+        marks.step(book, truths.up(), truths.waiting(), keys, enters_one);
+        return;
+    }
+    marks.step_still(book, truths.up(), truths.waiting(), keys, enters_one);
+}
+
+// Steps the lights and the sound. Where no alert turned, nor any mark, it looks at none, unless a press acknowledges.
+fn step_attention(
+    attention: &mut Attention,
+    marks: &Marks,
+    truths: &Truths,
+    book: &Book,
+    keys: &Keys,
+)
+    requires truths { TruthsFit (the_book book.now) truths.now }
+    requires marks { MarksFit (the_book book.now) marks.now }
+    requires attention { AttentionFits (the_book book.now) attention.old }
+    requires goes_on { lighting.CanGoOn attention.old }
+    ensures attention { AttentionFits (the_book book.now) attention.new }
+    ensures moments { attention.new.moments ≡ attention.old.moments + 1 }
+    ensures stands { (m : ℕ → Moment) (k : ℕ)
+        → TruthsStand (the_book book.now) (condition_in (the_book book.now) m)
+        (phase_in (the_book book.now) m) (suc k) truths.now
+        → KeysStand (strokes_in (the_book book.now) m) k keys.now
+        → MarksStand (the_book book.now) (cockpit (the_book book.now) m) (suc k) marks.now
+        → (marks.now.changed ≡ false → IsShownAsBefore (the_book book.now) m k)
+        → AttentionStands (the_book book.now) (screen.attention (the_book book.now) m) k
+        attention.old
+        → AttentionStands (the_book book.now) (screen.attention (the_book book.now) m) (suc k)
+        attention.new }
+{
+    if is_either(truths.changed(), marks.changed()) {
+        attention.step(book, truths.up(), marks.shown(), keys);
+        return;
+    }
+    attention.step_still(book, truths.up(), marks.shown(), keys);
+}
+
 /// Steps the crew's marks, the lights and the sound, and the selection by one moment. CLR and EMER CANC aim at the first
-/// alert that the moment before showed. Its cost is two looks at each alert, and one at the key of each page.
+/// alert that the moment before showed. Its cost is one look at the key of each page, and two at each alert where an alert
+/// turned or a key acts on them.
 pub fn step_crew(
     marks: &mut Marks,
     attention: &mut Attention,
@@ -71,8 +129,8 @@ pub fn step_crew(
     ensures kept { marks.new.changed ≡ false → marks.new.sets ≡ marks.old.sets }
 {
     book.sealed();
-    marks.step(book, truths.up(), truths.waiting(), keys, enters_one);
-    attention.step(book, truths.up(), marks.shown(), keys);
+    step_marks(marks, truths, book, keys, enters_one);
+    step_attention(attention, marks, truths, book, keys);
     let target = marks.target();
     selector.step(book, keys, target);
 }

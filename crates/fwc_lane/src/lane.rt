@@ -19,12 +19,13 @@ use crate::crew::{enters_one, step_crew};
 use crate::drawing::draw;
 use crate::scene::{Scene, Turned};
 use crate::step::step_conditions;
+use crate::strokes::Strokes;
 use crate::terms::Terms;
 use alert_truth::Truths;
 use attention::Attention;
 use book_model::Book;
 use crew_marks::Marks;
-use ecam_kinds::{Event, Keys, Phase, Picture, ROWS};
+use ecam_kinds::{Event, Phase, Picture, ROWS};
 use flight_phases::PhaseState;
 use param_table::Params;
 use std::alloc::{AllocError, Global};
@@ -54,7 +55,7 @@ pub struct Lane {
     /// What the system display is asked to show.
     pub selector: Selector,
     /// The keys that were pressed in the moment that hasn't ended, and those that are held.
-    pub keys: Keys,
+    pub keys: Strokes,
     /// Per procedure line whether it stands in the last moment; before the first they say nothing.
     pub lines: Vec<bool>,
     /// Per memo whether it holds in the last moment; before the first they say nothing.
@@ -98,7 +99,7 @@ impl Lane {
             marks,
             attention,
             selector: Selector::new(),
-            keys: Keys::new(),
+            keys: Strokes::new(),
             lines,
             memos,
             ticked: false,
@@ -127,7 +128,7 @@ impl Lane {
         self.marks.clear();
         self.attention.clear();
         self.selector = Selector::new();
-        self.keys = Keys::new();
+        self.keys = Strokes::new();
         self.ticked = false;
         self.moments = 0;
         self.picture.copy_from(&Picture::blank());
@@ -154,7 +155,7 @@ impl Lane {
         self.marks.copy_from(&other.marks);
         self.attention.copy_from(&other.attention);
         self.selector = other.selector;
-        self.keys = other.keys;
+        self.keys.copy_from(&other.keys);
         self.lines.copy_from_slice(&other.lines);
         self.memos.copy_from_slice(&other.memos);
         self.ticked = other.ticked;
@@ -238,7 +239,7 @@ impl Lane {
             values: &self.values,
             phase: Phase { number: 1 },
             active: &[],
-            keys: &self.keys,
+            keys: self.keys.keys(),
             one_up,
             two_up,
         };
@@ -260,7 +261,7 @@ impl Lane {
             &mut self.selector,
             &self.truths,
             book,
-            &self.keys,
+            self.keys.keys(),
             enters_one(self.ticked, self.phase, stepped.phase),
         );
         let turned = Turned::of(
@@ -293,7 +294,7 @@ impl Lane {
         self.phase = stepped.phase;
         self.ticked = true;
         self.moments += 1;
-        self.terms.keys = self.keys;
+        self.terms.keys.copy_from(&self.keys);
         self.terms.one_up = one_up;
         self.terms.two_up = two_up;
         self.params.tick(book);

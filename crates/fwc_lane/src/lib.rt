@@ -17,13 +17,16 @@ mod flags;
 mod flight;
 mod lane;
 mod memos;
+mod next;
 mod numbers;
 mod procedures;
 mod scene;
 mod step;
+mod strokes;
 mod terms;
 mod values;
 mod waking;
 mod zones;
 
 pub use lane::Lane;
+pub use strokes::Strokes;

@@ -7,18 +7,20 @@ ghost use Rattle.term_eval.specs.Shown.{Shows};
 ghost use Rattle.book_model.specs.Sealed.{the_book};
 ghost use Rattle.book_model.specs.Told.{TellsOf};
 ghost use Rattle.book_model.specs.Conditions.{memos_from};
-ghost use Rattle.fwc_lane.specs.Conditions.{BookHalf, AllStepped};
+ghost use Rattle.fwc_lane.specs.Conditions.{BookHalf, MemosWere, AllStepped};
 ghost use Rattle.fwc_lane.specs.TermsFit.{TermsFit};
 
 use crate::conditions::step_term;
 use crate::flags::{is_either, set_flag};
+use crate::next::next_memo;
 use crate::numbers::first_memo;
 use crate::terms::Terms;
 use book_model::Book;
 use term_eval::Env;
 
-/// Steps all memos by moment `now`: `flags` has, per memo, whether it holds. Answers whether any flag turned. Its cost is
-/// a look at each, and one visit of each node of the conditions that are woken.
+/// Steps all memos by moment `now`: `flags` has, per memo, whether it holds, and before it of the moment before. Answers
+/// whether any flag turned. A memo whose condition isn't woken holds where it held, and isn't looked at. The cost is a look for
+/// each 64 memos, and one visit of each node of the conditions that are woken.
 pub fn step_memos(
     terms: &mut Terms,
     flags: &mut Vec<bool>,
@@ -37,23 +39,28 @@ pub fn step_memos(
     ensures flags { length flags.new.items ≡ length flags.old.items }
     ensures told { (m : ℕ → Moment) (visits : ℕ)
         → Shows env.now (world (the_book book.now) m) now
+        → MemosWere (the_book book.now) m now flags.old.items
         → BookHalf (the_book book.now) m now (memos_from (the_book book.now))
         (suc (length (the_book book.now).alerts)) visits terms.old
         → TellsOf flags.new.items (the_book book.now).memos
         (λ x. holds (world (the_book book.now) m) x.when now) }
     ensures stands { (m : ℕ → Moment) (visits : ℕ)
         → Shows env.now (world (the_book book.now) m) now
+        → MemosWere (the_book book.now) m now flags.old.items
         → BookHalf (the_book book.now) m now (memos_from (the_book book.now))
         (suc (length (the_book book.now).alerts)) visits terms.old
         → AllStepped (the_book book.now) m now visits terms.new }
     ensures kept { result ≡ false → flags.new.items ≡ flags.old.items }
 {
+    book.sealed();
     let first = first_memo(book);
     let mut turned = false;
-    for i in 0..book.memos().len() {
-        let holds = step_term(terms, first + i, &book.memos()[i].when, env, now);
-        let other = set_flag(flags, i, holds);
+    let mut next = 0;
+    while let Some(memo) = next_memo(&terms.woken, book, next) {
+        let holds = step_term(terms, first + memo, &book.memos()[memo].when, env, now);
+        let other = set_flag(flags, memo, holds);
         turned = is_either(turned, other);
+        next = memo + 1;
     }
     turned
 }

@@ -11,11 +11,12 @@ ghost use Rattle.book_model.specs.Sealed.{the_book};
 ghost use Rattle.book_model.specs.Told.{TellsOf};
 ghost use Rattle.book_model.specs.View.{tree_in, placed_of};
 ghost use Rattle.book_model.specs.Conditions.{places, lines_from, memos_from};
-ghost use Rattle.fwc_lane.specs.Conditions.{BookHalf, LinesHalf, StepsLine};
+ghost use Rattle.fwc_lane.specs.Conditions.{BookHalf, LinesHalf, LinesWere, StepsLine};
 ghost use Rattle.fwc_lane.specs.TermsFit.{TermsFit};
 
 use crate::conditions::step_term;
 use crate::flags::{is_either, set_flag};
+use crate::next::next_lines;
 use crate::numbers::line_number;
 use crate::terms::Terms;
 use book_model::{Book, Line};
@@ -90,8 +91,9 @@ fn step_own(
     turned
 }
 
-/// Steps all lines by moment `now`: `flags` has, per line, whether it stands. Answers whether any flag turned. Its cost is
-/// a look at each condition, and one visit of each node of those that are woken.
+/// Steps all lines by moment `now`: `flags` has, per line, whether it stands, and before it of the moment before. Answers
+/// whether any flag turned. Lines of an alert of which no condition is woken stand where they stood, and aren't looked at. The
+/// cost is a look for each 64 conditions, a few at each line of the other alerts, and one visit of each node that is woken.
 pub fn step_lines(
     terms: &mut Terms,
     flags: &mut Vec<bool>,
@@ -110,22 +112,27 @@ pub fn step_lines(
     ensures flags { length flags.new.items ≡ length flags.old.items }
     ensures told { (m : ℕ → Moment) (visits : ℕ)
         → Shows env.now (world (the_book book.now) m) now
+        → LinesWere (the_book book.now) m now flags.old.items
         → BookHalf (the_book book.now) m now (lines_from (the_book book.now))
         (suc (length (the_book book.now).alerts)) visits terms.old
         → TellsOf flags.new.items (lines_of (the_book book.now).alerts)
         (line_stands (the_book book.now) m now) }
     ensures stands { (m : ℕ → Moment) (visits : ℕ)
         → Shows env.now (world (the_book book.now) m) now
+        → LinesWere (the_book book.now) m now flags.old.items
         → BookHalf (the_book book.now) m now (lines_from (the_book book.now))
         (suc (length (the_book book.now).alerts)) visits terms.old
         → BookHalf (the_book book.now) m now (memos_from (the_book book.now))
         (suc (length (the_book book.now).alerts)) visits terms.new }
     ensures kept { result ≡ false → flags.new.items ≡ flags.old.items }
 {
+    book.sealed();
     let mut turned = false;
-    for alert in 0..book.alerts().len() {
+    let mut next = 0;
+    while let Some(alert) = next_lines(&terms.woken, book, next) {
         let own = step_own(terms, flags, book, alert, env, now);
         turned = is_either(turned, own);
+        next = alert + 1;
     }
     turned
 }

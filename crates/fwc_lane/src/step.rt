@@ -34,8 +34,8 @@ pub struct Stepped {
 }
 
 /// Steps the conditions of the book by moment `now`, in their order: those that are woken, while the others hold where they
-/// held. Its cost is a look at each condition and each alert, one visit of each node of the conditions that are woken, and a
-/// write for each that the phase or an alert wakes.
+/// held. Its cost is a look at each alert, one for each 64 conditions, one visit of each node of the conditions that are woken,
+/// and a write for each that the phase or an alert wakes.
 pub fn step_conditions(
     terms: &mut Terms,
     state: &mut PhaseState,
@@ -65,16 +65,20 @@ pub fn step_conditions(
     ensures last { result.phase.number ≤ 10 }
     ensures stands { (m : ℕ → Moment) (visits : ℕ) → Lends (the_book book.now) m now env.now
         → ConditionsWait (the_book book.now) m now visits terms.old state.old truths.old was
+        lines.old.items memos.old.items
         → ConditionsStepped (the_book book.now) m now visits terms.new state.new truths.new }
     ensures phase { (m : ℕ → Moment) (visits : ℕ) → Lends (the_book book.now) m now env.now
         → ConditionsWait (the_book book.now) m now visits terms.old state.old truths.old was
+        lines.old.items memos.old.items
         → result.phase.number ≡ phase_in (the_book book.now) m now }
     ensures line_flags { (m : ℕ → Moment) (visits : ℕ) → Lends (the_book book.now) m now env.now
         → ConditionsWait (the_book book.now) m now visits terms.old state.old truths.old was
+        lines.old.items memos.old.items
         → TellsOf lines.new.items (lines_of (the_book book.now).alerts)
         (line_stands (the_book book.now) m now) }
     ensures memo_flags { (m : ℕ → Moment) (visits : ℕ) → Lends (the_book book.now) m now env.now
         → ConditionsWait (the_book book.now) m now visits terms.old state.old truths.old was
+        lines.old.items memos.old.items
         → TellsOf memos.new.items (the_book book.now).memos
         (λ x. holds (world (the_book book.now) m) x.when now) }
     ensures lines_kept { result.lines ≡ false → lines.new.items ≡ lines.old.items }

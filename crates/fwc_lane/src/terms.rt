@@ -6,8 +6,8 @@ ghost use Rattle.book_model.specs.Conditions.{places};
 ghost use Rattle.term_eval.specs.CellState.{StandForNone};
 ghost use Rattle.fwc_lane.specs.TermsFit.{TermsFit, TookTerms};
 
+use crate::strokes::Strokes;
 use book_model::Book;
-use ecam_kinds::Keys;
 use std::alloc::{AllocError, Global};
 use term_eval::Cells;
 use wakes::{Marked, Wakes};
@@ -28,7 +28,7 @@ pub struct Terms {
     /// Which conditions name what. Nothing changes it.
     pub watch: Watch,
     /// The keys as they were in the last moment.
-    pub keys: Keys,
+    pub keys: Strokes,
     /// Computer 1 was up in the last moment.
     pub one_up: bool,
     /// Computer 2 was up in the last moment.
@@ -55,7 +55,7 @@ impl Terms {
             dues,
             woken,
             watch,
-            keys: Keys::new(),
+            keys: Strokes::new(),
             one_up: false,
             two_up: false,
         })
@@ -82,7 +82,7 @@ impl Terms {
         self.cells.copy_from(&other.cells);
         self.truths.copy_from_slice(&other.truths);
         self.dues.copy_from(&other.dues);
-        self.keys = other.keys;
+        self.keys.copy_from(&other.keys);
         self.one_up = other.one_up;
         self.two_up = other.two_up;
     }

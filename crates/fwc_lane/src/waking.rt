@@ -6,9 +6,11 @@ ghost use Rattle.book_model.specs.Conditions.{places};
 ghost use Rattle.wakes.specs.Marks.{is_marked, room};
 ghost use Rattle.watch_lists.specs.Listed.{has_term};
 ghost use Rattle.term_eval.specs.Woken.{differ};
+ghost use Rattle.fwc_lane.specs.Strokes.{NonePressed};
 ghost use Rattle.fwc_lane.specs.TermsFit.{Watches};
 ghost use Rattle.fwc_lane.specs.Waking.{WakesBy, ranged, key_turned};
 
+use crate::strokes::Strokes;
 use book_model::Book;
 use ecam_kinds::{Key, Keys, Phase};
 use wakes::{Marked, Wakes};
@@ -75,8 +77,8 @@ pub fn wake_alert(woken: &mut Marked, watch: &Watch, book: &Book, alert: usize, 
 }
 
 /// Wakes the conditions that name a key which is pressed in the moment and was not in the one before, or the other way
-/// round. Its cost is two looks at each key, and a write for each of these conditions.
-pub fn wake_keys(woken: &mut Marked, watch: &Watch, book: &Book, was: &Keys, keys: &Keys)
+/// round. Its cost is two looks at each key, and a write for each of these conditions; nothing where no key is or was pressed.
+pub fn wake_keys(woken: &mut Marked, watch: &Watch, book: &Book, was: &Strokes, keys: &Strokes)
     requires watch { Watches (the_book book.now) watch.now }
     requires room { length (places (the_book book.now)) ≤ room woken.old }
     ensures room { room woken.new ≡ room woken.old }
@@ -84,10 +86,21 @@ pub fn wake_keys(woken: &mut Marked, watch: &Watch, book: &Book, was: &Keys, key
         (ranged (length (the_book book.now).parameters + length (the_book book.now).alerts + 1) 25
         (key_turned was.now keys.now)) woken.old woken.new }
 {
+    if are_quiet(was, keys) {
+        return;
+    }
     for number in 0..25 {
-        let other = key_turned(was, keys, number);
+        let other = key_turned(was.keys(), keys.keys(), number);
         wake_key(woken, watch, book, number, other);
     }
+}
+
+// Whether it is known that no key is pressed in either of two moments.
+fn are_quiet(was: &Strokes, keys: &Strokes) -> bool
+    ensures was { result ≡ true → NonePressed was.now }
+    ensures keys { result ≡ true → NonePressed keys.now }
+{
+    !was.any() && !keys.any()
 }
 
 // Wakes the conditions that name the key of this number, where it is another.

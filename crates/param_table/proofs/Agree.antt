@@ -26,7 +26,7 @@ module _ (words later : ℕ → List BusWord) (k : ℕ) (same : (i : ℕ) → i 
   pub ParamsStand-below : (b : Book) (p : Params) → ParamsStand b words k p → ParamsStand b later k p
   ParamsStand-below b p stands = record {
     fits = stands.fits;
-    sources = λ q s is. SourceStands-below (parameter_with b.parameters q).kind (parameter_with b.parameters q).stale s p.clock (get_or p.held.received.items q None) (stands.sources q s is);
+    sources = λ q s is. SourceStands-below (parameter_with b.parameters q).kind (parameter_with b.parameters q).stale s p.clock (get_or p.held.received.items.items q None) (stands.sources q s is);
     due = stands.due;
     told = λ j on. differ_below (parameter_at b j) words later k same (stands.told j on);
     unchanged = λ q s is off. stands.unchanged q s is off

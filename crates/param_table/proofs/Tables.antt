@@ -40,7 +40,7 @@ pub held_none : (params : List Parameter) (received : List (Option Received)) (n
 held_none params received n q blank = subst (λ o. IfSome o (IsHeld params q)) (sym (ap (λ l. get_or l q None) blank ∙ none_replicate n q)) tt
 
 -- before any word
-pub start : (b : Book) (words : ℕ → List BusWord) (p : Params) (n : ℕ) → ParamsFit b p → words 0 ≡ [] → p.held.received.items ≡ replicate n None
+pub start : (b : Book) (words : ℕ → List BusWord) (p : Params) (n : ℕ) → ParamsFit b p → words 0 ≡ [] → p.held.received.items.items ≡ replicate n None
     → ((j : ℕ) → is_marked p.held.changed j ≡ false) → ParamsStand b words 0 p
 start b words p n fits none blank unmarked = record {
   fits = fits;
@@ -51,7 +51,7 @@ start b words p n fits none blank unmarked = record {
   unchanged = λ q s there off. ap (given p.clock) (empty q);
   told = λ j on. absurd (false≢true (sym (unmarked j) ∙ on));
 } where
-  empty : (q : ℕ) → get_or p.held.received.items q None ≡ None
+  empty : (q : ℕ) → get_or p.held.received.items.items q None ≡ None
   empty q = ap (λ l. get_or l q None) blank ∙ none_replicate n q
 
 get_or-set_back : (received : List (Option Received)) (q : ℕ) → get_or (map set_back received) q None ≡ set_back (get_or received q None)
@@ -75,52 +75,52 @@ due_soon clock (Some r) key soon = λ fresh. omega (arith, soon)
 
 -- the clock is set back
 pub clock_back : (b : Book) (words : ℕ → List BusWord) (k : ℕ) (old new : Params) → ParamsFit b new → old.clock ≡ 2 ^ 32 - 1
-    → new.clock ≡ 2 ^ 31 - 1 → new.held.received.items ≡ map set_back old.held.received.items → new.held.changed ≡ old.held.changed
+    → new.clock ≡ 2 ^ 31 - 1 → new.held.received.items.items ≡ map set_back old.held.received.items.items → new.held.changed ≡ old.held.changed
     → ((q : ℕ) → slice_index new.held.dues q ≡ 0) → ParamsStand b words k old → ParamsStand b words k new
 clock_back b words k old new fits full half same marks soon stands = record {
   fits = fits;
   sources = λ q s there. source q s there;
-  due = λ q. due_soon new.clock (get_or new.held.received.items q None) (slice_index new.held.dues q) (soon q);
+  due = λ q. due_soon new.clock (get_or new.held.received.items.items q None) (slice_index new.held.dues q) (soon q);
   unchanged = λ q s there off.
-      given_is (parameter_with b.parameters q).kind (parameter_with b.parameters q).stale s words k new.clock (get_or new.held.received.items q None) (source q s there)
-      ∙ sym (given_is (parameter_with b.parameters q).kind (parameter_with b.parameters q).stale s words k old.clock (get_or old.held.received.items q None) (stands.sources q s there))
+      given_is (parameter_with b.parameters q).kind (parameter_with b.parameters q).stale s words k new.clock (get_or new.held.received.items.items q None) (source q s there)
+      ∙ sym (given_is (parameter_with b.parameters q).kind (parameter_with b.parameters q).stale s words k old.clock (get_or old.held.received.items.items q None) (stands.sources q s there))
       ∙ stands.unchanged q s there (ap (λ m. is_marked m (q / 3)) (sym marks) ∙ off);
   told = λ j on. stands.told j (ap (λ m. is_marked m j) (sym marks) ∙ on);
 } where
   source : (q : ℕ) (s : Source) → source_at b.parameters q ≡ Some s
-      → SourceStands (parameter_with b.parameters q).kind (parameter_with b.parameters q).stale s words k new.clock (get_or new.held.received.items q None)
+      → SourceStands (parameter_with b.parameters q).kind (parameter_with b.parameters q).stale s words k new.clock (get_or new.held.received.items.items q None)
   source q s there =
-      rw (half, same, get_or-set_back) (set_back_stands (parameter_with b.parameters q).kind (parameter_with b.parameters q).stale s words k (get_or old.held.received.items q None)
-      (subst (λ t. SourceStands (parameter_with b.parameters q).kind (parameter_with b.parameters q).stale s words k t (get_or old.held.received.items q None)) full (stands.sources q s there)))
+      rw (half, same, get_or-set_back) (set_back_stands (parameter_with b.parameters q).kind (parameter_with b.parameters q).stale s words k (get_or old.held.received.items.items q None)
+      (subst (λ t. SourceStands (parameter_with b.parameters q).kind (parameter_with b.parameters q).stale s words k t (get_or old.held.received.items.items q None)) full (stands.sources q s there)))
 
 -- one more moment begins: each word is looked at whose freshness ends with it
-pub will_look : (clock : ℕ) (old new : Held) → new.received.items ≡ old.received.items → new.dues ≡ old.dues → AreDue clock old → WillLook (suc clock) new
+pub will_look : (clock : ℕ) (old new : Held) → new.received.items.items ≡ old.received.items.items → new.dues ≡ old.dues → AreDue clock old → WillLook (suc clock) new
 will_look clock old new same dues due = record {
   due = λ q. rw (same, dues) (look q).0;
   ending = λ q. rw (same, dues) (look q).1;
 } where
-  look : (q : ℕ) → IfSome (get_or old.received.items q None) (λ r. suc clock < r.end → slice_index old.dues q ≤ r.end)
-      × (is_ending (suc clock) (get_or old.received.items q None) ≡ true → slice_index old.dues q ≤ suc clock)
-  look q = will_look_at clock (get_or old.received.items q None) (slice_index old.dues q) (due q)
+  look : (q : ℕ) → IfSome (get_or old.received.items.items q None) (λ r. suc clock < r.end → slice_index old.dues q ≤ r.end)
+      × (is_ending (suc clock) (get_or old.received.items.items q None) ≡ true → slice_index old.dues q ≤ suc clock)
+  look q = will_look_at clock (get_or old.received.items.items q None) (slice_index old.dues q) (due q)
 
 pub moment : (b : Book) (words : ℕ → List BusWord) (k : ℕ) (old new : Params) → ParamsFit b new → words (suc k) ≡ []
-    → new.clock ≡ suc old.clock → new.held.received.items ≡ old.held.received.items → AreDue new.clock new.held
-    → ((q : ℕ) → is_marked new.held.changed (q / 3) ≡ false → is_ending new.clock (get_or old.held.received.items q None) ≡ false)
-    → ((p : ℕ) → ((q : ℕ) → q / 3 ≡ p → is_ending new.clock (get_or old.held.received.items q None) ≡ false) → is_marked new.held.changed p ≡ false)
+    → new.clock ≡ suc old.clock → new.held.received.items.items ≡ old.held.received.items.items → AreDue new.clock new.held
+    → ((q : ℕ) → is_marked new.held.changed (q / 3) ≡ false → is_ending new.clock (get_or old.held.received.items.items q None) ≡ false)
+    → ((p : ℕ) → ((q : ℕ) → q / 3 ≡ p → is_ending new.clock (get_or old.held.received.items.items q None) ≡ false) → is_marked new.held.changed p ≡ false)
     → ParamsStand b words k old → ParamsStand b words (suc k) new
 moment b words k old new fits none counts same due marks others stands = record {
   fits = fits;
   sources = λ q s there.
-      rw (counts, same) (moment_stands (parameter_with b.parameters q).kind (parameter_with b.parameters q).stale s words k old.clock (get_or old.held.received.items q None) none (stands.sources q s there));
+      rw (counts, same) (moment_stands (parameter_with b.parameters q).kind (parameter_with b.parameters q).stale s words k old.clock (get_or old.held.received.items.items q None) none (stands.sources q s there));
   due = due;
   unchanged = λ q s there off.
-      let received = get_or old.held.received.items q None in
+      let received = get_or old.held.received.items.items q None in
       let still : is_ending (suc old.clock) received ≡ false = ap (λ t. is_ending t received) (sym counts) ∙ marks q off in
       rw (counts, same) (still_given old.clock received still
       ∙ given_is (parameter_with b.parameters q).kind (parameter_with b.parameters q).stale s words k old.clock received (stands.sources q s there));
   told = λ p on.
-      moment_told b words k old.clock p old.held.received.items (is_marked new.held.changed p) none
-      (λ calm. others p (λ q row. ap (λ t. is_ending t (get_or old.held.received.items q None)) counts ∙ calm q row)) stands.fits.held.each stands.sources on;
+      moment_told b words k old.clock p old.held.received.items.items (is_marked new.held.changed p) none
+      (λ calm. others p (λ q row. ap (λ t. is_ending t (get_or old.held.received.items.items q None)) counts ∙ calm q row)) stands.fits.held.each stands.sources on;
 }
 
 -- what a place takes by a word, where its source does
@@ -142,7 +142,7 @@ entry_taken params q clock w s (Some r) o rule there = elim (cases_Bool (takes s
 -- a word comes, which is taken where a source takes it
 pub word : (b : Book) (before after : ℕ → List BusWord) (k : ℕ) (w : BusWord) (old new : Params) → ParamsFit b new → OneMore before after k w
     → new.clock ≡ old.clock
-    → ((q : ℕ) → get_or new.held.received.items q None ≡ cond (takes_at b.parameters w q) (entry old.clock w.bits (get_or old.rules.items q None)) (get_or old.held.received.items q None))
+    → ((q : ℕ) → get_or new.held.received.items.items q None ≡ cond (takes_at b.parameters w q) (entry old.clock w.bits (get_or old.rules.items.items q None)) (get_or old.held.received.items.items q None))
     → Renews old.clock old.held new.held
     → ((p : ℕ) → ((q : ℕ) → q / 3 ≡ p → takes_at b.parameters w q ≡ false) → is_marked new.held.changed p ≡ is_marked old.held.changed p)
     → ParamsStand b before k old → ParamsStand b after k new
@@ -152,9 +152,9 @@ word b before after k w old new fits on clock places renews others stands = reco
   sources = λ q s there.
       let kind = (parameter_with b.parameters q).kind in
       let stale = (parameter_with b.parameters q).stale in
-      let was = get_or old.held.received.items q None in
-      let rule = get_or old.rules.items q None in
-      let taken : get_or new.held.received.items q None ≡ cond (takes s w) (Some (record { value = reading kind s w.bits; end = old.clock + stale + 1 })) was =
+      let was = get_or old.held.received.items.items q None in
+      let rule = get_or old.rules.items.items q None in
+      let taken : get_or new.held.received.items.items q None ≡ cond (takes s w) (Some (record { value = reading kind s w.bits; end = old.clock + stale + 1 })) was =
       places q ∙ ap (λ o. cond (option_map_or (λ t. takes t w) o false) (entry old.clock w.bits rule) was) there
       ∙ entry_taken b.parameters q old.clock w s rule was (stands.fits.rules.each q) there in
       rw (clock, taken) (word_stands kind stale s before after k old.clock w was on (stands.sources q s there));
@@ -163,7 +163,7 @@ word b before after k w old new fits on clock places renews others stands = reco
       let kind = (parameter_with b.parameters q).kind in
       let stale = (parameter_with b.parameters q).stale in
       let kept = renews.marks q off in
-      ap (λ t. given t (get_or new.held.received.items q None)) clock ∙ kept.1 ∙ stands.unchanged q s there kept.0
+      ap (λ t. given t (get_or new.held.received.items.items q None)) clock ∙ kept.1 ∙ stands.unchanged q s there kept.0
       ∙ source_before-below before after k (λ i h. sym (on.before i h)) kind stale s;
 }
 
@@ -171,7 +171,7 @@ word b before after k w old new fits on clock places renews others stands = reco
 pub even_word : (b : Book) (before after : ℕ → List BusWord) (k : ℕ) (w : BusWord) (p : Params) → OneMore before after k w → is_odd w.bits ≡ false
     → ParamsStand b before k p → ParamsStand b after k p
 even_word b before after k w p on even stands =
-    word b before after k w p p stands.fits on refl (λ q. sym (ap (λ t. cond t (entry p.clock w.bits (get_or p.rules.items q None)) (get_or p.held.received.items q None)) (none_takes (source_at b.parameters q))))
+    word b before after k w p p stands.fits on refl (λ q. sym (ap (λ t. cond t (entry p.clock w.bits (get_or p.rules.items.items q None)) (get_or p.held.received.items.items q None)) (none_takes (source_at b.parameters q))))
     (record { marks = λ q off. (off, refl); due = λ due. due }) (λ p none. refl) stands where
       none_takes : (o : Option Source) → option_map_or (λ s. takes s w) o false ≡ false
       none_takes None = refl
@@ -197,16 +197,16 @@ entry_held params place (Some t) r is bound = record {
 }
 
 -- the table fits when the clock is set back
-pub back_fits : (b : Book) (old new : Params) → new.index ≡ old.index → new.rules ≡ old.rules → new.held.received.items ≡ map set_back old.held.received.items
+pub back_fits : (b : Book) (old new : Params) → new.index ≡ old.index → new.rules ≡ old.rules → new.held.received.items.items ≡ map set_back old.held.received.items.items
     → new.held.changed ≡ old.held.changed → length new.held.dues ≡ length old.held.dues → ParamsFit b old → ParamsFit b new
 back_fits b old new index rules same marks dues fits = record {
   sound = fits.sound;
   index = subst (IsIndex b.parameters) (sym index) fits.index;
-  rules = subst (λ rs. AreRules b.parameters rs.items) (sym rules) fits.rules;
+  rules = subst (λ rs. AreRules b.parameters rs.items.items) (sym rules) fits.rules;
   held = record {
-    places = ap length same ∙ length-map old.held.received.items set_back ∙ fits.held.places;
+    places = ap length same ∙ length-map old.held.received.items.items set_back ∙ fits.held.places;
     room = ap room marks ∙ fits.held.room;
     dues = dues ∙ fits.held.dues;
-    each = λ q. set_back_fits b.parameters q old.held.received.items new.held.received.items same (fits.held.each q);
+    each = λ q. set_back_fits b.parameters q old.held.received.items.items new.held.received.items.items same (fits.held.each q);
   };
 }

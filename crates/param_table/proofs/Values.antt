@@ -46,30 +46,30 @@ gives_none params q clock (Some r) none held = absurd (false≢true (sym (ap is_
 module _ (b : Book) (words : ℕ → List BusWord) (k : ℕ) (t : Params) (p : ℕ) (stands : ParamsStand b words k t) where
   -- what a place gives, by the source that may be there
   place_gives : (f : Source → Option ℤ)
-      → ((q : ℕ) (s : Source) → q / 3 ≡ p → source_at b.parameters q ≡ Some s → given t.clock (get_or t.held.received.items q None) ≡ f s)
-      → (j : ℕ) → j < 3 → given t.clock (get_or t.held.received.items (3 * p + j) None) ≡ option_and_then f (slice_get (parameter_at b p).sources j)
+      → ((q : ℕ) (s : Source) → q / 3 ≡ p → source_at b.parameters q ≡ Some s → given t.clock (get_or t.held.received.items.items q None) ≡ f s)
+      → (j : ℕ) → j < 3 → given t.clock (get_or t.held.received.items.items (3 * p + j) None) ≡ option_and_then f (slice_get (parameter_at b p).sources j)
   place_gives f each j small = by (slice_get (parameter_at b p).sources j) refl where
-    by : (o : Option Source) → slice_get (parameter_at b p).sources j ≡ o → given t.clock (get_or t.held.received.items (3 * p + j) None) ≡ option_and_then f o
-    by None is = gives_none b.parameters (3 * p + j) t.clock (get_or t.held.received.items (3 * p + j) None) (at_place b p j small ∙ is) (stands.fits.held.each (3 * p + j))
+    by : (o : Option Source) → slice_get (parameter_at b p).sources j ≡ o → given t.clock (get_or t.held.received.items.items (3 * p + j) None) ≡ option_and_then f o
+    by None is = gives_none b.parameters (3 * p + j) t.clock (get_or t.held.received.items.items (3 * p + j) None) (at_place b p j small ∙ is) (stands.fits.held.each (3 * p + j))
     by (Some s) is = each (3 * p + j) s (omega arith) (at_place b p j small ∙ is)
 
   gives_first : (f : Source → Option ℤ)
-      → ((q : ℕ) (s : Source) → q / 3 ≡ p → source_at b.parameters q ≡ Some s → given t.clock (get_or t.held.received.items q None) ≡ f s)
+      → ((q : ℕ) (s : Source) → q / 3 ≡ p → source_at b.parameters q ≡ Some s → given t.clock (get_or t.held.received.items.items q None) ≡ f s)
       → length (parameter_at b p).sources ≤ 3
-      → first_given t.clock t.held.received.items (3 * p) ≡ first_of (map f (parameter_at b p).sources)
+      → first_given t.clock t.held.received.items.items (3 * p) ≡ first_of (map f (parameter_at b p).sources)
   gives_first f each few =
-      ap (λ q. option_or (given t.clock (get_or t.held.received.items q None)) (option_or (given t.clock (get_or t.held.received.items (3 * p + 1) None)) (given t.clock (get_or t.held.received.items (3 * p + 2) None)))) (sym (add-zero (3 * p)))
-      ∙ ap (λ o. option_or o (option_or (given t.clock (get_or t.held.received.items (3 * p + 1) None)) (given t.clock (get_or t.held.received.items (3 * p + 2) None)))) (place_gives f each 0 (omega arith))
-      ∙ ap (λ o. option_or (option_and_then f (slice_get (parameter_at b p).sources 0)) (option_or o (given t.clock (get_or t.held.received.items (3 * p + 2) None)))) (place_gives f each 1 (omega arith))
+      ap (λ q. option_or (given t.clock (get_or t.held.received.items.items q None)) (option_or (given t.clock (get_or t.held.received.items.items (3 * p + 1) None)) (given t.clock (get_or t.held.received.items.items (3 * p + 2) None)))) (sym (add-zero (3 * p)))
+      ∙ ap (λ o. option_or o (option_or (given t.clock (get_or t.held.received.items.items (3 * p + 1) None)) (given t.clock (get_or t.held.received.items.items (3 * p + 2) None)))) (place_gives f each 0 (omega arith))
+      ∙ ap (λ o. option_or (option_and_then f (slice_get (parameter_at b p).sources 0)) (option_or o (given t.clock (get_or t.held.received.items.items (3 * p + 2) None)))) (place_gives f each 1 (omega arith))
       ∙ ap (λ o. option_or (option_and_then f (slice_get (parameter_at b p).sources 0)) (option_or (option_and_then f (slice_get (parameter_at b p).sources 1)) o)) (place_gives f each 2 (omega arith))
       ∙ firsts f (parameter_at b p).sources few
 
-  pub value_is : length (parameter_at b p).sources ≤ 3 → first_given t.clock t.held.received.items (3 * p) ≡ value (parameter_at b p) words k
+  pub value_is : length (parameter_at b p).sources ≤ 3 → first_given t.clock t.held.received.items.items (3 * p) ≡ value (parameter_at b p) words k
   unfolding value
   value_is few = gives_first (λ s. source_value (parameter_at b p).kind (parameter_at b p).stale s words k)
       (λ q s row there.
-      subst (λ r. given t.clock (get_or t.held.received.items q None) ≡ source_value (get_or b.parameters r no_parameter).kind (get_or b.parameters r no_parameter).stale s words k) row
-      (given_is _ _ s words k t.clock (get_or t.held.received.items q None) (stands.sources q s there)))
+      subst (λ r. given t.clock (get_or t.held.received.items.items q None) ≡ source_value (get_or b.parameters r no_parameter).kind (get_or b.parameters r no_parameter).stale s words k) row
+      (given_is _ _ s words k t.clock (get_or t.held.received.items.items q None) (stands.sources q s there)))
       few
 
   none_first : (j : ℕ) (ss : List Source) → j ≡ 0 → first_of (map (λ s. source_before (parameter_at b p).kind (parameter_at b p).stale s words j) ss) ≡ None
@@ -89,7 +89,7 @@ module _ (b : Book) (words : ℕ → List BusWord) (k : ℕ) (t : Params) (p : �
       sym (value_is few)
       ∙ gives_first (λ s. source_before (parameter_at b p).kind (parameter_at b p).stale s words k)
       (λ q s row there.
-      subst (λ r. given t.clock (get_or t.held.received.items q None) ≡ source_before (get_or b.parameters r no_parameter).kind (get_or b.parameters r no_parameter).stale s words k) row
+      subst (λ r. given t.clock (get_or t.held.received.items.items q None) ≡ source_before (get_or b.parameters r no_parameter).kind (get_or b.parameters r no_parameter).stale s words k) row
       (stands.unchanged q s there (ap (is_marked t.held.changed) row ∙ unmarked)))
       few
       ∙ before_is k

@@ -54,24 +54,24 @@ pub record IsHeld (params : List Parameter) (place : ℕ) (r : Received) : Type 
 
 -- the places are those of the parameters' sources
 pub record HeldFits (params : List Parameter) (h : Held) : Type 0 where
-  pub places : length h.received.items ≡ 3 * length params
+  pub places : length h.received.items.items ≡ 3 * length params
   pub room : room h.changed ≡ 64 * (length params / 64 + 1)
   pub dues : length h.dues ≡ 3 * length params
-  pub each : (q : ℕ) → IfSome (get_or h.received.items q None) (IsHeld params q)
+  pub each : (q : ℕ) → IfSome (get_or h.received.items.items q None) (IsHeld params q)
 
 -- the table was made for the book: it has the places of the book's sources, and finds them by bus and label
 pub record ParamsFit (b : Book) (p : Params) : Type 0 where
   pub sound : All IsSoundParameter b.parameters
   pub index : IsIndex b.parameters p.index
-  pub rules : AreRules b.parameters p.rules.items
+  pub rules : AreRules b.parameters p.rules.items.items
   pub held : HeldFits b.parameters p.held
 
 -- the table stands for the words of the moments up to k, which hasn't ended
 pub record ParamsStand (b : Book) (words : ℕ → List BusWord) (k : ℕ) (p : Params) : Type 0 where
   pub fits : ParamsFit b p
   pub sources : (q : ℕ) (s : Source) → source_at b.parameters q ≡ Some s
-      → SourceStands (parameter_with b.parameters q).kind (parameter_with b.parameters q).stale s words k p.clock (get_or p.held.received.items q None)
+      → SourceStands (parameter_with b.parameters q).kind (parameter_with b.parameters q).stale s words k p.clock (get_or p.held.received.items.items q None)
   pub due : AreDue p.clock p.held
   pub unchanged : (q : ℕ) (s : Source) → source_at b.parameters q ≡ Some s → is_marked p.held.changed (q / 3) ≡ false
-      → given p.clock (get_or p.held.received.items q None) ≡ source_before (parameter_with b.parameters q).kind (parameter_with b.parameters q).stale s words k
+      → given p.clock (get_or p.held.received.items.items q None) ≡ source_before (parameter_with b.parameters q).kind (parameter_with b.parameters q).stale s words k
   pub told : (j : ℕ) → is_marked p.held.changed j ≡ true → MayDiffer (parameter_at b j) words k

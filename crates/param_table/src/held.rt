@@ -1,17 +1,20 @@
 // What the sources of a book hold, by place, and which parameters may have another value by it.
-ghost use Rattle.std.specs.Prelude.{◌≡◌, ◌≢◌, ℕ, ◌/◌, ◌<◌, ◌≤◌, ◌==◌, ◌&&◌, ◌||◌, false, length, slice_index, slice_index_or, slice_set, None, Some};
+ghost use Rattle.std.specs.Prelude.{◌≡◌, ◌≢◌, ℕ, ◌/◌, ◌<◌, ◌≤◌, ◌==◌, ◌&&◌, ◌||◌, false, length, slice_index, slice_index_or, slice_set, replicate, None, Some, IfOk};
+ghost use Rattle.std.specs.Box.{boxed_slice_items};
 ghost use Rattle.wakes.specs.Marks.{is_marked, room};
 ghost use Rattle.param_table.specs.HeldValues.{is_ending, next_look};
 ghost use Rattle.param_table.specs.HeldState.{AreDue, Renews, WillLook};
 
 use crate::received::{Received, ends_by, given, is_ending, next_look};
+use std::alloc::{AllocError, Global};
+use std::boxed::BoxedSlice;
 use wakes::{Marked, Wakes};
 
 /// What the words say that the sources took last, and what became of it since the moment before.
 #[derive(Drop)]
 pub struct Held {
     /// Three places for each parameter, one for each of its sources.
-    pub received: Vec<Option<Received>>,
+    pub received: BoxedSlice<Option<Received>>,
     /// The parameters of which a source gave something else since the moment before.
     pub changed: Marked,
     /// By place when it is looked at: no later than when its word is no longer fresh.
@@ -21,12 +24,12 @@ pub struct Held {
 impl Held {
     /// A place takes a word. It is looked at when it would have been for the word before, where that comes first.
     pub fn renew(&mut self, clock: u32, place: usize, received: Received)
-        requires place { place < length self.old.received.items }
+        requires place { place < length self.old.received.items.items }
         requires dues { place < length self.old.dues }
         requires room { place / 3 < room self.old.changed }
         requires fresh { clock < received.end }
-        ensures received { self.new.received.items
-            ≡ slice_set self.old.received.items place (Some received) }
+        ensures received { self.new.received.items.items
+            ≡ slice_set self.old.received.items.items place (Some received) }
         ensures room { room self.new.changed ≡ room self.old.changed }
         ensures dues { length self.new.dues ≡ length self.old.dues }
         ensures renews { Renews clock self.old self.new }
@@ -55,7 +58,7 @@ impl Held {
 
     /// Looks at the places whose words may be fresh no more, and marks the parameters where one ends to be.
     pub fn look_at_due(&mut self, clock: u32)
-        requires dues { length self.old.dues ≡ length self.old.received.items }
+        requires dues { length self.old.dues ≡ length self.old.received.items.items }
         requires room { (q : ℕ) → q < length self.old.dues → q / 3 < room self.old.changed }
         ensures received { self.new.received ≡ self.old.received }
         ensures room { room self.new.changed ≡ room self.old.changed }
@@ -63,10 +66,10 @@ impl Held {
         ensures due { WillLook clock self.old → AreDue clock self.new }
         ensures marks { WillLook clock self.old → (q : ℕ)
             → is_marked self.new.changed (q / 3) ≡ false
-            → is_ending clock (slice_index_or self.old.received.items q None) ≡ false }
+            → is_ending clock (slice_index_or self.old.received.items.items q None) ≡ false }
         ensures others { (p : ℕ) → is_marked self.old.changed p ≡ false
             → ((q : ℕ) → q / 3 ≡ p
-            → is_ending clock (slice_index_or self.old.received.items q None) ≡ false)
+            → is_ending clock (slice_index_or self.old.received.items.items q None) ≡ false)
             → is_marked self.new.changed p ≡ false }
     {
         while let Some(place) = self.dues.first(u64::from(clock)) {
@@ -76,15 +79,15 @@ impl Held {
 
     // Looks at a place: its word is fresh for longer, or ends to be with this moment, or did before.
     fn look(&mut self, clock: u32, place: usize)
-        requires place { place < length self.old.received.items }
+        requires place { place < length self.old.received.items.items }
         requires dues { place < length self.old.dues }
         requires room { place / 3 < room self.old.changed }
         ensures received { self.new.received ≡ self.old.received }
         ensures room { room self.new.changed ≡ room self.old.changed }
         ensures dues { self.new.dues ≡ slice_set self.old.dues place
-            (next_look clock (slice_index_or self.old.received.items place None)) }
+            (next_look clock (slice_index_or self.old.received.items.items place None)) }
         ensures marks { (p : ℕ) → is_marked self.new.changed p
-            ≡ ((is_ending clock (slice_index_or self.old.received.items place None)
+            ≡ ((is_ending clock (slice_index_or self.old.received.items.items place None)
             && p == place / 3) || is_marked self.old.changed p) }
     {
         let received = self.received[place];
@@ -104,4 +107,15 @@ pub fn look_soon(dues: &mut Wakes, count: usize)
     for place in 0..count {
         dues.set(place, 0);
     }
+}
+
+/// So many places, none of which took a word. An error is want of memory.
+pub fn none_received(
+    alloc: Global,
+    count: usize,
+) -> Result<BoxedSlice<Option<Received>>, AllocError>
+    ensures { IfOk result (λ places. boxed_slice_items places ≡ replicate count None) }
+{
+    let places = vec![in alloc; None; count]?;
+    Ok(places.into_boxed_slice())
 }

@@ -8,6 +8,7 @@ ghost use Rattle.param_table.specs.Listening.{key_of};
 use crate::place::source_at;
 use book_model::{Param, WordSource};
 use std::alloc::{AllocError, Global};
+use std::boxed::BoxedSlice;
 
 /// How many keys there are: 256 labels on each of 16 buses.
 const KEYS: usize = 4096;
@@ -17,9 +18,9 @@ const KEYS: usize = 4096;
 #[derive(Drop)]
 pub struct Index {
     // By 256 times the bus and the label: the last place.
-    last: Vec<Option<u16>>,
+    last: BoxedSlice<Option<u16>>,
     // By place: the place before it in its chain.
-    before: Vec<Option<u16>>,
+    before: BoxedSlice<Option<u16>>,
 }
 
 impl Index {
@@ -38,19 +39,22 @@ impl Index {
             let earlier = enter(&mut last, source_at(params, place), place as u16);
             before.push(earlier)?;
         }
-        Ok(Index { last, before })
+        Ok(Index {
+            last: last.into_boxed_slice(),
+            before: before.into_boxed_slice(),
+        })
     }
 
     /// The last place of a source that listens to this bus and label, at the cost of one look-up.
     pub fn last(&self, bus: u8, label: u8) -> Option<u16>
-        ensures { result ≡ slice_index_or self.now.last.items (256 * bus + label) None }
+        ensures { result ≡ slice_index_or self.now.last.items.items (256 * bus + label) None }
     {
         at(&self.last, 256 * usize::from(bus) + usize::from(label))
     }
 
     /// The place before this one of a source that listens to the same bus and label.
     pub fn before(&self, place: usize) -> Option<u16>
-        ensures { result ≡ slice_index_or self.now.before.items place None }
+        ensures { result ≡ slice_index_or self.now.before.items.items place None }
     {
         at(&self.before, place)
     }

@@ -1,5 +1,6 @@
 // How the words of each source are read, by its place.
 ghost use Rattle.std.specs.Prelude.{◌≡◌, ℕ, ◌*◌, length, map, slice_index_or, None, All, IfOk, MatchOption, IfSome, ◌<◌, ⊤};
+ghost use Rattle.std.specs.Box.{boxed_slice_items};
 ghost use Rattle.ecam_spec.specs.KeepsLimits.{IsSoundParameter, IsSoundSource};
 ghost use Rattle.book_model.specs.View.{parameter_of, source_of};
 ghost use Rattle.param_table.specs.Rules.{AreRules, IsRule};
@@ -12,6 +13,7 @@ use crate::words::{has_sdi, reading};
 use arinc_words::Word;
 use book_model::{Kind, Param, WordSource};
 use std::alloc::{AllocError, Global};
+use std::boxed::BoxedSlice;
 
 /// A source, with its parameter's kind, and for how many moments a word stays fresh.
 #[derive(Clone, Copy)]
@@ -22,14 +24,15 @@ pub struct Rule {
 }
 
 /// The rules of a book's parameters, by place. An error is want of memory.
-pub fn rules_of(alloc: Global, params: &[Param]) -> Result<Vec<Option<Rule>>, AllocError>
-    ensures { IfOk result (λ v. AreRules (map parameter_of params.now) v.items) }
+pub fn rules_of(alloc: Global, params: &[Param]) -> Result<BoxedSlice<Option<Rule>>, AllocError>
+    ensures { IfOk result (λ v. AreRules (map parameter_of params.now)
+        (boxed_slice_items v)) }
 {
     let mut rules = Vec::new(alloc);
     for place in 0..3 * params.len() {
         rules.push(rule_at(params, place))?;
     }
-    Ok(rules)
+    Ok(rules.into_boxed_slice())
 }
 
 // The rule of a place.

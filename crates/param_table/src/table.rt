@@ -8,7 +8,7 @@ ghost use Rattle.book_model.specs.Sealed.{the_book};
 ghost use Rattle.param_table.specs.TableState.{ParamsFit, ParamsStand, IsValueOf, MayDiffer, value_before};
 ghost use Rattle.param_table.specs.HeldValues.{first_given, set_back};
 
-use crate::held::{Held, look_soon};
+use crate::held::{Held, look_soon, none_received};
 use crate::index::Index;
 use crate::received::{HALF, given, set_back};
 use crate::rules::{Rule, rules_of};
@@ -16,6 +16,7 @@ use crate::taking::receive;
 use arinc_words::Word;
 use book_model::Book;
 use std::alloc::{AllocError, Global};
+use std::boxed::BoxedSlice;
 use wakes::{Marked, Wakes};
 
 /// What the words say that the sources of a book's parameters took last, how long they are fresh, and which parameters
@@ -26,7 +27,7 @@ pub struct Params {
     clock: u32,
     held: Held,
     // How the words of each source are read, by place.
-    rules: Vec<Option<Rule>>,
+    rules: BoxedSlice<Option<Rule>>,
     index: Index,
 }
 
@@ -40,8 +41,7 @@ impl Params {
         let params = book.params();
         let index = Index::new(alloc, params)?;
         let rules = rules_of(alloc, params)?;
-        let mut received = Vec::new(alloc);
-        received.resize(3 * params.len(), None)?;
+        let received = none_received(alloc, 3 * params.len())?;
         let changed = Marked::new(alloc, params.len())?;
         let dues = Wakes::new(alloc, 3 * params.len())?;
         Ok(Params {
@@ -64,7 +64,7 @@ impl Params {
             → ParamsStand b words 0 self.new }
     {
         self.clock = 0;
-        self.held.received.fill(None);
+        self.held.received.as_mut_slice().fill(None);
         self.held.changed.clear();
         self.held.dues.clear();
     }
@@ -165,8 +165,8 @@ impl Params {
 
     // What the first of the sources from this place on gives that gives something.
     fn first_value(&self, place: usize) -> Option<i64>
-        requires { place + 3 ≤ length self.now.held.received.items }
-        ensures { result ≡ first_given self.now.clock self.now.held.received.items place }
+        requires { place + 3 ≤ length self.now.held.received.items.items }
+        ensures { result ≡ first_given self.now.clock self.now.held.received.items.items place }
     {
         let first = given(self.held.received[place], self.clock);
         if first.is_some() {
@@ -182,13 +182,13 @@ impl Params {
     // Sets the clock back by half of what it can show, with the times of the words. Each place is looked at soon.
     fn set_clock_back(&mut self)
         requires clock { self.old.clock ≡ 2 ^ 32 - 1 }
-        requires count { length self.old.held.dues ≡ length self.old.held.received.items }
+        requires count { length self.old.held.dues ≡ length self.old.held.received.items.items }
         ensures clock { self.new.clock ≡ 2 ^ 31 - 1 }
         ensures index { self.new.index ≡ self.old.index }
         ensures rules { self.new.rules ≡ self.old.rules }
         ensures changed { self.new.held.changed ≡ self.old.held.changed }
-        ensures received { self.new.held.received.items
-            ≡ map set_back self.old.held.received.items }
+        ensures received { self.new.held.received.items.items
+            ≡ map set_back self.old.held.received.items.items }
         ensures count { length self.new.held.dues ≡ length self.old.held.dues }
         ensures soon { (q : ℕ) → slice_index self.new.held.dues q ≡ 0 }
     {

@@ -33,10 +33,10 @@ pub fn receive(
     requires rules { AreRules (the_book _book.now).parameters rules.now }
     requires fits { HeldFits (the_book _book.now).parameters held.old }
     ensures fits { HeldFits (the_book _book.now).parameters held.new }
-    ensures received { (q : ℕ) → slice_index_or held.new.received.items q None
+    ensures received { (q : ℕ) → slice_index_or held.new.received.items.items q None
         ≡ (if takes_at (the_book _book.now).parameters (record { bus = bus; bits = word.now }) q
         then entry clock word.now (slice_index_or rules.now q None)
-        else slice_index_or held.old.received.items q None) }
+        else slice_index_or held.old.received.items.items q None) }
     ensures renews { Renews clock held.old held.new }
     ensures others { (p : ℕ) → ((q : ℕ) → q / 3 ≡ p → takes_at (the_book _book.now).parameters
         (record { bus = bus; bits = word.now }) q ≡ false)
@@ -64,8 +64,8 @@ fn visit(
     requires place { place < length rules.now }
     requires fits { HeldFits (the_book _book.now).parameters held.old }
     ensures fits { HeldFits (the_book _book.now).parameters held.new }
-    ensures received { held.new.received.items ≡ entered (entry clock word.now
-        (slice_index_or rules.now place None)) place held.old.received.items }
+    ensures received { held.new.received.items.items ≡ entered (entry clock word.now
+        (slice_index_or rules.now place None)) place held.old.received.items.items }
     ensures renews { Renews clock held.old held.new }
     ensures others { (p : ℕ) → (p ≡ place / 3 → is_some (entry clock word.now
         (slice_index_or rules.now place None)) ≡ false)

@@ -86,6 +86,7 @@ fn draft(alloc: Global) -> Result<Draft, AllocError>
         systems: Vec::new(alloc),
         pages: Vec::new(alloc),
         params: params(alloc)?,
+        terms: Vec::new(alloc),
         phase: PhaseTerms {
             gnd: term(true),
             run: term(false),

@@ -4,6 +4,7 @@
 mod cells;
 mod env;
 mod laws;
+mod leaf;
 mod memory;
 mod turn;
 mod walk;

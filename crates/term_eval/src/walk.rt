@@ -7,6 +7,7 @@ ghost use Rattle.term_eval.specs.CellWords.{never};
 ghost use Rattle.term_eval.specs.Steps.{Steps, StepsAll};
 
 use crate::env::Env;
+use crate::leaf::atom;
 use crate::memory::{Cell, confirm, hold, latch, rise};
 use crate::turn::{NEVER, Turn, lasting, sooner};
 use term_tree::Cond;
@@ -122,6 +123,16 @@ struct Tally {
     due: u64,
 }
 
+// Counts an atom as visited. It takes no walk of its own.
+fn visit(visits: &mut u64, holds: bool) -> Turn
+    ensures visits { visits.new ≡ min (visits.old + 1) (2 ^ 64 - 1) }
+    ensures holds { result.holds ≡ holds }
+    ensures due { result.due ≡ never }
+{
+    *visits = u64::saturating_add(*visits, 1);
+    lasting(holds)
+}
+
 /// Steps each of some conditions, whatever the others answer.
 #[cycle(walk)]
 fn step_each(
@@ -147,7 +158,10 @@ fn step_each(
     let mut count = 0usize;
     let mut due = NEVER;
     for member in members {
-        let turn = step(member, cells, next, visits, env, now);
+        let turn = match atom(member, env) {
+            Some(holds) => visit(visits, holds),
+            None => step(member, cells, next, visits, env, now),
+        };
         if turn.holds {
             count += 1;
         }

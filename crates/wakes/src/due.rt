@@ -1,8 +1,10 @@
 // The moments in which numbers are due, soonest first.
 ghost use Rattle.std.specs.Prelude.{◌≡◌, ℕ, ◌+◌, ◌-◌, ◌*◌, ◌<◌, ◌≤◌, ◌^◌, List, length, drop, slice_index, slice_set, replicate, IfOk, nat_le, if◌then◌else◌};
+ghost use Rattle.std.specs.Box.{boxed_slice_items};
 ghost use Rattle.wakes.specs.Tournament.{never, IsLesser, IsTournament, Keeps, keys_in, FirstDue};
 
 use std::alloc::{AllocError, Global};
+use std::boxed::BoxedSlice;
 use std::marker::Model;
 
 const NEVER: u64 = u64::MAX;
@@ -12,7 +14,7 @@ const NEVER: u64 = u64::MAX;
 #[derive(Drop)]
 pub struct Wakes {
     // The leaves are the keys, from `width` on; node i is the lesser of nodes 2 * i and 2 * i + 1.
-    nodes: Vec<u64>,
+    nodes: BoxedSlice<u64>,
     width: usize,
     depth: usize,
     // How many leaves are keys. Those behind them are never due.
@@ -22,9 +24,9 @@ pub struct Wakes {
 impl Model for Wakes {
     ghost Value = { List ℕ };
 
-    ghost view = { λ w. keys_in w.nodes.items w.width w.count };
+    ghost view = { λ w. keys_in (boxed_slice_items w.nodes) w.width w.count };
 
-    ghost invariant = { λ w. Keeps w.nodes.items w.width w.depth w.count };
+    ghost invariant = { λ w. Keeps (boxed_slice_items w.nodes) w.width w.depth w.count };
 }
 
 impl Wakes {
@@ -35,7 +37,7 @@ impl Wakes {
     {
         let (width, depth) = size_for(count);
         Ok(Wakes {
-            nodes: vec![in alloc; NEVER; 2 * width]?,
+            nodes: vec![in alloc; NEVER; 2 * width]?.into_boxed_slice(),
             width,
             depth,
             count,
@@ -46,7 +48,7 @@ impl Wakes {
     pub fn clear(&mut self)
         ensures { self.new ≡ replicate (length self.old) never }
     {
-        self.nodes.fill(NEVER);
+        self.nodes.as_mut_slice().fill(NEVER);
     }
 
     /// Takes over the keys of others, of which there are as many. Its cost is one `set` a number.

@@ -1,24 +1,26 @@
 // A set of numbers that is gone through in their order.
 ghost use Rattle.std.specs.Prelude.{◌≡◌, ℕ, ◌+◌, ◌*◌, ◌/◌, ◌<◌, ◌≤◌, ◌^◌, ◌==◌, ◌||◌, ◌&&◌, not, true, false, List, length, IfOk};
 ghost use Rattle.std.specs.Int.{bit_at};
+ghost use Rattle.std.specs.Box.{boxed_slice_items};
 ghost use Rattle.wakes.specs.Marks.{is_marked, room, Finds};
 
 use std::alloc::{AllocError, Global};
+use std::boxed::BoxedSlice;
 use std::marker::Model;
 
 /// A set of numbers below a size, of one bit each. It can't grow after it was made.
 #[derive(Drop)]
 pub struct Marked {
-    words: Vec<u64>,
+    words: BoxedSlice<u64>,
 }
 
 // A number is in the set where its bit is set.
 impl Model for Marked {
     ghost Value = { List ℕ };
 
-    ghost view = { λ s. s.words.items };
+    ghost view = { λ s. boxed_slice_items s.words };
 
-    ghost invariant = { λ s. length s.words.items ≤ 2 ^ 32 };
+    ghost invariant = { λ s. length (boxed_slice_items s.words) ≤ 2 ^ 32 };
 }
 
 impl Marked {
@@ -30,7 +32,7 @@ impl Marked {
         ensures none { IfOk result (λ s. (i : ℕ) → is_marked s i ≡ false) }
     {
         Ok(Marked {
-            words: vec![in alloc; 0u64; count / 64 + 1]?,
+            words: vec![in alloc; 0u64; count / 64 + 1]?.into_boxed_slice(),
         })
     }
 
@@ -39,7 +41,7 @@ impl Marked {
         ensures room { room self.new ≡ room self.old }
         ensures none { (i : ℕ) → is_marked self.new i ≡ false }
     {
-        self.words.fill(0);
+        self.words.as_mut_slice().fill(0);
     }
 
     /// Takes over the numbers of another set of the same room. Its cost is one write for each 64 numbers.

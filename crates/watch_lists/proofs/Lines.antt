@@ -27,7 +27,7 @@ alerts-are d n is = ap (λ (s : Sizes). s.alerts) is ∙ sym (many-alerts d)
 
 module _ (d : Draft) (sealed : IsSealed d) (n : Sizes) (is : n ≡ sizes_of d) (xs : List Alert) (a : ℕ) (x : Alert) (same : xs ≡ d.alerts.items) (within : a < length xs) (here : x ≡ get_or xs a x) where
   -- behind the lines of the alerts before it
-  pub line-within : (first i : ℕ) → first ≡ length (lines_of (take a (the_book d).alerts)) → i < length x.lines.items → first + i < 16384
+  pub line-within : (first i : ℕ) → first ≡ length (lines_of (take a (the_book d).alerts)) → i < length x.lines.items → first + i < 32768
   line-within first i at inside = omega (arith, at, lines-fit d xs a x same within here, few-lines-in-all d sealed)
 
   pub behind-own : (i : ℕ) → i ≡ length x.lines.items → line_number d a i ≡ line_number d (a + 1) 0

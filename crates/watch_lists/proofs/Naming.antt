@@ -22,8 +22,8 @@ module _ (d : Draft) (sealed : IsSealed d) (n : Sizes) (is : n ≡ sizes_of d) w
   pub few-operands : n.params + n.alerts < 2 ^ 32
   few-operands = subst (λ (s : Sizes). s.params + s.alerts < 2 ^ 32) (sym is) (omega (arith, (sizes d sealed).params, (sizes d sealed).alerts))
 
-  pub few-alerts : n.alerts ≤ 1024
-  few-alerts = subst (λ (s : Sizes). s.alerts ≤ 1024) (sym is) ((sizes d sealed).alerts)
+  pub few-alerts : n.alerts ≤ 2048
+  few-alerts = subst (λ (s : Sizes). s.alerts ≤ 2048) (sym is) ((sizes d sealed).alerts)
 
   pub own-within : (c : Tree) → IsWithin (length d.params.items) (length d.alerts.items) c → IsWithin n.params n.alerts c
   own-within c = subst (λ (s : Sizes). IsWithin s.params s.alerts c) (sym is)
@@ -59,5 +59,5 @@ pub input-place : (d : Draft) → IsSealed d → (p : PhaseTerms) → p ≡ d.ph
 input-place d sealed p same i t is = phase-place d sealed i t (ap (λ q. slice_get (phase_places q) i) (sym same) ∙ is)
 
 -- the conditions of a line have numbers below the book's
-pub line-few : (d : Draft) → IsSealed d → (n : ℕ) → n < length (lines_of (the_book d).alerts) → n < 16384
+pub line-few : (d : Draft) → IsSealed d → (n : ℕ) → n < length (lines_of (the_book d).alerts) → n < 32768
 line-few d sealed n lt = omega (arith, few-lines-in-all d sealed)

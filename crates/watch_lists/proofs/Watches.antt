@@ -10,7 +10,7 @@ use Rattle.watch_lists.specs.Flat.{IsFlat}
 use Rattle.watch_lists.specs.Watching.{IsWatch}
 
 pub watch-of : (d : Draft) (w : Watch) (lists : List (List ℕ)) → length lists ≡ operand_count (sizes_of d) → ListsAll (sizes_of d) (places (the_book d)) lists
-    → IsFlat lists w.starts.items w.terms.items → IsWatch d w
+    → IsFlat lists w.starts.items.items w.terms.items.items → IsWatch d w
 watch-of d w lists many all flat = record {
   count = flat.count ∙ ap suc many;
   ordered = λ o lt. flat.ordered o (omega (arith, many));

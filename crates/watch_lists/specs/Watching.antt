@@ -10,8 +10,8 @@ use Rattle.watch_lists.specs.declared.watch.Watch.{Watch}
 
 -- each list has exactly the conditions of the book that name its operand
 pub record IsWatch (d : Draft) (w : Watch) : Type 0 where
-  pub count : length w.starts.items ≡ suc (operand_count (sizes_of d))
-  pub ordered : (o : ℕ) → o < operand_count (sizes_of d) → slice_index w.starts.items o ≤ slice_index w.starts.items (suc o)
-  pub within : (o : ℕ) → o ≤ operand_count (sizes_of d) → slice_index w.starts.items o ≤ length w.terms.items
+  pub count : length w.starts.items.items ≡ suc (operand_count (sizes_of d))
+  pub ordered : (o : ℕ) → o < operand_count (sizes_of d) → slice_index w.starts.items.items o ≤ slice_index w.starts.items.items (suc o)
+  pub within : (o : ℕ) → o ≤ operand_count (sizes_of d) → slice_index w.starts.items.items o ≤ length w.terms.items.items
   pub lists : (o j : ℕ) → o < operand_count (sizes_of d)
-      → has_term (piece w.starts.items w.terms.items o) j ≡ names_at (sizes_of d) (places (the_book d)) j o
+      → has_term (piece w.starts.items.items w.terms.items.items o) j ≡ names_at (sizes_of d) (places (the_book d)) j o

@@ -1,5 +1,6 @@
 // All conditions of a book are put into the lists of what they name, in the order in which a moment steps them.
 ghost use Rattle.std.specs.Prelude.{◌≡◌, ◌+◌, ◌*◌, ◌<◌, ◌≤◌, ◌^◌, suc, List, length, slice_get, Some, OnOk, IfOk};
+ghost use Rattle.ecam_spec.specs.declared.limits.TheConstants.{ALERTS, LINES};
 ghost use Rattle.ecam_spec.specs.TermSize.{Placed};
 ghost use Rattle.ecam_spec.specs.TermNames.{IsWithin};
 ghost use Rattle.book_model.specs.View.{tree_in, placed_of};
@@ -133,8 +134,8 @@ fn add_lines(
 
 // The number of the first condition of a line, by the line's place among all.
 fn line_number(alerts: usize, line: usize) -> usize
-    requires alerts { alerts ≤ 1024 }
-    requires line { line < 16384 }
+    requires alerts { alerts ≤ ALERTS }
+    requires line { line < ALERTS * LINES }
     ensures { result ≡ 6 + alerts + 2 * line }
 {
     6 + alerts + 2 * line

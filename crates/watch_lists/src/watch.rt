@@ -1,5 +1,6 @@
 // The lists of a book in one.
 ghost use Rattle.std.specs.Prelude.{◌≡◌, ℕ, ◌<◌, length, IfOk};
+ghost use Rattle.std.specs.Box.{boxed_slice_items};
 ghost use Rattle.book_model.specs.Sealed.{the_book};
 ghost use Rattle.book_model.specs.Conditions.{places};
 ghost use Rattle.book_model.specs.declared.draft.Draft.{Draft};
@@ -11,12 +12,13 @@ ghost use Rattle.watch_lists.specs.Watching.{IsWatch};
 use crate::book::lists_of;
 use book_model::Book;
 use std::alloc::{AllocError, Global};
+use std::boxed::BoxedSlice;
 
-/// Per operand of a book the numbers of the conditions that name it, in one flat list. Nothing changes it.
+/// Per operand of a book the numbers of the conditions that name it, in one flat list. Nothing changes it, and it can't grow.
 #[derive(Drop)]
 pub struct Watch {
-    starts: Vec<usize>,
-    terms: Vec<usize>,
+    starts: BoxedSlice<usize>,
+    terms: BoxedSlice<usize>,
 }
 
 impl Watch {
@@ -41,8 +43,12 @@ impl Watch {
 }
 
 // The lists one behind another, and where each starts.
-fn flatten(alloc: Global, lists: &[Vec<usize>]) -> Result<(Vec<usize>, Vec<usize>), AllocError>
-    ensures { IfOk result (λ r. IsFlat (items_of lists.now) r.0.items r.1.items) }
+fn flatten(
+    alloc: Global,
+    lists: &[Vec<usize>],
+) -> Result<(BoxedSlice<usize>, BoxedSlice<usize>), AllocError>
+    ensures { IfOk result (λ r. IsFlat (items_of lists.now) (boxed_slice_items r.0)
+        (boxed_slice_items r.1)) }
 {
     let mut starts = Vec::new(alloc);
     let mut terms = Vec::new(alloc);
@@ -51,5 +57,5 @@ fn flatten(alloc: Global, lists: &[Vec<usize>]) -> Result<(Vec<usize>, Vec<usize
         terms.extend_from_slice(list)?;
         starts.push(terms.len())?;
     }
-    Ok((starts, terms))
+    Ok((starts.into_boxed_slice(), terms.into_boxed_slice()))
 }

@@ -1,4 +1,4 @@
-use Rattle.std.proofs.Common.{◌≡◌, ℕ}
+use Rattle.std.proofs.Common.{◌≡◌, ◌≤◌, ◌-◌, ℕ, length}
 use Rattle.ecam_spec.specs.History.{Moment}
 use Rattle.ecam_spec.specs.Situation.{phase_in}
 use Rattle.book_model.specs.Sealed.{the_book}
@@ -8,11 +8,15 @@ use Rattle.fwc_lane.specs.Given.{Lends}
 use Rattle.fwc_lane.specs.TermsFit.{TermsFit}
 use Rattle.fwc_lane.proofs.alerts.step_alerts.Given as goal
 
-abbrev pub invariant-loop-alert : goal.invariant-loop-alert
-invariant-loop-alert l = record {
+abbrev pub invariant-loop-next : goal.invariant-loop-next
+invariant-loop-next l = record {
+  most : l.next ≤ length l.book.alerts.items;
   terms : TermsFit (the_book l.book) l.terms;
   fits : TruthsFit (the_book l.book) l.truths;
   moments : l.truths.moments ≡ l.fn.truths.moments;
   stands : (m : ℕ → Moment) (visits : ℕ) → Lends (the_book l.book) m l.now l.env → l.env.phase.number ≡ phase_in (the_book l.book) m l.now
-      → AlertsHalf (the_book l.book) m l.now 0 visits l.fn.terms l.fn.truths → AlertsHalf (the_book l.book) m l.now l.alert visits l.terms l.truths;
+      → AlertsHalf (the_book l.book) m l.now 0 visits l.fn.terms l.fn.truths → AlertsHalf (the_book l.book) m l.now l.next visits l.terms l.truths;
 }
+
+abbrev pub decreases-loop-next : goal.decreases-loop-next
+decreases-loop-next l = length l.book.alerts.items - l.next

@@ -1,19 +1,24 @@
-use Rattle.std.proofs.Common.{◌≡◌, ℕ, suc, false, length}
+use Rattle.std.proofs.Common.{◌≡◌, ◌≤◌, ◌-◌, ℕ, suc, false, length}
 use Rattle.ecam_spec.specs.History.{Moment}
 use Rattle.ecam_spec.specs.Situation.{world}
 use Rattle.book_model.specs.Sealed.{the_book}
 use Rattle.book_model.specs.Conditions.{memos_from}
 use Rattle.term_eval.specs.Shown.{Shows}
-use Rattle.fwc_lane.specs.Conditions.{BookHalf, MemosHalf}
+use Rattle.fwc_lane.specs.Conditions.{BookHalf, MemosHalf, MemosWere}
 use Rattle.fwc_lane.specs.TermsFit.{TermsFit}
 use Rattle.fwc_lane.proofs.memos.step_memos.Given as goal
 
-abbrev pub invariant-loop-i : goal.invariant-loop-i
-invariant-loop-i l = record {
+abbrev pub invariant-loop-memo : goal.invariant-loop-memo
+invariant-loop-memo l = record {
+  most : l.next ≤ length l.book.memos.items;
   fits : TermsFit (the_book l.book) l.terms;
   flags : length l.flags.items ≡ length l.fn.flags.items;
   stands : (m : ℕ → Moment) (visits : ℕ) → Shows l.env (world (the_book l.book) m) l.now
+      → MemosWere (the_book l.book) m l.now l.fn.flags.items
       → BookHalf (the_book l.book) m l.now (memos_from (the_book l.book)) (suc (length (the_book l.book).alerts)) visits l.fn.terms
-      → MemosHalf (the_book l.book) m l.now l.i visits l.terms l.flags.items;
+      → MemosHalf (the_book l.book) m l.now l.next visits l.terms l.flags.items;
   kept : l.turned ≡ false → l.flags.items ≡ l.fn.flags.items;
 }
+
+abbrev pub decreases-loop-memo : goal.decreases-loop-memo
+decreases-loop-memo l = length l.book.memos.items - l.next

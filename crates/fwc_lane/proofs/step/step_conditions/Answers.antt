@@ -19,7 +19,7 @@ returns-clause-stands c = λ m visits lends was.
     let lines = c.step_alerts.ensures.stands m visits (record { values = lends.values; pressed = lends.pressed; one_up = lends.one_up; two_up = lends.two_up }) phase alerts was.truths in
     let shows = shows-whole b m c.args.now c.args.env.now lends _ c.step_phase-phase.result c.active.result phase c.active.ensures.value truths in
     record {
-      terms = c.step_memos-memos.ensures.stands m visits shows (c.step_lines-lines.ensures.stands m visits shows lines);
+      terms = c.step_memos-memos.ensures.stands m visits shows was.memos (c.step_lines-lines.ensures.stands m visits shows was.lines lines);
       phases = c.step_phase-phase.ensures.state m visits lends was.terms was.phases;
       truths = truths;
     }
@@ -35,7 +35,7 @@ returns-clause-line_flags c = λ m visits lends was.
     let truths = c.step_alerts.ensures.truths m visits (record { values = lends.values; pressed = lends.pressed; one_up = lends.one_up; two_up = lends.two_up }) phase alerts was.truths in
     let lines = c.step_alerts.ensures.stands m visits (record { values = lends.values; pressed = lends.pressed; one_up = lends.one_up; two_up = lends.two_up }) phase alerts was.truths in
     let shows = shows-whole b m c.args.now c.args.env.now lends _ c.step_phase-phase.result c.active.result phase c.active.ensures.value truths in
-    c.step_lines-lines.ensures.told m visits shows lines
+    c.step_lines-lines.ensures.told m visits shows was.lines lines
 
 pub returns-clause-memo_flags : goal.returns-clause-memo_flags
 returns-clause-memo_flags c = λ m visits lends was.
@@ -45,4 +45,4 @@ returns-clause-memo_flags c = λ m visits lends was.
     let truths = c.step_alerts.ensures.truths m visits (record { values = lends.values; pressed = lends.pressed; one_up = lends.one_up; two_up = lends.two_up }) phase alerts was.truths in
     let lines = c.step_alerts.ensures.stands m visits (record { values = lends.values; pressed = lends.pressed; one_up = lends.one_up; two_up = lends.two_up }) phase alerts was.truths in
     let shows = shows-whole b m c.args.now c.args.env.now lends _ c.step_phase-phase.result c.active.result phase c.active.ensures.value truths in
-    c.step_memos-memos.ensures.told m visits shows (c.step_lines-lines.ensures.stands m visits shows lines)
+    c.step_memos-memos.ensures.told m visits shows was.memos (c.step_lines-lines.ensures.stands m visits shows was.lines lines)

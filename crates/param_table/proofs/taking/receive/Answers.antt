@@ -16,8 +16,8 @@ loop-next-init c =
     let word : BusWord = record { bus = c.args.bus; bits = c.args.word.now } in
     let small : label c.args.word.now < 256 = subst (λ n. n < 256) c.label.ensures c.label.type_inv in
     record {
-      visited = visited_none params word (λ q. entry c.args.clock c.args.word.now (get_or c.args.rules.now q None)) c.args.held.now.received.items c.last-next.result
-          (c.last-next.ensures ∙ ap (λ l. get_or c.args.index.now.last.items (256 * c.args.bus + l) None) c.label.ensures ∙ c.requires.index.last c.args.bus (label c.args.word.now) small);
+      visited = visited_none params word (λ q. entry c.args.clock c.args.word.now (get_or c.args.rules.now q None)) c.args.held.now.received.items.items c.last-next.result
+          (c.last-next.ensures ∙ ap (λ l. get_or c.args.index.now.last.items.items (256 * c.args.bus + l) None) c.label.ensures ∙ c.requires.index.last c.args.bus (label c.args.word.now) small);
       fits = c.requires.fits;
       renews = renews_none c.args.clock c.args.held.now;
       others = λ p none. refl;
@@ -30,38 +30,38 @@ found c =
     (subst (λ o. IfSome o (λ h. listens (the_book c.args._book.now).parameters c.args.bus (label c.args.word.now) h ≡ true)) c.in-Some.is c.loop-next.invariant.visited.listening)
 
 visited : (c : After-before-next)
-    → IsVisited (the_book c.args._book.now).parameters (record { bus = c.args.bus; bits = c.args.word.now }) (λ q. entry c.args.clock c.args.word.now (get_or c.args.rules.now q None)) (Some c.in-Some.place) c.args.held.now.received.items c.loop-next.held.received.items
+    → IsVisited (the_book c.args._book.now).parameters (record { bus = c.args.bus; bits = c.args.word.now }) (λ q. entry c.args.clock c.args.word.now (get_or c.args.rules.now q None)) (Some c.in-Some.place) c.args.held.now.received.items.items c.loop-next.held.received.items.items
 visited c =
-    subst (λ o. IsVisited (the_book c.args._book.now).parameters (record { bus = c.args.bus; bits = c.args.word.now }) (λ q. entry c.args.clock c.args.word.now (get_or c.args.rules.now q None)) o c.args.held.now.received.items c.loop-next.held.received.items)
+    subst (λ o. IsVisited (the_book c.args._book.now).parameters (record { bus = c.args.bus; bits = c.args.word.now }) (λ q. entry c.args.clock c.args.word.now (get_or c.args.rules.now q None)) o c.args.held.now.received.items.items c.loop-next.held.received.items.items)
     c.in-Some.is c.loop-next.invariant.visited
 
-next_is : (c : After-before-next) → c.before-next.result ≡ get_or c.args.index.now.before.items c.in-Some.place None
-next_is c = c.before-next.ensures ∙ ap (λ i. get_or c.args.index.now.before.items i None) c.from-place.ensures
+next_is : (c : After-before-next) → c.before-next.result ≡ get_or c.args.index.now.before.items.items c.in-Some.place None
+next_is c = c.before-next.ensures ∙ ap (λ i. get_or c.args.index.now.before.items.items i None) c.from-place.ensures
 
 pub loop-next-smaller : goal.loop-next-smaller
 loop-next-smaller c =
     let params = (the_book c.args._book.now).parameters in
     let word : BusWord = record { bus = c.args.bus; bits = c.args.word.now } in
-    let below = next_below params word (λ q. entry c.args.clock c.args.word.now (get_or c.args.rules.now q None)) c.args.index.now c.in-Some.place c.args.held.now.received.items c.loop-next.held.received.items (visited c) (found c) in
+    let below = next_below params word (λ q. entry c.args.clock c.args.word.now (get_or c.args.rules.now q None)) c.args.index.now c.in-Some.place c.args.held.now.received.items.items c.loop-next.held.received.items.items (visited c) (found c) in
     rw (next_is c, c.in-Some.is) (omega (arith, below))
 
 pub loop-next-preserved : goal.loop-next-preserved
 loop-next-preserved c =
     let params = (the_book c.args._book.now).parameters in
     let word : BusWord = record { bus = c.args.bus; bits = c.args.word.now } in
-    let items = c.loop-next.held.received.items in
+    let items = c.loop-next.held.received.items.items in
     let h = c.in-Some.place in
     let within : h < length items = omega (arith, (found c).within, c.loop-next.invariant.fits.places) in
-    let written : c.visit.new.held.received.items ≡ entered (entry c.args.clock c.args.word.now (get_or c.args.rules.now h None)) h items =
+    let written : c.visit.new.held.received.items.items ≡ entered (entry c.args.clock c.args.word.now (get_or c.args.rules.now h None)) h items =
     c.visit.ensures.received ∙ ap (λ i. entered (entry c.args.clock c.args.word.now (get_or c.args.rules.now i None)) i items) c.from-place.ensures in
     record {
-      visited = rw (next_is c, written) (visited_next params word c.args.clock c.args.rules.now c.args.index.now h c.args.held.now.received.items items c.requires.rules c.requires.odd (found c) (visited c) within);
+      visited = rw (next_is c, written) (visited_next params word c.args.clock c.args.rules.now c.args.index.now h c.args.held.now.received.items.items items c.requires.rules c.requires.odd (found c) (visited c) within);
       fits = c.visit.ensures.fits;
       renews = renews_both c.args.clock c.args.held.now c.loop-next.held c.visit.new.held c.loop-next.invariant.renews c.visit.ensures.renews;
       others = λ p none.
           c.visit.ensures.others p
           (λ row. ap (λ i. is_some (entry c.args.clock c.args.word.now (get_or c.args.rules.now i None))) c.from-place.ensures
-          ∙ not_entered params word c.args.clock c.args.rules.now c.args.index.now h c.args.held.now.received.items items c.requires.rules c.requires.odd (found c) (visited c) within
+          ∙ not_entered params word c.args.clock c.args.rules.now c.args.index.now h c.args.held.now.received.items.items items c.requires.rules c.requires.odd (found c) (visited c) within
           (none h (sym (row ∙ ap (λ i. i / 3) c.from-place.ensures))))
           ∙ c.loop-next.invariant.others p none;
     }

@@ -10,11 +10,11 @@ returns-in-Some-clause-fits c =
     let old = c.args.held.now in
     let place = c.args.place in
     record {
-      places = ap length c.renew.ensures.received ∙ length-set old.received.items place (Some c.in-Some.received) ∙ c.requires.fits.places;
+      places = ap length c.renew.ensures.received ∙ length-set old.received.items.items place (Some c.in-Some.received) ∙ c.requires.fits.places;
       room = c.renew.ensures.room ∙ c.requires.fits.room;
       dues = c.renew.ensures.dues ∙ c.requires.fits.dues;
       each =
-          entered_fits params place c.in-Some.received old.received.items c.renew.new.self.received.items c.renew.ensures.received
+          entered_fits params place c.in-Some.received old.received.items.items c.renew.new.self.received.items.items c.renew.ensures.received
           (omega (arith, c.requires.place, c.requires.rules.count, c.requires.fits.places))
           (entry_held params place (get_or c.args.rules.now place None) c.in-Some.received (c.requires.rules.each place) c.in-Some.ensures.bound)
           c.requires.fits.each;

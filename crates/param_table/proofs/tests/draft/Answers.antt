@@ -27,6 +27,7 @@ sample = record {
   systems = [];
   pages = [];
   parameters = number ∷ bit ∷ [];
+  terms = [];
   phase = record { gnd = constant true; run = constant false; tp = constant false; fast = constant false; high = constant false; low = constant false };
   alerts = [];
   memos = [];
@@ -35,9 +36,9 @@ sample = record {
 is_sample : (d : Draft) → d.systems.items ≡ [] → d.pages.items ≡ [] → map parameter_of d.params.items ≡ number ∷ bit ∷ []
     → tree_in d.phase.gnd ≡ constant true → tree_in d.phase.run ≡ constant false → tree_in d.phase.tp ≡ constant false
     → tree_in d.phase.fast ≡ constant false → tree_in d.phase.high ≡ constant false → tree_in d.phase.low ≡ constant false
-    → d.alerts.items ≡ [] → d.memos.items ≡ [] → draft_of d ≡ sample
+    → d.terms.items ≡ [] → d.alerts.items ≡ [] → d.memos.items ≡ [] → draft_of d ≡ sample
 unfolding draft_of
-is_sample d systems pages params gnd run tp fast high low alerts memos = rw (systems, pages, params, gnd, run, tp, fast, high, low, alerts, memos) refl
+is_sample d systems pages params gnd run tp fast high low terms alerts memos = rw (systems, pages, params, gnd, run, tp, fast, high, low, terms, alerts, memos) refl
 
 sound_source : (bus label : ℕ) → bus < 16 → label < 256 → IsSoundSource (source bus label)
 sound_source bus label bus_small label_small = record {
@@ -100,6 +101,9 @@ sound = record {
   parameters = sound_parameters;
   parameters_once = All-cons (λ n. is_repeated (codes "number" ∷ codes "bit" ∷ []) n ≡ false) (codes "number") (codes "bit" ∷ []) refl
       (All-cons (λ n. is_repeated (codes "number" ∷ codes "bit" ∷ []) n ≡ false) (codes "bit") [] refl (All-nil (λ n. is_repeated (codes "number" ∷ codes "bit" ∷ []) n ≡ false)));
+  term_count = omega arith;
+  terms = All-nil _;
+  terms_once = All-nil _;
   phase = record { gnd = sound_term true; run = sound_term false; tp = sound_term false; fast = sound_term false; high = sound_term false; low = sound_term false };
   alert_count = omega arith;
   alerts = All-nil _;
@@ -119,12 +123,13 @@ returns-clause-sound c =
       systems = c.new.result;
       pages = c.new-2.result;
       params = c.in_ok-params.field-0;
+      terms = c.new-3.result;
       phase = record { gnd = c.term.result; run = c.term-2.result; tp = c.term-3.result; fast = c.term-4.result; high = c.term-5.result; low = c.term-6.result };
-      alerts = c.new-3.result;
-      memos = c.new-4.result;
+      alerts = c.new-4.result;
+      memos = c.new-5.result;
     } in
     let is : draft_of d ≡ sample =
-    is_sample d c.new.ensures.items c.new-2.ensures.items c.in_ok-params.ensures c.term.ensures c.term-2.ensures c.term-3.ensures c.term-4.ensures c.term-5.ensures c.term-6.ensures c.new-3.ensures.items c.new-4.ensures.items in
+    is_sample d c.new.ensures.items c.new-2.ensures.items c.in_ok-params.ensures c.term.ensures c.term-2.ensures c.term-3.ensures c.term-4.ensures c.term-5.ensures c.term-6.ensures c.new-3.ensures.items c.new-4.ensures.items c.new-5.ensures.items in
     subst IsSound (sym is) sound
 
 pub returns-clause-faultless : goal.returns-clause-faultless
@@ -133,10 +138,11 @@ returns-clause-faultless c =
       systems = c.new.result;
       pages = c.new-2.result;
       params = c.in_ok-params.field-0;
+      terms = c.new-3.result;
       phase = record { gnd = c.term.result; run = c.term-2.result; tp = c.term-3.result; fast = c.term-4.result; high = c.term-5.result; low = c.term-6.result };
-      alerts = c.new-3.result;
-      memos = c.new-4.result;
+      alerts = c.new-4.result;
+      memos = c.new-5.result;
     } in
     let is : draft_of d ≡ sample =
-    is_sample d c.new.ensures.items c.new-2.ensures.items c.in_ok-params.ensures c.term.ensures c.term-2.ensures c.term-3.ensures c.term-4.ensures c.term-5.ensures c.term-6.ensures c.new-3.ensures.items c.new-4.ensures.items in
+    is_sample d c.new.ensures.items c.new-2.ensures.items c.in_ok-params.ensures c.term.ensures c.term-2.ensures c.term-3.ensures c.term-4.ensures c.term-5.ensures c.term-6.ensures c.new-3.ensures.items c.new-4.ensures.items c.new-5.ensures.items in
     ap draft_fault is ∙ faultless

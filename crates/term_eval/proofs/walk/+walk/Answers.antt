@@ -1,4 +1,4 @@
-use Rattle.std.proofs.Common.{rules, ◌≡◌, ◌+◌, ◌<◌, min, length, map, drop, eqb, arith, refl, add-zero, ap, sym, ◌∙◌, subst}
+use Rattle.std.proofs.Common.{rules, ◌≡◌, ℕ, ◌+◌, ◌-◌, ◌^◌, ◌<◌, min, List, length, map, drop, eqb, arith, refl, add-zero, ap, sym, ◌∙◌, subst}
 use Rattle.ecam_spec.specs.TermSize.{slots, nodes, nodes_of}
 use Rattle.ecam_spec.specs.TermNames.{IsWithin}
 use borrow.Author.Rules.{get_or_read}
@@ -11,14 +11,17 @@ use Rattle.std.proofs.lemmas.List.{length-map}
 use Rattle.ecam_spec.specs.Term.{is_so, stands}
 use Rattle.term_eval.specs.CellWords.{never}
 use Rattle.term_eval.specs.Shown.{value_of}
-use Rattle.term_eval.specs.Steps.{StepsAll}
+use Rattle.std.specs.Option.{IfSome}
+use Rattle.term_eval.specs.declared.memory.Cell.{Cell}
+use Rattle.term_eval.specs.declared.turn.Turn.{Turn}
+use Rattle.term_eval.specs.Steps.{Steps, StepsAll}
 use Rattle.term_eval.proofs.Nodes.{steps-negation}
 use Rattle.term_eval.proofs.Members.{steps-none, steps-more, steps-all, steps-any, steps-at_least}
 use Rattle.term_eval.proofs.Atoms.{steps-constant, steps-discrete, steps-valid, steps-compared, steps-in_phase, steps-alert, steps-press, steps-computer}
 use Rattle.term_eval.proofs.Arms.{steps-as, steps_all-as, names-of, names_of_all, arm-confirmed, arm-held, arm-risen, arm-latched}
 use Rattle.term_eval.proofs.Members.{one_if}
 use Rattle.term_eval.proofs.walk.+walk.Goals as goal
-use Rattle.term_eval.proofs.walk.+walk.Goals.{step_each-then-turn, step_each-else-turn}
+use Rattle.term_eval.proofs.walk.+walk.Goals.{step_each-then-turn, step_each-else-turn, step_each-in-Some, step_each-in-None}
 
 pub step-returns-in-Const-clause-steps : goal.step-returns-in-Const-clause-steps
 step-returns-in-Const-clause-steps t c =
@@ -141,31 +144,60 @@ step_each-step-turn-requires t c =
     let size = slots-next c.args.members.now c.loop-member.member-index c.member-item.result c.loop-member-test.true c.member-item.is in
     (search (rules, the_lemmas, get_or_read), (omega arith, ((names_of_all _ _ _ _ next c.loop-member.invariant.names).0, (c.requires.first, (c.requires.last, c.requires.now)))))
 
+pub step_each-atom-requires-clause-names : goal.step_each-atom-requires-clause-names
+unfolding IsWithin
+step_each-atom-requires-clause-names t c =
+    let next = trees_of-next c.args.members.now c.loop-member.member-index c.member-item.result c.loop-member-test.true c.member-item.is in
+    (names_of_all _ _ _ _ next c.loop-member.invariant.names).0
+
 pub step_each-loop-member-preserved : goal.step_each-loop-member-preserved
 unfolding IsWithin nodes
 step_each-loop-member-preserved t c =
     let next = trees_of-next c.args.members.now c.loop-member.member-index c.member-item.result c.loop-member-test.true c.member-item.is in
     let size = slots-next c.args.members.now c.loop-member.member-index c.member-item.result c.loop-member-test.true c.member-item.is in
     let more : nodes_of (trees_of (drop c.loop-member.member-index c.args.members.now)) ≡ nodes (tree_of c.member-item.result) + nodes_of (trees_of (drop (c.loop-member.member-index + 1) c.args.members.now)) = ap nodes_of next in
-    let grown : c.if-turn.count ≡ c.loop-member.count + one_if c.step-turn.result.holds
+    let item = tree_of c.member-item.result in
+    let stepped : c.match-atom.next ≡ c.loop-member.next + slots item =
+    elim c.match-atom.branch [
+      | step_each-in-Some w ↦ let none = subst (λ o. IfSome o (λ h. slots item ≡ 0)) w.in-Some.is c.atom.ensures.slots in omega (arith, w.next-is, none)
+      | step_each-in-None w ↦ w.next-is ∙ w.step-turn.ensures.next
+    ] in
+    let visited : c.match-atom.visits ≡ min (c.loop-member.visits + nodes item) (2 ^ 64 - 1) =
+    elim c.match-atom.branch [
+      | step_each-in-Some w ↦ let one = subst (λ o. IfSome o (λ h. nodes item ≡ 1)) w.in-Some.is c.atom.ensures.nodes in omega (arith, w.visits-is, w.visit-turn.ensures.visits, one)
+      | step_each-in-None w ↦ w.visits-is ∙ w.step-turn.ensures.visits
+    ] in
+    let steps : Steps c.args.env.now c.args.now item c.loop-member.next c.loop-member.cells c.match-atom.cells c.match-atom.turn.holds c.match-atom.turn.due =
+    elim c.match-atom.branch [
+      | step_each-in-Some w ↦
+          let holds = ap (λ (t : Turn). t.holds) w.turn-is ∙ w.visit-turn.ensures.holds in
+          let due = ap (λ (t : Turn). t.due) w.turn-is ∙ w.visit-turn.ensures.due in
+          let own = subst (λ o. IfSome o (λ h. (k at : ℕ) (cells : List Cell) → Steps c.args.env.now k item at cells cells h never)) w.in-Some.is c.atom.ensures.steps in
+          subst (λ cells. Steps c.args.env.now c.args.now item c.loop-member.next c.loop-member.cells cells c.match-atom.turn.holds c.match-atom.turn.due) (sym w.cells-is)
+          (steps-as _ _ _ _ _ _ _ _ _ _ _ _ refl refl holds due (own c.args.now c.loop-member.next c.loop-member.cells))
+      | step_each-in-None w ↦
+          subst (λ cells. Steps c.args.env.now c.args.now item c.loop-member.next c.loop-member.cells cells c.match-atom.turn.holds c.match-atom.turn.due) (sym w.cells-is)
+          (steps-as _ _ _ _ _ _ _ _ _ _ _ _ refl refl (ap (λ (t : Turn). t.holds) w.turn-is) (ap (λ (t : Turn). t.due) w.turn-is) w.step-turn.ensures.steps)
+    ] in
+    let grown : c.if-turn.count ≡ c.loop-member.count + one_if c.match-atom.turn.holds
     = elim c.if-turn.branch [ step_each-then-turn w ↦ w.count-is ∙ ap (λ b. c.loop-member.count + one_if b) (sym w.if-turn.true) | step_each-else-turn w ↦ w.count-is ∙ sym (add-zero c.loop-member.count) ∙ ap (λ b. c.loop-member.count + one_if b) (sym w.if-turn.false) ]
     in
     record {
-      place = omega arith;
+      place = omega (arith, stepped);
       names = (names_of_all _ _ _ _ next c.loop-member.invariant.names).1;
       few = elim c.if-turn.branch [ step_each-then-turn w ↦ omega arith | step_each-else-turn w ↦ omega arith ];
-      counted = omega arith;
-      most = omega arith;
+      counted = omega (arith, visited);
+      most = omega (arith, visited);
       latest = omega arith;
       ahead = λ final rest later bound h.
-          let behind = steps_all-as _ _ _ _ _ _ _ _ _ _ refl (sym c.step-turn.ensures.next) h in
-          let both = steps-more _ _ (tree_of c.member-item.result) _ _ _ _ final _ rest _ later c.step-turn.ensures.steps behind in
-          let total : c.loop-member.count + (one_if c.step-turn.result.holds + rest) ≡ c.if-turn.count + rest = omega arith in
-          let least : c.min-due.result ≡ min c.loop-member.due c.step-turn.result.due = c.min-due.ensures in
-          let first : min c.loop-member.due (min c.step-turn.result.due later) ≡ min c.min-due.result later = omega arith in
+          let behind = steps_all-as _ _ _ _ _ _ _ _ _ _ refl (sym stepped) h in
+          let both = steps-more _ _ (tree_of c.member-item.result) _ _ _ _ final _ rest _ later steps behind in
+          let total : c.loop-member.count + (one_if c.match-atom.turn.holds + rest) ≡ c.if-turn.count + rest = omega arith in
+          let least : c.min-due.result ≡ min c.loop-member.due c.match-atom.turn.due = c.min-due.ensures in
+          let first : min c.loop-member.due (min c.match-atom.turn.due later) ≡ min c.min-due.result later = omega arith in
           subst (λ n. StepsAll c.args.env.now c.args.now (trees_of c.args.members.now) c.args.next.now c.args.cells.now final n (min c.min-due.result later)) total
-          (subst (λ n. StepsAll c.args.env.now c.args.now (trees_of c.args.members.now) c.args.next.now c.args.cells.now final (c.loop-member.count + (one_if c.step-turn.result.holds + rest)) n) first
-          (c.loop-member.invariant.ahead final (one_if c.step-turn.result.holds + rest) (min c.step-turn.result.due later) (omega arith) (steps_all-as _ _ _ _ _ _ _ _ _ _ next refl both)));
+          (subst (λ n. StepsAll c.args.env.now c.args.now (trees_of c.args.members.now) c.args.next.now c.args.cells.now final (c.loop-member.count + (one_if c.match-atom.turn.holds + rest)) n) first
+          (c.loop-member.invariant.ahead final (one_if c.match-atom.turn.holds + rest) (min c.match-atom.turn.due later) (omega arith) (steps_all-as _ _ _ _ _ _ _ _ _ _ next refl both)));
     }
 
 pub step_each-returns-clause-next : goal.step_each-returns-clause-next

@@ -16,7 +16,7 @@ overflow_add-first c =
     let x = get_or xs c.args.alert c.index-alerts-alert.result in
     let here = ap (get_or xs c.args.alert) c.index-alerts-alert.is in
     let inside : c.loop-i.i < length x.lines.items = omega (arith, c.loop-i-test.true, c.len-i-end.ensures, x.lines.ok.0) in
-    let few : c.line_at-first.result + c.loop-i.i < 16384 =
+    let few : c.line_at-first.result + c.loop-i.i < 32768 =
     line-within d sealed c.args.sizes c.requires.sizes xs c.args.alert x c.alerts.ensures.value lt here c.line_at-first.result c.loop-i.i c.line_at-first.ensures.value inside in
     omega (arith, few)
 
@@ -33,7 +33,7 @@ line_number-requires-clause-line c =
     let x = get_or xs c.args.alert c.index-alerts-alert.result in
     let here = ap (get_or xs c.args.alert) c.index-alerts-alert.is in
     let inside : c.loop-i.i < length x.lines.items = omega (arith, c.loop-i-test.true, c.len-i-end.ensures, x.lines.ok.0) in
-    let few : c.line_at-first.result + c.loop-i.i < 16384 =
+    let few : c.line_at-first.result + c.loop-i.i < 32768 =
     line-within d sealed c.args.sizes c.requires.sizes xs c.args.alert x c.alerts.ensures.value lt here c.line_at-first.result c.loop-i.i c.line_at-first.ensures.value inside in
     few
 
@@ -50,7 +50,7 @@ add_line-requires-clause-number c =
     let x = get_or xs c.args.alert c.index-alerts-alert.result in
     let here = ap (get_or xs c.args.alert) c.index-alerts-alert.is in
     let inside : c.loop-i.i < length x.lines.items = omega (arith, c.loop-i-test.true, c.len-i-end.ensures, x.lines.ok.0) in
-    let few : c.line_at-first.result + c.loop-i.i < 16384 =
+    let few : c.line_at-first.result + c.loop-i.i < 32768 =
     line-within d sealed c.args.sizes c.requires.sizes xs c.args.alert x c.alerts.ensures.value lt here c.line_at-first.result c.loop-i.i c.line_at-first.ensures.value inside in
     omega (arith, few, c.line_number.ensures, few-alerts d sealed c.args.sizes c.requires.sizes)
 

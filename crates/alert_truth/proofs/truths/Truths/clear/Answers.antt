@@ -1,5 +1,6 @@
-use Rattle.std.proofs.Common.{rules, ◌≡◌, false, None, length, replicate, vec_len, refl, ap, ◌∙◌, arith}
-use Rattle.std.proofs.lemmas.List.{length-replicate}
+use Rattle.std.proofs.Common.{rules, ◌≡◌, ℕ, false, not, ◌&&◌, Option, None, get_or, sym, length, replicate, vec_len, refl, ap, ◌∙◌, arith}
+use Rattle.std.proofs.lemmas.List.{length-replicate, get_or-replicate}
+use Rattle.std.specs.Prelude.{is_some}
 use Rattle.alert_truth.specs.Alerts.{active}
 use Rattle.alert_truth.proofs.Stepping.{nothing-stands}
 use Rattle.alert_truth.proofs.truths.Truths.clear.Goals as goal
@@ -22,6 +23,10 @@ returns-clause-stands c = λ b conditions phases fits.
       present = ap length now ∙ length-replicate count false;
       active = ap length here ∙ length-replicate count false;
       waiting = ap length waits ∙ length-replicate count false;
-      stars = c.clear.ensures.fits b fits.stars;
+      room = c.clear.ensures.room ∙ fits.room;
+      restless = λ a within.
+          c.clear.ensures.none a
+          ∙ sym (ap (λ (o : Option ℕ). is_some o && not (get_or c.fill-3.new.self.items a false)) (ap (λ xs. get_or xs a None) since ∙ get_or-replicate count a None None within));
+      stars = c.clear-2.ensures.fits b fits.stars;
     })
-    refl since now here waits (c.clear.ensures.stands b (active b conditions phases) fits.stars) refl
+    refl since now here waits (c.clear-2.ensures.stands b (active b conditions phases) fits.stars) refl

@@ -18,7 +18,7 @@ ended t = record t { moments = t.moments + 1; changing = false; changed = t.chan
 
 settled-fits : (b : Book) (old now : Truths) (s : Stars) → now ≡ record old { stars = s } → TruthsFit b old → StarsFit b s → TruthsFit b (ended now)
 settled-fits b old now s is fits stars =
-    subst (λ t. TruthsFit b (ended t)) (sym is) (record { since = fits.since; present = fits.present; active = fits.active; waiting = fits.waiting; stars = stars })
+    subst (λ t. TruthsFit b (ended t)) (sym is) (record { since = fits.since; present = fits.present; active = fits.active; waiting = fits.waiting; room = fits.room; restless = fits.restless; stars = stars })
 
 settled-stands : (b : Book) (conditions : ℕ → Signal) (phases : ℕ → ℕ) (k : ℕ) (old now : Truths) (s : Stars) → now ≡ record old { stars = s }
     → HalfStand b conditions phases k (length b.alerts) old → StarsFit b s → StarsStand b (active b conditions phases) (suc k) s → TruthsStand b conditions phases (suc k) (ended now)

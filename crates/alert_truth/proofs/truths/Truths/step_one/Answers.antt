@@ -10,7 +10,7 @@ use Rattle.book_model.proofs.BookReads.{alert-read}
 use Rattle.alert_truth.specs.Alerts.{present, active, inhibited}
 use Rattle.alert_truth.specs.TruthsState.{HalfStand, IsStepped}
 use Rattle.alert_truth.proofs.Staying.{IsSame, stays-same}
-use Rattle.alert_truth.proofs.Stepping.{half-step, half-stays}
+use Rattle.alert_truth.proofs.Stepping.{notes-fits, half-step, half-stays}
 use Rattle.alert_truth.proofs.truths.Truths.step_one.Goals as goal
 use Rattle.alert_truth.proofs.truths.Truths.step_one.Goals.{After-note, Then-stays}
 
@@ -22,6 +22,7 @@ stays-requires c =
       present = omega (arith, c.requires.fits.present, few);
       active = omega (arith, c.requires.fits.active, few);
       waiting = omega (arith, c.requires.fits.waiting, few);
+      restless = omega (arith, c.requires.fits.room, c.requires.alert, few);
     }
 
 pub index-requires : goal.index-requires
@@ -38,6 +39,7 @@ note-requires c =
       present = omega (arith, c.requires.fits.present, few);
       active = omega (arith, c.requires.fits.active, few);
       waiting = omega (arith, c.requires.fits.waiting, few);
+      restless = omega (arith, c.requires.fits.room, c.requires.alert, few);
     }
 
 -- what the book has of the alert
@@ -110,3 +112,7 @@ returns-then-stays-clause-stands c = λ conditions phases k cond phase half.
 
 pub returns-then-stays-clause-answer : goal.returns-then-stays-clause-answer
 returns-then-stays-clause-answer c = λ conditions phases k cond phase half. cond ∙ (same c conditions phases k cond half).answer
+
+pub returns-clause-fits : goal.returns-clause-fits
+returns-clause-fits c =
+    notes-fits (the_book c.args.book.now) c.args.alert c.since_when-since.result c.is_present-present.result c.is_active-active.result c.args.self.now c.note.new.self c.note.ensures c.requires.fits

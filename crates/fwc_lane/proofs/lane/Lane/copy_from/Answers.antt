@@ -29,7 +29,7 @@ returns-clause-stands c = λ b e fits other.
       moments = refl;
       ticked = refl;
       params = λ words k stands. c.copy_from.ensures.stands b words k fits.params stands;
-      keys = refl;
+      keys = c.copy_from-6.ensures;
       terms = c.copy_from-2.ensures.took;
       phases = refl;
       phase = refl;
@@ -40,7 +40,7 @@ returns-clause-stands c = λ b e fits other.
       values = c.copy_from_slice.ensures.items ∙ c.deref.ensures.value;
       lines = c.copy_from_slice-2.ensures.items ∙ c.deref-2.ensures.value;
       memos = c.copy_from_slice-3.ensures.items ∙ c.deref-3.ensures.value;
-      picture = c.copy_from-6.ensures;
+      picture = c.copy_from-7.ensures;
       changed = refl;
       counts = refl;
     }) other

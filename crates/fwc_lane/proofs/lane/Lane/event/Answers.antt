@@ -14,11 +14,11 @@ returns-in-Tick-clause-stands c = λ e up stands.
 
 pub returns-in-Press-clause-stands : goal.returns-in-Press-clause-stands
 returns-in-Press-clause-stands c = λ e up stands.
-    rw c.in-Press.is (press-lane (the_book c.args.book.now) e _ c.args.self.now c.press.new.self stands c.press.ensures.stands)
+    rw c.in-Press.is (press-lane (the_book c.args.book.now) e _ c.args.self.now c.press.new.self stands c.press.ensures)
 
 pub returns-in-Release-clause-stands : goal.returns-in-Release-clause-stands
 returns-in-Release-clause-stands c = λ e up stands.
-    rw c.in-Release.is (release-lane (the_book c.args.book.now) e _ c.args.self.now c.release.new.self stands c.release.ensures.stands)
+    rw c.in-Release.is (release-lane (the_book c.args.book.now) e _ c.args.self.now c.release.new.self stands c.release.ensures)
 
 pub returns-in-Fail-clause-stands : goal.returns-in-Fail-clause-stands
 returns-in-Fail-clause-stands c = λ e up stands. rw c.in-Fail.is (fail-lane (the_book c.args.book.now) e _ c.args.self.now stands)

@@ -1,8 +1,9 @@
-use Rattle.std.proofs.Common.{◌≡◌, ◌<◌, ℕ, suc, false, length, get_or, None, refl, sym, ap, ◌∙◌, arith, add-one}
+use Rattle.std.proofs.Common.{◌≡◌, ◌<◌, ℕ, suc, false, length, get_or, None, sym, ap, subst, ◌∙◌, arith, add-one}
 use Rattle.std.proofs.lemmas.Bool.{lt-ltb}
 use Rattle.ecam_spec.specs.BookTerms.{lines_of}
 use Rattle.ecam_spec.specs.Term.{holds}
-use Rattle.ecam_spec.specs.Situation.{words_in, value_in, phase_in, world}
+use Rattle.ecam_spec.specs.Situation.{words_in, strokes_in, value_in, phase_in, world}
+use Rattle.ecam_kinds.specs.KeyState.{KeysStand}
 use Rattle.ecam_spec.specs.Screen.{cockpit, line_stands}
 use Rattle.book_model.specs.Told.{TellsOf}
 use Rattle.book_model.specs.Sealed.{the_book}
@@ -22,12 +23,12 @@ returns-clause-whole c = λ m came was.
     let values = values-told b m k c.begin_moment-values.new.values.items (c.begin_moment-values.ensures.values (words_in b m) k came.words was.values) in
     let told : (i : ℕ) → i < length c.deref.result.now → get_or c.deref.result.now i None ≡ value_in b m i k =
     λ i lt. ap (λ vs. get_or vs i None) c.deref.ensures.value ∙ values i (omega (arith, ap length c.deref.ensures.value, all)) in
-    let stepped = c.step_conditions-stepped.ensures.stands m c.args.self.now.terms.cells.visits (lends-from b m k _ _ _ _ _ _ c.args.self.now.params c.args.self.now.keys refl came told) (record { terms = c.begin_moment-values.ensures.begins m came was.terms was.values; phases = was.phases; truths = was.truths; was = was.phase }) in
-    let phase = c.step_conditions-stepped.ensures.phase m c.args.self.now.terms.cells.visits (lends-from b m k _ _ _ _ _ _ c.args.self.now.params c.args.self.now.keys refl came told) (record { terms = c.begin_moment-values.ensures.begins m came was.terms was.values; phases = was.phases; truths = was.truths; was = was.phase }) in
-    let lines = c.step_conditions-stepped.ensures.line_flags m c.args.self.now.terms.cells.visits (lends-from b m k _ _ _ _ _ _ c.args.self.now.params c.args.self.now.keys refl came told) (record { terms = c.begin_moment-values.ensures.begins m came was.terms was.values; phases = was.phases; truths = was.truths; was = was.phase }) in
-    let memos = c.step_conditions-stepped.ensures.memo_flags m c.args.self.now.terms.cells.visits (lends-from b m k _ _ _ _ _ _ c.args.self.now.params c.args.self.now.keys refl came told) (record { terms = c.begin_moment-values.ensures.begins m came was.terms was.values; phases = was.phases; truths = was.truths; was = was.phase }) in
+    let stepped = c.step_conditions-stepped.ensures.stands m c.args.self.now.terms.cells.visits (lends-from b m k _ _ _ _ _ _ c.args.self.now.params c.args.self.now.keys c.keys.ensures came told) (record { terms = c.begin_moment-values.ensures.begins m came was.terms was.values; phases = was.phases; truths = was.truths; was = was.phase; lines = was.lines; memos = was.memos }) in
+    let phase = c.step_conditions-stepped.ensures.phase m c.args.self.now.terms.cells.visits (lends-from b m k _ _ _ _ _ _ c.args.self.now.params c.args.self.now.keys c.keys.ensures came told) (record { terms = c.begin_moment-values.ensures.begins m came was.terms was.values; phases = was.phases; truths = was.truths; was = was.phase; lines = was.lines; memos = was.memos }) in
+    let lines = c.step_conditions-stepped.ensures.line_flags m c.args.self.now.terms.cells.visits (lends-from b m k _ _ _ _ _ _ c.args.self.now.params c.args.self.now.keys c.keys.ensures came told) (record { terms = c.begin_moment-values.ensures.begins m came was.terms was.values; phases = was.phases; truths = was.truths; was = was.phase; lines = was.lines; memos = was.memos }) in
+    let memos = c.step_conditions-stepped.ensures.memo_flags m c.args.self.now.terms.cells.visits (lends-from b m k _ _ _ _ _ _ c.args.self.now.params c.args.self.now.keys c.keys.ensures came told) (record { terms = c.begin_moment-values.ensures.begins m came was.terms was.values; phases = was.phases; truths = was.truths; was = was.phase; lines = was.lines; memos = was.memos }) in
     let enters = c.enters_one.ensures b m k was.ticked phase was.phase in
-    let crew = c.step_crew.ensures.stands m k stepped.truths came.strokes enters (record { marks = was.marks; lights = was.attention; selection = was.selector }) in
+    let crew = c.step_crew.ensures.stands m k stepped.truths (subst (KeysStand (strokes_in b m) k) (sym c.keys-2.ensures) came.strokes) enters (record { marks = was.marks; lights = was.attention; selection = was.selector }) in
     let turned : AreTurned b m k c.of-turned.result =
     are-turned b m k c.args.self.now c.of-turned.result c.step_conditions-stepped.result.phase c.begin_moment-values.new.values.items c.step_conditions-stepped.new.lines.items c.step_conditions-stepped.new.memos.items
     c.step_crew.new.marks c.normal-normal.result c.normal.result was (record {
@@ -49,7 +50,7 @@ returns-clause-whole c = λ m came was.
     record {
       counted = add-one k;
       ticked = sym (lt-ltb 0 (suc k) (omega arith));
-      terms = terms-after b m k c.args.self.now.terms.cells.visits c.step_conditions-stepped.new.terms c.args.self.now.params c.args.self.now.keys c.args.one_up c.args.two_up stepped.terms came;
+      terms = terms-after b m k c.args.self.now.terms.cells.visits c.step_conditions-stepped.new.terms c.args.self.now.params c.args.self.now.keys c.copy_from.new.self c.args.one_up c.args.two_up c.copy_from.ensures stepped.terms came;
       phases = stepped.phases;
       truths = stepped.truths;
       marks = crew.marks;
@@ -89,5 +90,5 @@ returns-clause-visits c = λ m came was.
     let values = values-told b m k c.begin_moment-values.new.values.items (c.begin_moment-values.ensures.values (words_in b m) k came.words was.values) in
     let told : (i : ℕ) → i < length c.deref.result.now → get_or c.deref.result.now i None ≡ value_in b m i k =
     λ i lt. ap (λ vs. get_or vs i None) c.deref.ensures.value ∙ values i (omega (arith, ap length c.deref.ensures.value, all)) in
-    let stepped = c.step_conditions-stepped.ensures.stands m c.args.self.now.terms.cells.visits (lends-from b m k _ _ _ _ _ _ c.args.self.now.params c.args.self.now.keys refl came told) (record { terms = c.begin_moment-values.ensures.begins m came was.terms was.values; phases = was.phases; truths = was.truths; was = was.phase }) in
+    let stepped = c.step_conditions-stepped.ensures.stands m c.args.self.now.terms.cells.visits (lends-from b m k _ _ _ _ _ _ c.args.self.now.params c.args.self.now.keys c.keys.ensures came told) (record { terms = c.begin_moment-values.ensures.begins m came was.terms was.values; phases = was.phases; truths = was.truths; was = was.phase; lines = was.lines; memos = was.memos }) in
     stepped.terms.counted

@@ -12,9 +12,9 @@ invariant-loop-place l = record {
   count : length l.self.dues ≡ length l.initial.self.dues;
   due : WillLook l.clock l.initial.self → AreDue l.clock l.self;
   ending : WillLook l.clock l.initial.self → (q : ℕ) → is_marked l.self.changed (q / 3) ≡ false
-      → is_ending l.clock (get_or l.initial.self.received.items q None) ≡ true → slice_index l.self.dues q ≤ l.clock;
+      → is_ending l.clock (get_or l.initial.self.received.items.items q None) ≡ true → slice_index l.self.dues q ≤ l.clock;
   others : (p : ℕ) → is_marked l.initial.self.changed p ≡ false
-      → ((q : ℕ) → q / 3 ≡ p → is_ending l.clock (get_or l.initial.self.received.items q None) ≡ false) → is_marked l.self.changed p ≡ false;
+      → ((q : ℕ) → q / 3 ≡ p → is_ending l.clock (get_or l.initial.self.received.items.items q None) ≡ false) → is_marked l.self.changed p ≡ false;
 }
 
 abbrev pub decreases-loop-place : goal.decreases-loop-place

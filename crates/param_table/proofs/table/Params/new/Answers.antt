@@ -1,4 +1,4 @@
-use Rattle.std.proofs.Common.{◌≡◌, ℕ, zero, suc, ◌+◌, ◌*◌, ◌-◌, ◌/◌, [], ◌++◌, take, length, map, replicate, None, All, refl, sym, ap, ◌∙◌, subst, arith}
+use Rattle.std.proofs.Common.{◌≡◌, ◌+◌, ◌*◌, ◌/◌, length, map, replicate, None, All, sym, ap, ◌∙◌, subst, arith}
 use Rattle.std.proofs.lemmas.List.{length-replicate, length-map}
 use Rattle.wakes.specs.Tournament.{never}
 use Rattle.book_model.specs.View.{parameter_of}
@@ -27,13 +27,9 @@ new-requires-2 c = omega (arith, (sizes c.args.book.now c.params-params.ensures.
 pub new-requires-3 : goal.new-requires-3
 new-requires-3 c = omega (arith, (sizes c.args.book.now c.params-params.ensures.sealed).params, ap length c.params-params.ensures.value)
 
-filled : {X : Type 0} (n : ℕ) (x : X) → take n [] ++ replicate (n - 0) x ≡ replicate n x
-filled zero x = refl
-filled (suc n) x = let same : suc n - 0 ≡ suc n = omega arith in ap (λ k. replicate k x) same
-
 -- nothing has come yet
-blank : (c : In_ok-dues) → c.resize.new.self.items ≡ replicate (3 * length c.params-params.result.now) None
-blank c = c.in_ok-resize.ensures.items ∙ rw (c.new-received.ensures.items, c.new-received.ensures.len) (filled (3 * length c.params-params.result.now) None)
+blank : (c : In_ok-dues) → c.in_ok-received.received.items.items ≡ replicate (3 * length c.params-params.result.now) None
+blank c = c.in_ok-received.ensures
 
 -- the parameters that were read are the book's
 read : (c : In_ok-dues) → map parameter_of c.params-params.result.now ≡ (the_book c.args.book.now).parameters
@@ -44,16 +40,16 @@ many c = sym (length-map c.params-params.result.now parameter_of) ∙ ap length 
 
 fits : (c : In_ok-dues)
     → ParamsFit (the_book c.args.book.now)
-    (record { clock = 0; held = record { received = c.resize.new.self; changed = c.in_ok-changed.changed; dues = c.in_ok-dues.dues }; rules = c.in_ok-rules.rules; index = c.in_ok-index.index })
+    (record { clock = 0; held = record { received = c.in_ok-received.received; changed = c.in_ok-changed.changed; dues = c.in_ok-dues.dues }; rules = c.in_ok-rules.rules; index = c.in_ok-index.index })
 fits c = record {
   sound = book_sound c.args.book.now c.params-params.ensures.sealed;
   index = subst (λ ps. IsIndex ps c.in_ok-index.index) (read c) c.in_ok-index.ensures;
-  rules = subst (λ ps. AreRules ps c.in_ok-rules.rules.items) (read c) c.in_ok-rules.ensures;
+  rules = subst (λ ps. AreRules ps c.in_ok-rules.rules.items.items) (read c) c.in_ok-rules.ensures;
   held = record {
     places = ap length (blank c) ∙ length-replicate (3 * length c.params-params.result.now) None ∙ ap (λ n. 3 * n) (many c);
     room = c.in_ok-changed.ensures.size ∙ ap (λ n. 64 * (n / 64 + 1)) (many c);
     dues = ap length c.in_ok-dues.ensures ∙ length-replicate (3 * length c.params-params.result.now) never ∙ ap (λ n. 3 * n) (many c);
-    each = λ q. held_none (the_book c.args.book.now).parameters c.resize.new.self.items (3 * length c.params-params.result.now) q (blank c);
+    each = λ q. held_none (the_book c.args.book.now).parameters c.in_ok-received.received.items.items (3 * length c.params-params.result.now) q (blank c);
   };
 }
 
@@ -63,5 +59,5 @@ returns-clause-fits c = fits c
 pub returns-clause-stands : goal.returns-clause-stands
 returns-clause-stands c = λ words none.
     start (the_book c.args.book.now) words
-    (record { clock = 0; held = record { received = c.resize.new.self; changed = c.in_ok-changed.changed; dues = c.in_ok-dues.dues }; rules = c.in_ok-rules.rules; index = c.in_ok-index.index })
+    (record { clock = 0; held = record { received = c.in_ok-received.received; changed = c.in_ok-changed.changed; dues = c.in_ok-dues.dues }; rules = c.in_ok-rules.rules; index = c.in_ok-index.index })
     (3 * length c.params-params.result.now) (fits c) none (blank c) c.in_ok-changed.ensures.none

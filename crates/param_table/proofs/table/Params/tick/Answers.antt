@@ -29,10 +29,10 @@ fits_after c =
       index = fits.index;
       rules = fits.rules;
       held = record {
-        places = ap (λ v. length v.items) (c.look_at_due.ensures.received ∙ c.forget_changes.ensures.received) ∙ fits.held.places;
+        places = ap (λ v. length v.items.items) (c.look_at_due.ensures.received ∙ c.forget_changes.ensures.received) ∙ fits.held.places;
         room = c.look_at_due.ensures.room ∙ c.forget_changes.ensures.room ∙ fits.held.room;
         dues = c.look_at_due.ensures.dues ∙ ap length c.forget_changes.ensures.dues ∙ fits.held.dues;
-        each = λ q. subst (λ v. IfSome (get_or v.items q None) (IsHeld (the_book c.args._book.now).parameters q)) (sym (c.look_at_due.ensures.received ∙ c.forget_changes.ensures.received)) (fits.held.each q);
+        each = λ q. subst (λ v. IfSome (get_or v.items.items q None) (IsHeld (the_book c.args._book.now).parameters q)) (sym (c.look_at_due.ensures.received ∙ c.forget_changes.ensures.received)) (fits.held.each q);
       };
     }
 
@@ -53,8 +53,8 @@ returns-clause-stands c = λ words k none stands.
       | else-self w ↦ subst (ParamsStand b words k) (sym w.self-is) stands
     ] in
     let held = c.forget_changes.new.self in
-    let kept : held.received.items ≡ mid.held.received.items = ap (λ v. v.items) c.forget_changes.ensures.received in
+    let kept : held.received.items.items ≡ mid.held.received.items.items = ap (λ v. v.items.items) c.forget_changes.ensures.received in
     let will : WillLook (mid.clock + 1) held = subst (λ t. WillLook t held) (sym (add-one mid.clock)) (will_look mid.clock mid.held held kept c.forget_changes.ensures.dues before.due) in
     let new : Params = record { clock = mid.clock + 1; held = c.look_at_due.new.self; rules = mid.rules; index = mid.index } in
-    moment b words k mid new (fits_after c) none (add-one mid.clock) (ap (λ v. v.items) c.look_at_due.ensures.received ∙ kept) (c.look_at_due.ensures.due will) (λ q off. ap (λ l. is_ending (mid.clock + 1) (get_or l q None)) (sym kept) ∙ c.look_at_due.ensures.marks will q off)
+    moment b words k mid new (fits_after c) none (add-one mid.clock) (ap (λ v. v.items.items) c.look_at_due.ensures.received ∙ kept) (c.look_at_due.ensures.due will) (λ q off. ap (λ l. is_ending (mid.clock + 1) (get_or l q None)) (sym kept) ∙ c.look_at_due.ensures.marks will q off)
     (λ p calm. c.look_at_due.ensures.others p (c.forget_changes.ensures.none p) (λ q row. ap (λ l. is_ending (mid.clock + 1) (get_or l q None)) kept ∙ calm q row)) before

@@ -5,7 +5,7 @@ use Rattle.param_table.proofs.Values.{value_is, few_sources}
 use Rattle.param_table.proofs.table.Params.value.Goals as goal
 
 pub overflow_mul-param : goal.overflow_mul-param
-overflow_mul-param c = omega (arith, c.requires.fits.held.places, many-parameters c.args.book.now, c.requires.param, c.args.self.now.held.received.ok.0)
+overflow_mul-param c = omega (arith, c.requires.fits.held.places, many-parameters c.args.book.now, c.requires.param, c.args.self.now.held.received.items.ok.0)
 
 pub first_value-requires : goal.first_value-requires
 first_value-requires c = omega (arith, c.requires.fits.held.places, many-parameters c.args.book.now, c.requires.param)

@@ -1,0 +1,25 @@
+use Rattle.std.proofs.Common.{suc, length, ap, ◌∙◌}
+use Rattle.ecam_spec.specs.Situation.{condition_in, phase_in}
+use Rattle.ecam_spec.specs.Screen.{cockpit}
+use Rattle.book_model.specs.Sealed.{the_book}
+use Rattle.fwc_lane.proofs.CrewMoments.{crew-of, sees-crew, still-crew}
+use Rattle.fwc_lane.proofs.crew.step_marks.Goals as goal
+
+pub returns-then-changed-clause-stands : goal.returns-then-changed-clause-stands
+returns-then-changed-clause-stands c = λ m k truths strokes enters stands.
+    let b = the_book c.args.book.now in
+    let ups = c.up.ensures.tells b (condition_in b m) (phase_in b m) (suc k) truths in
+    let waits = c.waiting.ensures.tells b (condition_in b m) (phase_in b m) (suc k) truths in
+    let ups-long = ap length c.up.ensures.value ∙ c.requires.truths.stars.up in
+    let waits-long = ap length c.waiting.ensures.value ∙ c.requires.truths.waiting in
+    c.step.ensures.stands (cockpit b m) k (crew-of b m) (sees-crew b m k c.args.keys.now strokes _ ups _ _ waits ups-long waits-long enters) stands
+
+pub returns-clause-stands : goal.returns-clause-stands
+returns-clause-stands c = λ m k truths strokes enters stands.
+    let b = the_book c.args.book.now in
+    let ups = c.up-2.ensures.tells b (condition_in b m) (phase_in b m) (suc k) truths in
+    let waits = c.waiting-2.ensures.tells b (condition_in b m) (phase_in b m) (suc k) truths in
+    let ups-long = ap length c.up-2.ensures.value ∙ c.requires.truths.stars.up in
+    let waits-long = ap length c.waiting-2.ensures.value ∙ c.requires.truths.waiting in
+    c.step_still.ensures.stands (cockpit b m) k (crew-of b m) (sees-crew b m k c.args.keys.now strokes _ ups _ _ waits ups-long waits-long enters)
+    (still-crew b m k ((c.changed.ensures.tells b (condition_in b m) (phase_in b m) k truths).0 c.if-changed.false)) stands

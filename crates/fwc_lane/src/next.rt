@@ -1,0 +1,105 @@
+// The next of some items that has a woken condition.
+ghost use Rattle.std.specs.Prelude.{◌≡◌, ◌+◌, ◌<◌, ◌≤◌, length, take};
+ghost use Rattle.ecam_spec.specs.BookTerms.{lines_of};
+ghost use Rattle.book_model.specs.Sealed.{the_book};
+ghost use Rattle.book_model.specs.Conditions.{alerts_from};
+ghost use Rattle.fwc_lane.specs.Waking.{NoneMarked, FindsNext, lines_start, memo_start};
+
+use crate::numbers::{first_memo, line_number};
+use alert_truth::Truths;
+use book_model::Book;
+use wakes::Marked;
+
+/// The first alert from one on whose condition is woken or which is restless; where there is none the number of alerts. Its
+/// cost is a look for each 64 alerts that it goes over.
+pub fn next_alert(woken: &Marked, truths: &Truths, book: &Book, from: usize) -> usize
+    requires { from ≤ length book.now.alerts.items }
+    ensures from { from ≤ result }
+    ensures within { result ≤ length book.now.alerts.items }
+    ensures woken { NoneMarked woken.now (alerts_from + from) (alerts_from + result) }
+    ensures restless { NoneMarked truths.now.restless from result }
+{
+    book.sealed();
+    let end = book.alerts().len();
+    let term = next_or(woken, 6 + from, 6 + end);
+    let restless = next_or(truths.restless(), from, end);
+    restless.min(term - 6)
+}
+
+// The first number of the set from one on, or an end where there is none before it.
+fn next_or(marked: &Marked, from: usize, end: usize) -> usize
+    requires { from ≤ end }
+    ensures from { from ≤ result }
+    ensures end { result ≤ end }
+    ensures none { NoneMarked marked.now from result }
+{
+    match marked.first_from(from) {
+        Some(next) => next.min(end),
+        None => end,
+    }
+}
+
+/// The first alert from one on of whose lines a condition is woken. Its cost is a look for each 64 conditions that it goes
+/// over, and one for each doubling of the number of alerts.
+pub fn next_lines(woken: &Marked, book: &Book, from: usize) -> Option<usize>
+    requires { from ≤ length book.now.alerts.items }
+    ensures { FindsNext woken.now (lines_start (the_book book.now)) from
+        (length book.now.alerts.items) result }
+{
+    book.sealed();
+    let first = line_number(book, first_line(book, from));
+    let term = woken.first_from(first)?;
+    if term >= first_memo(book) {
+        return None;
+    }
+    Some(owner(book, from, (term - line_number(book, 0)) / 2))
+}
+
+/// The first memo from one on whose condition is woken. Its cost is a look for each 64 memos that it goes over.
+pub fn next_memo(woken: &Marked, book: &Book, from: usize) -> Option<usize>
+    requires { from ≤ length book.now.memos.items }
+    ensures { FindsNext woken.now (memo_start (the_book book.now)) from
+        (length book.now.memos.items) result }
+{
+    let first = first_memo(book);
+    let count = book.memos().len();
+    let term = woken.first_from(first + from)?;
+    if term >= first + count {
+        return None;
+    }
+    Some(term - first)
+}
+
+// How many lines the alerts before this one have.
+fn first_line(book: &Book, alert: usize) -> usize
+    ensures { result ≡ length (lines_of (take alert (the_book book.now).alerts)) }
+{
+    if alert < book.alerts().len() {
+        book.line_at(alert)
+    } else {
+        book.line_count()
+    }
+}
+
+// The alert whose line it is, where that is none before `from`.
+fn owner(book: &Book, from: usize, line: usize) -> usize
+    requires from { from < length book.now.alerts.items }
+    requires line { length (lines_of (take from (the_book book.now).alerts)) ≤ line }
+    ensures from { from ≤ result }
+    ensures within { result < length book.now.alerts.items }
+    ensures begun { length (lines_of (take result (the_book book.now).alerts)) ≤ line }
+    ensures last { result + 1 < length book.now.alerts.items
+        → line < length (lines_of (take (result + 1) (the_book book.now).alerts)) }
+{
+    let mut low = from;
+    let mut high = book.alerts().len();
+    while high - low > 1 {
+        let middle = low + (high - low) / 2;
+        if book.line_at(middle) <= line {
+            low = middle;
+        } else {
+            high = middle;
+        }
+    }
+    low
+}
