@@ -12,7 +12,7 @@ low_bit : (n k : ℕ) → n % 2 ^ suc k ≡ n % 2 + 2 * (n / 2 % 2 ^ k)
 low_bit n k = ap (λ j. n % 2 ^ j) (sym (add-one k)) ∙ mod-pow-add n k 1 ∙ omega arith
 
 -- the bits of a number from i on, k of them, where the first is worth 2 ^ (suc i - base)
-bits_from : (k i base word : ℕ) → base ≤ suc i → sum_from (suc i) k (λ j. bit j word * 2 ^ (j - base)) ≡ word / 2 ^ i % 2 ^ k * 2 ^ (suc i - base)
+pub bits_from : (k i base word : ℕ) → base ≤ suc i → sum_from (suc i) k (λ j. bit j word * 2 ^ (j - base)) ≡ word / 2 ^ i % 2 ^ k * 2 ^ (suc i - base)
 bits_from zero i base word h = let none : word / 2 ^ i % 2 ^ 0 ≡ 0 = omega arith in rw none (omega arith)
 bits_from (suc k) i base word h =
     let twice : 2 ^ (suc (suc i) - base) ≡ 2 * 2 ^ (suc i - base) = ap (λ e. 2 ^ e) (omega arith) ∙ pow-suc 2 (suc i - base) ∙ mul_comm (2 ^ (suc i - base)) 2 in

@@ -22,6 +22,27 @@ const DECIMAL: [(u32, Option<i64>); 6] = [
     (0xe48d151e, Some(-12345)),
 ];
 
+/// A label, an SDI, data and an SSM, and the word that they make.
+const COMPOSED: [(u8, u8, u32, u8, u32); 9] = [
+    (0o270, 0, 1, 0, 0x0000041d),
+    (0o270, 0, 3, 0, 0x80000c1d),
+    (0o100, 0, 32, 0, 0x80008002),
+    (0o101, 0, 1, 0, 0x00000482),
+    (0o100, 0, 0, 1, 0xa0000002),
+    (0o101, 0, 0, 1, 0x20000082),
+    (0o170, 1, 0x12345, 0, 0x848d151e),
+    (0o170, 1, 0x12345, 3, 0xe48d151e),
+    (0o377, 3, 0x7ffff, 3, 0x7fffffff),
+];
+
+#[test]
+fn words_are_composed(rt: HostRuntime) {
+    for (label, sdi, field, ssm, bits) in COMPOSED {
+        assert!(rt; sdi <= 3 && field < 1 << 19 && ssm <= 3);
+        assert_eq!(rt; Word::compose(label, sdi, field, ssm).bits(), bits);
+    }
+}
+
 #[test]
 fn words_are_read(rt: HostRuntime) {
     for (bits, low, range, value) in BINARY {

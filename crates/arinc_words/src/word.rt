@@ -1,6 +1,7 @@
 ghost use Rattle.std.specs.Prelude.{◌≡◌, ◌≤◌, ◌<◌, ◌+◌, ◌-◌, ◌^◌, pos, neg_ℤ, ◌≤ℤ◌, ◌*ℤ◌, IfSome, IsTrue};
 ghost use Rattle.std.specs.Int.{int_div_euclid};
 ghost use Rattle.ecam_spec.specs.declared.limits.TheConstants.{NUMBER};
+ghost use Rattle.arinc_words.specs.Composed.{joined, made_odd};
 
 use std::marker::Model;
 
@@ -39,12 +40,37 @@ impl Copy for Word {}
 impl Word {
     ghost use Rattle.ecam_spec.specs.Word as fields;
     ghost use Rattle.ecam_spec.specs.Reading.{discrete, raw, binary, digit, has_digits, decimal_number, decimal};
+    ghost use Rattle.arinc_words.specs.Composed.{composed};
 
     /// The word with these bits, bit 1 the least.
     pub fn new(bits: u32) -> Word
         ensures { result ≡ bits }
     {
         Word { bits }
+    }
+
+    /// The sound word of these fields: the label, whose most significant bit becomes bit 1, the SDI, 0 to 3, the data
+    /// `field`, whose least bit becomes bit 11, and the SSM, 0 to 3. Bit 32 makes the parity odd.
+    #[tactic(auto, unfolding(crate::specs::Composed::composed))]
+    pub fn compose(label: u8, sdi: u8, field: u32, ssm: u8) -> Word
+        requires sdi { sdi ≤ 3 }
+        requires field { field < 2 ^ 19 }
+        requires ssm { ssm ≤ 3 }
+        ensures label { fields.label result ≡ label }
+        ensures sdi { fields.sdi result ≡ sdi }
+        ensures field { digit 11 19 result ≡ field }
+        ensures ssm { fields.ssm result ≡ ssm }
+        ensures odd { IsTrue (fields.is_odd result) }
+        ensures word { result ≡ composed label sdi field ssm }
+    {
+        with_odd_parity(join(label, sdi, field, ssm))
+    }
+
+    /// The word's bits, bit 1 the least.
+    pub fn bits(&self) -> u32
+        ensures { result ≡ self.now }
+    {
+        self.bits
     }
 
     /// The label, bits 1 to 8, of which bit 1 is the most significant. Its three octal digits are its usual name.
@@ -191,4 +217,29 @@ fn scaled(steps: i64, range: u32, bits: u8) -> i64
     ensures greatest { result ≤ℤ pos range }
 {
     (steps * i64::from(range)).div_euclid(1 << bits)
+}
+
+// The fields side by side. Bit 32 is 0.
+fn join(label: u8, sdi: u8, field: u32, ssm: u8) -> u32
+    requires sdi { sdi ≤ 3 }
+    requires field { field < 2 ^ 19 }
+    requires ssm { ssm ≤ 3 }
+    ensures word { result ≡ joined label sdi field ssm }
+    ensures open_parity { result < 2 ^ 31 }
+{
+    u32::from(ssm) << 29 | field << 10 | u32::from(sdi) << 8 | u32::from(label.reverse_bits())
+}
+
+// The same word with odd parity.
+#[tactic(auto, unfolding(crate::specs::Composed::made_odd))]
+fn with_odd_parity(bits: u32) -> Word
+    requires { bits < 2 ^ 31 }
+    ensures { result ≡ made_odd bits }
+{
+    let word = Word::new(bits);
+    if word.odd() {
+        word
+    } else {
+        Word::new(bits | 1 << 31)
+    }
 }
