@@ -5,3 +5,4 @@ pub mod Faces
 pub mod TitlePlaces
 pub mod Standings
 pub mod PairVisits
+pub mod Views

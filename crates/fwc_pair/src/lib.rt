@@ -8,7 +8,9 @@ pub mod laws;
 mod pair;
 mod standing;
 mod title;
+mod view;
 
 pub use fwc_lane::Lane;
 pub use pair::Pair;
 pub use standing::Standing;
+pub use view::View;

@@ -1,5 +1,6 @@
 // The row of an alert's title.
-ghost use Rattle.std.specs.Prelude.{◌≡◌, ◌+◌, ◌<◌, ◌≤◌, ℕ, Bool, length, count_by, take, drop};
+ghost use Rattle.std.specs.Prelude.{◌≡◌, ◌+◌, ◌*◌, ◌<◌, ◌≤◌, ℕ, Bool, length, count_by, take, drop};
+ghost use Rattle.ecam_spec.specs.declared.limits.TheConstants.{ALERTS, LINES};
 ghost use Rattle.ecam_spec.specs.Book as plain;
 ghost use Rattle.ecam_spec.specs.BookTerms.{lines_of};
 ghost use Rattle.ecam_spec.specs.Situation.{alert_at};
@@ -44,7 +45,7 @@ fn rows_of(book: &Book, alert: usize, lines: &[bool]) -> usize
     ensures count { (stands : plain.Line → Bool)
         → TellsOf lines.now (lines_of (the_book book.now).alerts) stands
         → result ≡ length (zone.alert_rows stands alert (alert_at (the_book book.now) alert)) }
-    ensures few { result ≤ 16385 }
+    ensures few { result ≤ ALERTS * LINES + 1 }
 {
     let own = &book.alerts()[alert];
     count_set(part(lines, book.line_at(alert), own.lines.len())) + 1

@@ -1,0 +1,5 @@
+mod Asked
+mod PairMoments
+mod Viewed
+pub mod Endings
+pub mod Blocks
