@@ -1,0 +1,13 @@
+pub mod GroupBits
+pub mod Loops
+pub mod PairTold
+pub mod Standing
+pub mod Writing
+pub mod LineRead
+pub mod Sent
+pub mod SentRead
+pub mod SentMoments
+pub mod Taken
+pub mod WordFields
+pub mod OwnWords
+pub mod Reread
