@@ -1,0 +1,2 @@
+pub mod FaultFree
+pub mod Fitting
