@@ -1,6 +1,7 @@
 -- How the commands end, from how their steps do.
-use Rattle.std.proofs.Common.{◌≡◌, Result, Ok, Err, ℕ, ◌≤◌, List, [], Option, Some, None, IsSomeAnd, sym, ap, ◌∙◌, subst, inl, inr}
-use Rattle.ecam_io.specs.Outside.{raised, Rose, FileHas, MayRefuse, IsClosed}
+use Rattle.std.proofs.Common.{◌≡◌, Result, Ok, Err, ℕ, ◌≤◌, List, [], Option, Some, None, IsSomeAnd, refl, sym, ap, ◌∙◌, subst, inl, inr}
+use Rattle.std.specs.Prelude.{is_some}
+use Rattle.ecam_io.specs.Outside.{raised, Rose, file_named, FileHas, MayRefuse, IsClosed}
 use Rattle.ecam_io.proofs.Calls.{Rose-earlier, FileHas-weaker}
 use Rattle.ecam_spec.specs.Book.{Text, Book}
 use Rattle.ecam_spec.specs.Command.{no_limit}
@@ -11,20 +12,22 @@ use Rattle.book_model.specs.Sealed.{the_book}
 use Rattle.fwc_pair.specs.declared.pair.Pair.{Pair}
 use Rattle.fwc_pair.specs.PairState.{PairStands}
 use Rattle.ecam_spec.specs.Replay.{standing_lines}
+use Rattle.record_views.specs.Showing.{Showing}
 use Rattle.replay_core.specs.Calls.{Files, ShelfCall, OpenedOne, OpenedBoth, SinkCall, Writes, WritesPart, WritesNothing, HasFailedToWrite}
-use Rattle.replay_core.specs.Runs.{HasStopped}
+use Rattle.record_views.specs.Runs.{HasStopped}
 use Rattle.replay_core.specs.Loading.{BookHas, IsUnopened, HasLoaded, Loads, Readies}
-use Rattle.replay_core.specs.Play.{RepliesInPart, Plays}
-use Rattle.replay_core.specs.Answers.{ByBook, ByRecord, BookTold, BookUntold}
-use Rattle.replay_core.specs.ReadEndings.{Endings, RepliesWhole, RepliesTo, replaying, ExplainsInPart, ExplainsNothing, BreaksOff, explaining}
-use Rattle.replay_core.specs.Outcomes.{outcome_of, refusal_of}
+use Rattle.view_spec.specs.Places.{number_place}
+use Rattle.replay_core.specs.Play.{ShowsInPart, Plays, Shown}
+use Rattle.replay_core.specs.Answers.{ByBook, ByRecord, ByNumber, LacksNumber, BookTold, BookUntold}
+use Rattle.replay_core.specs.ReadEndings.{Endings, ShowsWhole, ShowsUpTo, showing, HasNumber, ExplainsInPart, ExplainsNothing, BreaksOff, explaining}
+use Rattle.replay_core.specs.Outcomes.{outcome_of, refusal_of, ended}
 use Rattle.replay_core.specs.declared.load.Loaded.{Loaded}
 use Rattle.replay_core.specs.declared.load.Unready.{Unready}
 use Rattle.replay_core.specs.declared.load.Unready.TheVariants.{Refused, Unread, NoMemory}
 use Rattle.replay_core.specs.declared.outcome.Outcome.{Outcome}
 use Rattle.replay_core.specs.declared.outcome.Outcome.TheVariants as outcomes
-use Rattle.replay_core.specs.declared.replay.RunError.{RunError}
-use Rattle.replay_core.specs.declared.replay.RunError.TheVariants.{Read, Write, Record}
+use Rattle.record_views.specs.declared.show.RunError.{RunError}
+use Rattle.record_views.specs.declared.show.RunError.TheVariants.{Read, Write, Record}
 
 -- what follows from the book that a file is
 pub BookHas-weaker : (files : Files) (name : Text) (P Q : Book → Type 0) → ((b : Book) → P b → Q b) → BookHas files name P → BookHas files name Q
@@ -73,6 +76,16 @@ module _ {S : Type 0} (f : ShelfCall) (out : SinkCall S) (name : Text) (once : O
     told = BookHas-weaker f.files name (λ x. (x ≡ b) × (f.left ≡ Some [])) (λ x. WritesPart out (writes x) × (f.left ≡ Some []))
         (λ x is. (subst (λ x. WritesPart out (writes x)) (sym is.0) part, is.1)) has;
   }
+
+-- ---- a record was shown
+
+module _ {S : Type 0} (f : ShelfCall) (out : SinkCall S) (b : Book) (o : Showing) (pair : Pair) (record' : Text) (limit : ℕ) where
+  pub shown-whole : (n : ℕ) → Plays f out b o pair record' limit (Ok n) → Shown f out b o record' limit outcomes.Done
+  shown-whole n plays = record { played = Ok n; outcome_is = refl; pair = pair; plays = plays }
+
+  pub shown-in-part : (e : RunError) → Plays f out b o pair record' limit (Err e) → (outcome : Outcome) → outcome ≡ refusal_of e
+      → Shown f out b o record' limit outcome
+  shown-in-part e plays outcome is = record { played = Err e; outcome_is = is; pair = pair; plays = plays }
 
 -- ---- two calls of a shelf, the first of which loaded a book
 
@@ -125,35 +138,40 @@ module _ (a c : ShelfCall) (name record' : Text) (l : Loaded) (on : Follows a c 
   rose : Rose c.faults c.faults_now → Rose a.faults c.faults_now
   rose r = Rose-earlier a.faults a.faults_now c.faults_now on.less (subst (λ n. Rose n c.faults_now) on.faults r)
 
-  -- the replay of the record ended
-  module _ (pair : Pair) (limit : ℕ) where
-    pub replayed : (n : ℕ) → Plays c out (the_book l.book) pair record' limit (Ok n) → ByRecord (joined a c) out name record' (replaying out limit) outcomes.Done
-    replayed n plays = record {
+  -- the record was shown
+  module _ (o : Book → Showing) (limit : ℕ) (pair : Pair) where
+    ended-so : (played : Result ℕ RunError) → Plays c out (the_book l.book) (o (the_book l.book)) pair record' limit played
+        → ByRecord (joined a c) out name record' (showing out o limit) (ended played)
+    ended-so (Ok n) plays = record {
       count = both;
-      both = of-both _ (RepliesWhole out limit) (λ text h. record { faultless = h.faultless; written = h.written; spent = h.spent }) plays;
+      both = of-both _ (ShowsWhole out o limit) (λ text h. record { faultless = h.faultless; written = h.written; spent = h.spent }) plays;
     }
-
-    pub unreplayed : (e : RunError) → Plays c out (the_book l.book) pair record' limit (Err e) → ByRecord (joined a c) out name record' (replaying out limit) (refusal_of e)
-    unreplayed Read (inl (un, kept)) = inr (inl (record { count = both; accepted = loaded (λ b. Unit {0}) tt; unopened = unopened un; kept = kept }))
-    unreplayed Read (inr broken) = inr (inr (record {
+    ended-so (Err Read) (inl (un, kept)) = inr (inl (record { count = both; accepted = loaded (λ b. Unit {0}) tt; unopened = unopened un; kept = kept }))
+    ended-so (Err Read) (inr broken) = inr (inr (record {
       count = both;
       cause = rose broken.cause;
       opened = broken.opened;
-      both = of-both _ (RepliesInPart out limit) (λ text h. h) broken.replies;
+      both = of-both _ (λ b text left. ShowsInPart out limit (o b) text left) (λ text h. h) broken.replies;
     }))
-    unreplayed Write plays = record {
+    ended-so (Err Write) plays = record {
       count = both;
       cause = plays.0;
-      both = of-both _ (λ b text left. HasStopped b out.agrees out.old out.new limit text left) (λ text h. h) plays.1;
+      both = of-both _ (λ b text left. HasStopped b (o b) out.agrees out.old out.new limit text left) (λ text h. h) plays.1;
     }
-    unreplayed (Record g) plays = record {
+    ended-so (Err (Record g)) plays = record {
       count = both;
-      both = of-both _ (RepliesTo out limit g) (λ text h. record { fault_is = h.fault_is; written = h.written; took = h.took }) plays;
+      both = of-both _ (ShowsUpTo out o limit g) (λ text h. record { fault_is = h.fault_is; written = h.written; took = h.took }) plays;
     }
 
+  pub shown-so : (o : Book → Showing) (limit : ℕ) (outcome : Outcome) → Shown c out (the_book l.book) (o (the_book l.book)) record' limit outcome
+      → ByRecord (joined a c) out name record' (showing out o limit) outcome
+  shown-so o limit outcome shown =
+      subst (ByRecord (joined a c) out name record' (showing out o limit)) (sym shown.outcome_is)
+      (ended-so o limit shown.pair shown.played shown.plays)
+
   -- the replay went into a sink that never fails, and nothing was written elsewhere
-  module _ {D : Type 0} (dropped : SinkCall D) (never : HasFailedToWrite dropped → ⊥) (pair : Pair) where
-    pub unexplained : (e : RunError) → Plays c dropped (the_book l.book) pair record' no_limit (Err e) → WritesNothing out → ByRecord (joined a c) out name record' (explaining out) (refusal_of e)
+  module _ {D : Type 0} (dropped : SinkCall D) (silent : Showing) (never : HasFailedToWrite dropped → ⊥) (pair : Pair) where
+    pub unexplained : (e : RunError) → Plays c dropped (the_book l.book) silent pair record' no_limit (Err e) → WritesNothing out → ByRecord (joined a c) out name record' (explaining out) (refusal_of e)
     unexplained Read (inl (un, none)) kept = inr (inl (record { count = both; accepted = loaded (λ b. Unit {0}) tt; unopened = unopened un; kept = kept }))
     unexplained Read (inr broken) kept = inr (inr (record {
       count = both;
@@ -168,7 +186,7 @@ module _ (a c : ShelfCall) (name record' : Text) (l : Loaded) (on : Follows a c 
     }
 
     -- and then a prefix of the standings was written
-    pub half-explained : (n : ℕ) → Plays c dropped (the_book l.book) pair record' no_limit (Ok n) → HasFailedToWrite out
+    pub half-explained : (n : ℕ) → Plays c dropped (the_book l.book) silent pair record' no_limit (Ok n) → HasFailedToWrite out
         → ((h : List Event) → PairStands (the_book l.book) h pair → WritesPart out (standing_lines (the_book l.book) h))
         → ByRecord (joined a c) out name record' (explaining out) outcomes.WriteFault
     half-explained n plays cause part = record {
@@ -176,6 +194,68 @@ module _ (a c : ShelfCall) (name record' : Text) (l : Loaded) (on : Follows a c 
       cause = cause;
       both = of-both _ (ExplainsInPart out) (λ text h. record { faultless = h.faultless; written = part (events text no_limit) h.stands; spent = h.spent }) plays;
     }
+
+-- ---- a command that goes by a number parameter besides
+
+file-and : (files : Files) (name : Text) (P Q : Text → Type 0) → FileHas files name P → FileHas files name Q → FileHas files name (λ bytes. P bytes × Q bytes)
+file-and None name P Q p q = p
+file-and (Some told) name P Q p q = each (file_named told name) p q where
+  each : (o : Option Text) → IsSomeAnd o P → IsSomeAnd o Q → IsSomeAnd o (λ bytes. P bytes × Q bytes)
+  each None p q = p
+  each (Some bytes) p q = (p, q)
+
+book-and : (files : Files) (name : Text) (P Q : Book → Type 0) → BookHas files name P → BookHas files name Q → BookHas files name (λ b. P b × Q b)
+book-and files name P Q p q =
+    FileHas-weaker files name (λ bytes. IsSomeAnd (book bytes) P × IsSomeAnd (book bytes) Q) (λ bytes. IsSomeAnd (book bytes) (λ b. P b × Q b))
+    (λ bytes both. each (book bytes) both.0 both.1)
+    (file-and files name (λ bytes. IsSomeAnd (book bytes) P) (λ bytes. IsSomeAnd (book bytes) Q) p q) where
+      each : (o : Option Book) → IsSomeAnd o P → IsSomeAnd o Q → IsSomeAnd o (λ b. P b × Q b)
+      each None p q = p
+      each (Some b) p q = (p, q)
+
+module _ {S : Type 0} (f : ShelfCall) (out : SinkCall S) (name record' number : Text) (e : Endings) (there : BookHas f.files name (HasNumber number)) where
+  with-number : (P : Book → Text → Option Text → Type 0) → BookHas f.files name (λ b. FileHas f.files record' (λ text. P b text f.left))
+      → BookHas f.files name (λ b. FileHas f.files record' (λ text. HasNumber number b × P b text f.left))
+  with-number P has =
+      BookHas-weaker f.files name (λ b. HasNumber number b × FileHas f.files record' (λ text. P b text f.left)) _
+      (λ b both. FileHas-weaker f.files record' (λ text. P b text f.left) (λ text. HasNumber number b × P b text f.left) (λ text so. (both.0, so)) both.1)
+      (book-and f.files name (HasNumber number) (λ b. FileHas f.files record' (λ text. P b text f.left)) there has)
+
+  -- what it ends with, where the book has the number
+  pub by-its-number : (o : Outcome) → ByRecord f out name record' e o → ByNumber f out name record' number e o
+  by-its-number outcomes.Done has = record { count = has.count; both = with-number e.whole has.both }
+  by-its-number outcomes.Usage never = never
+  by-its-number (outcomes.BookRefused g) has = has
+  by-its-number (outcomes.RecordRefused g) has = record { count = has.count; both = with-number (e.refused g) has.both }
+  by-its-number outcomes.ReadFault (inl has) = inl has
+  by-its-number outcomes.ReadFault (inr (inl has)) = inr (inl (record { count = has.count; accepted = there; unopened = has.unopened; kept = has.kept }))
+  by-its-number outcomes.ReadFault (inr (inr has)) = inr (inr (record { count = has.count; cause = has.cause; opened = has.opened; both = with-number e.broken has.both }))
+  by-its-number outcomes.WriteFault has = record { count = has.count; cause = has.cause; both = with-number e.stopped has.both }
+  by-its-number outcomes.NoMemory has = has
+  by-its-number outcomes.NoSuch never = absurd never
+
+-- the loaded book has the number, or lacks it
+module _ (f : ShelfCall) (name number : Text) (l : Loaded) (has : HasLoaded f name l) where
+  of-loaded : (P : Book → Type 0) → P (the_book l.book) → BookHas f.files name P
+  of-loaded P so = BookHas-weaker f.files name (λ b. (b ≡ the_book l.book) × (f.left ≡ Some [])) P (λ b is. subst P (sym is.0) so) has.book
+
+  pub has-number : (param : ℕ) → number_place (the_book l.book) number ≡ Some param → BookHas f.files name (HasNumber number)
+  has-number param is = of-loaded (HasNumber number) (ap is_some is)
+
+pub lacks-number : {S : Type 0} (f : ShelfCall) (out : SinkCall S) (name record' number : Text) (l : Loaded) → OpenedOne f → HasLoaded f name l → WritesNothing out
+    → number_place (the_book l.book) number ≡ None → LacksNumber f out name record' number
+lacks-number f out name record' number l once has kept none = record {
+  count = once;
+  lacks = of-loaded f name number l has (λ b. number_place b number ≡ None) none;
+  kept = kept;
+}
+
+-- no book stands ready
+pub unready-number : {S : Type 0} (f : ShelfCall) (out : SinkCall S) (name record' number : Text) (e : Endings) → OpenedOne f → WritesNothing out
+    → (u : Unready) → Readies f name (Err u) → ByNumber f out name record' number e (outcome_of u)
+unready-number f out name record' number e once kept (Refused g) faulty = record { count = once; faulty = faulty; kept = kept }
+unready-number f out name record' number e once kept Unread unread = inl (record { count = once; unread = unread; kept = kept })
+unready-number f out name record' number e once kept NoMemory took = record { count = once; took = took; kept = kept }
 
 -- ---- what isn't told as a fault counts none
 

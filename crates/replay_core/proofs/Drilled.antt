@@ -10,9 +10,9 @@ use Rattle.fwc_pair.specs.declared.pair.Pair.{Pair}
 use Rattle.record_maker.specs.Record.{made}
 use Rattle.record_maker.proofs.Whole.{made_sound}
 use Rattle.replay_core.specs.Drill.{counts_line}
-use Rattle.replay_core.specs.Runs.{Runs}
-use Rattle.replay_core.specs.declared.replay.RunError.{RunError}
-use Rattle.replay_core.specs.declared.replay.RunError.TheVariants.{Read, Write, Record}
+use Rattle.record_views.specs.Runs.{Runs}
+use Rattle.record_views.specs.declared.show.RunError.{RunError}
+use Rattle.record_views.specs.declared.show.RunError.TheVariants.{Read, Write, Record}
 
 -- a count that stays 0 doesn't rise
 pub never-rose : Rose 0 0 → ⊥
@@ -21,6 +21,7 @@ never-rose rose = let less = rose (λ e. let w : ⊥ = omega (arith, e) in w) in
 module _ (b : Book) (pair : Pair) (seed moments : ℕ) (few : moments ≤ 1000000) (old new : Tally) (none : IsTallyOf old []) (left rest : Option (List ℕ)) (is : left ≡ Some (made seed moments)) where
   pub tallied : (result : Result ℕ RunError) → Runs b IsTallyOf old new pair 4294967295 left rest result → (result ≡ Err Read → Rose 0 0) → (result ≡ Err Write → Rose 0 0)
       → IsTallyOf new (reply b (made seed moments) 4294967295)
+  unfolding reply
   tallied (Ok n) runs read write = (runs (made seed moments) is).written [] none
   tallied (Err Read) runs read write = absurd (never-rose (read refl))
   tallied (Err Write) runs read write = absurd (never-rose (write refl))

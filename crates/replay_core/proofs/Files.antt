@@ -6,7 +6,7 @@ use Rattle.std.proofs.lemmas.List.{take_all, take-append-le}
 use Rattle.std.proofs.lemmas.Bool.Decides.{leb_tells}
 use Rattle.ecam_spec.specs.Book.{Text}
 use Rattle.replay_core.specs.Loading.{IsFront, TookAtMost}
-use Rattle.replay_core.proofs.Endings.{told}
+use Rattle.record_views.proofs.Endings.{told}
 
 -- enough bytes came
 pub front-enough : (left now : Option Text) (v : Text) → Consumes left now v → length v ≡ 4194305 → (bytes : Text) → left ≡ Some bytes → IsFront bytes v now

@@ -3,11 +3,7 @@ mod Forms
 mod Numbers
 mod Files
 mod Counts
-mod Asked
-mod Handing
 mod PictureRows
-mod PairMoments
-mod Endings
 mod Unchanged
 mod BareRecords
 mod StandingLines

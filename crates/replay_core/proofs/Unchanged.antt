@@ -13,9 +13,9 @@ use Rattle.ecam_spec.specs.Record.{fault, events}
 use Rattle.ecam_spec.specs.Replay.{is_tick, history_blocks, tick_count, reply}
 use Rattle.ecam_spec.proofs.FailureLaws.{failures_change_nothing}
 use Rattle.fwc_pair.specs.declared.pair.Pair.{Pair}
-use Rattle.replay_core.specs.Runs.{Runs}
+use Rattle.record_views.specs.Runs.{Runs}
 use Rattle.replay_core.specs.Unaffected.{IsUnaffected, DropsFailures}
-use Rattle.replay_core.specs.declared.replay.RunError.{RunError}
+use Rattle.record_views.specs.declared.show.RunError.{RunError}
 
 no-tick : (x : Event) → changes_computers x ≡ true → is_tick x ≡ false
 no-tick (Word b w) e = refl
@@ -56,6 +56,7 @@ module _ (b : Book) where
   module _ {S : Type 0} (agrees : S → List ℕ → Type 0) (old new : S) (pair : Pair) (limit : ℕ) (left rest : Option (List ℕ)) where
     pub unaffected : (result : Result ℕ RunError) → Runs b agrees old new pair limit left rest result
         → IfOk result (λ n. (text bare : List ℕ) → left ≡ Some text → IsUnaffected b (events text limit) → DropsFailures text bare limit → Appended agrees old new (reply b bare limit))
+    unfolding reply
     unaffected (Ok n) runs = λ text bare is un drops.
         let has = runs text is in
         subst (Appended agrees old new) (same-reply text bare limit has.faultless un drops) has.written

@@ -4,12 +4,15 @@ use Rattle.ecam_io.specs.Outside.{FileHas}
 use Rattle.ecam_spec.specs.declared.kinds.BookFault.{BookFault}
 use Rattle.ecam_spec.specs.Book.{Text, Book}
 use Rattle.ecam_spec.specs.Summary.{summary}
-use Rattle.ecam_spec.specs.Command.{Command, check, replay, why, drill}
+use Rattle.ecam_spec.specs.Command.{Command, check, replay, why, drill, callouts, report, words, no_limit}
+use Rattle.record_views.specs.Showing.{blocks_of}
 use Rattle.replay_core.specs.Calls.{ShelfCall, OpenedOne, OpenedBoth, HasFailed, SinkCall, Writes}
 use Rattle.replay_core.specs.Calls.{WritesPart, WritesNothing, HasFailedToWrite}
 use Rattle.replay_core.specs.Drill.{drill_line}
 use Rattle.replay_core.specs.Loading.{BookHas, BookTaken, HasFault, IsUnopened, IsUnread}
-use Rattle.replay_core.specs.ReadEndings.{Endings, replaying, explaining}
+use Rattle.view_spec.specs.Places.{number_place}
+use Rattle.replay_core.specs.Showings.{called_out, report_of, words_of}
+use Rattle.replay_core.specs.ReadEndings.{Endings, showing, numbered, explaining}
 use Rattle.replay_core.specs.declared.outcome.Outcome.{Outcome}
 use Rattle.replay_core.specs.declared.outcome.Outcome.TheVariants as outcomes
 
@@ -54,6 +57,7 @@ module _ {S : Type 0} (f : ShelfCall) (out : SinkCall S) (book : Text) where
   ByBook writes outcomes.ReadFault = BookUnread
   ByBook writes outcomes.WriteFault = BookUntold writes
   ByBook writes outcomes.NoMemory = TooLittle
+  ByBook writes outcomes.NoSuch = ⊥
 
 -- ---- a command that reads a record by a book
 
@@ -68,9 +72,9 @@ module _ {S : Type 0} (f : ShelfCall) (out : SinkCall S) (book record' : Text) w
     pub both : Both P
 
   -- the book has no fault, the record's file couldn't be opened, and nothing is written
-  pub record RecordUnopened : Type 0 where
+  pub record RecordUnopened (accepts : Book → Type 0) : Type 0 where
     pub count : OpenedBoth f
-    pub accepted : BookHas f.files book (λ b. Unit {0})
+    pub accepted : BookHas f.files book accepts
     pub unopened : IsUnopened f record'
     pub kept : WritesNothing out
 
@@ -93,9 +97,23 @@ module _ {S : Type 0} (f : ShelfCall) (out : SinkCall S) (book record' : Text) w
   ByRecord e outcomes.Usage = ⊥
   ByRecord e (outcomes.BookRefused g) = BookFaulty f out book g
   ByRecord e (outcomes.RecordRefused g) = Reached (e.refused g)
-  ByRecord e outcomes.ReadFault = BookUnread f out book ⊎ (RecordUnopened ⊎ RecordUnread e.broken)
+  ByRecord e outcomes.ReadFault = BookUnread f out book ⊎ (RecordUnopened e.accepts ⊎ RecordUnread e.broken)
   ByRecord e outcomes.WriteFault = NotWritten e.stopped
   ByRecord e outcomes.NoMemory = TooLittle f out book
+  ByRecord e outcomes.NoSuch = ⊥
+
+-- ---- one that goes by a number parameter besides
+
+module _ {S : Type 0} (f : ShelfCall) (out : SinkCall S) (book record' name : Text) where
+  -- the book has no fault and no such number, the record wasn't opened, and nothing is written
+  pub record LacksNumber : Type 0 where
+    pub count : OpenedOne f
+    pub lacks : BookHas f.files book (λ b. number_place b name ≡ None)
+    pub kept : WritesNothing out
+
+  abbrev pub ByNumber : Endings → Outcome → Type 0
+  ByNumber e outcomes.NoSuch = LacksNumber
+  ByNumber e outcome = ByRecord f out book record' (numbered name e) outcome
 
 -- ---- the program
 
@@ -111,6 +129,10 @@ module _ {S : Type 0} (f : ShelfCall) (out : SinkCall S) where
   abbrev pub Ends : Option Command → Outcome → Type 0
   Ends None = Refuses
   Ends (Some (check book)) = ByBook f out book summary
-  Ends (Some (replay book record' limit)) = ByRecord f out book record' (replaying out limit)
+  Ends (Some (replay book record' limit)) = ByRecord f out book record' (showing out blocks_of limit)
   Ends (Some (why book record')) = ByRecord f out book record' (explaining out)
   Ends (Some (drill book seed moments)) = ByBook f out book (drill_line seed moments)
+  Ends (Some (callouts book record' name)) =
+      ByNumber f out book record' name (showing out (called_out name) no_limit)
+  Ends (Some (report book record')) = ByRecord f out book record' (showing out report_of no_limit)
+  Ends (Some (words book record')) = ByRecord f out book record' (showing out words_of no_limit)

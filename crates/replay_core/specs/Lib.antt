@@ -1,13 +1,13 @@
 pub mod Calls
 pub mod Flagged
-pub mod Runs
 pub mod Unaffected
 pub mod RecordLines
 pub mod Loading
-pub mod Play
 pub mod Words
 pub mod Outcomes
+pub mod Play
 pub mod Drill
+pub mod Showings
 pub mod ReadEndings
 pub mod Answers
 pub mod Decides

@@ -1,5 +1,5 @@
 -- What a command that ends so tells on standard error, and the number with which the program ends.
-use Rattle.std.specs.Prelude.{◌≡◌, ◌⊎◌, ℕ, [], codes}
+use Rattle.std.specs.Prelude.{◌≡◌, ◌⊎◌, ℕ, [], codes, Result, Ok, Err}
 use Rattle.ecam_spec.specs.Book.{Text}
 use Rattle.ecam_spec.specs.Command.{usage}
 use Rattle.ecam_spec.specs.Complaint.{book_complaint, record_complaint}
@@ -7,8 +7,8 @@ use Rattle.ecam_spec.specs.Output.{line}
 use Rattle.replay_core.specs.Calls.{SinkCall, Writes, WritesPart, HasFailedToWrite}
 use Rattle.replay_core.specs.declared.load.Unready.{Unready}
 use Rattle.replay_core.specs.declared.load.Unready.TheVariants.{Refused, Unread, NoMemory}
-use Rattle.replay_core.specs.declared.replay.RunError.{RunError}
-use Rattle.replay_core.specs.declared.replay.RunError.TheVariants as runs
+use Rattle.record_views.specs.declared.show.RunError.{RunError}
+use Rattle.record_views.specs.declared.show.RunError.TheVariants as runs
 use Rattle.replay_core.specs.declared.outcome.Status.{Status}
 use Rattle.replay_core.specs.declared.outcome.Status.TheVariants as statuses
 use Rattle.replay_core.specs.declared.outcome.Outcome.{Outcome}
@@ -22,6 +22,7 @@ complaint (outcomes.RecordRefused f) = line (record_complaint f)
 complaint outcomes.ReadFault = line (codes "read fault")
 complaint outcomes.WriteFault = line (codes "write fault")
 complaint outcomes.NoMemory = line (codes "no memory")
+complaint outcomes.NoSuch = line (codes "no such number")
 
 abbrev pub status_of : Outcome → Status
 status_of outcomes.Done = statuses.Done
@@ -31,6 +32,7 @@ status_of (outcomes.RecordRefused f) = statuses.RecordRefused
 status_of outcomes.ReadFault = statuses.ReadFault
 status_of outcomes.WriteFault = statuses.WriteFault
 status_of outcomes.NoMemory = statuses.NoMemory
+status_of outcomes.NoSuch = statuses.NoSuch
 
 abbrev pub status_code : Status → ℕ
 status_code statuses.Done = 0
@@ -40,6 +42,7 @@ status_code statuses.RecordRefused = 3
 status_code statuses.ReadFault = 4
 status_code statuses.WriteFault = 5
 status_code statuses.NoMemory = 6
+status_code statuses.NoSuch = 7
 
 -- how the program ends where no book stands ready
 abbrev pub outcome_of : Unready → Outcome
@@ -52,6 +55,11 @@ abbrev pub refusal_of : RunError → Outcome
 refusal_of runs.Read = outcomes.ReadFault
 refusal_of runs.Write = outcomes.WriteFault
 refusal_of (runs.Record f) = outcomes.RecordRefused f
+
+-- how it ends with a replay
+abbrev pub ended : Result ℕ RunError → Outcome
+ended (Ok ticks) = outcomes.Done
+ended (Err e) = refusal_of e
 
 -- the line was written and no fault was counted, or writing failed and a prefix of it was
 abbrev pub Complains : {S : Type 0} → SinkCall S → Outcome → Type 0

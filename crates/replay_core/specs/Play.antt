@@ -3,40 +3,50 @@ use Rattle.std.specs.Prelude.{◌≡◌, ◌⊎◌, ℕ, true, ◌++◌, Option,
 use Rattle.ecam_io.specs.Outside.{FileHas}
 use Rattle.ecam_spec.specs.Book.{Text, Book}
 use Rattle.ecam_spec.specs.Record.{events}
-use Rattle.ecam_spec.specs.Replay.{history_blocks}
 use Rattle.fwc_pair.specs.declared.pair.Pair.{Pair}
 use Rattle.replay_core.specs.Calls.{ShelfCall, HasFailed, SinkCall, Writes}
 use Rattle.replay_core.specs.Calls.{WritesNothing, HasFailedToWrite}
 use Rattle.replay_core.specs.Loading.{IsUnopened}
-use Rattle.replay_core.specs.Runs.{HasRun, HasMetFault, HasStopped}
-use Rattle.replay_core.specs.declared.replay.RunError.{RunError}
-use Rattle.replay_core.specs.declared.replay.RunError.TheVariants.{Read, Write, Record}
+use Rattle.replay_core.specs.Outcomes.{ended}
+use Rattle.replay_core.specs.declared.outcome.Outcome.{Outcome}
+use Rattle.record_views.specs.Showing.{Showing}
+use Rattle.record_views.specs.Runs.{HasRun, HasMetFault, HasStopped}
+use Rattle.record_views.specs.declared.show.RunError.{RunError}
+use Rattle.record_views.specs.declared.show.RunError.TheVariants.{Read, Write, Record}
 
--- the bytes of the record that came, which are those before what is left, have their blocks written
-pub record RepliesInPart {S : Type 0} (out : SinkCall S) (limit : ℕ)
-    (b : Book) (text : Text) (left : Option Text) : Type 0 where
+-- what is shown of the bytes of the record that came, which are those before what is left, is written
+pub record ShowsInPart {S : Type 0} (out : SinkCall S) (limit : ℕ)
+    (o : Showing) (text : Text) (left : Option Text) : Type 0 where
   pub taken : Text
   pub behind : Text
   pub part : text ≡ taken ++ behind
   pub rest : left ≡ Some behind
-  pub written : Writes out (history_blocks b (events taken limit))
+  pub written : Writes out (o.text (events taken limit))
 
--- the record's file is open, reading it failed, and the blocks of the part that came are written
+-- the record's file is open, reading it failed, and what is shown of the part that came is written
 pub record IsBroken {S : Type 0} (f : ShelfCall) (out : SinkCall S)
-    (b : Book) (record' : Text) (limit : ℕ) : Type 0 where
+    (o : Showing) (record' : Text) (limit : ℕ) : Type 0 where
   pub cause : HasFailed f
   pub opened : f.is_open ≡ true
-  pub replies : FileHas f.files record' (λ text. RepliesInPart out limit b text f.left)
+  pub replies : FileHas f.files record' (λ text. ShowsInPart out limit o text f.left)
 
 module _ {S : Type 0} (f : ShelfCall) (out : SinkCall S)
-    (b : Book) (pair : Pair) (record' : Text) (limit : ℕ) where
+    (b : Book) (o : Showing) (pair : Pair) (record' : Text) (limit : ℕ) where
   abbrev pub Plays : Result ℕ RunError → Type 0
   Plays (Ok ticks) =
-      FileHas f.files record' (λ text. HasRun b out.agrees out.old out.new pair limit text f.left
+      FileHas f.files record' (λ text. HasRun b o out.agrees out.old out.new pair limit text f.left
       ticks)
-  Plays (Err Read) = (IsUnopened f record' × WritesNothing out) ⊎ IsBroken f out b record' limit
+  Plays (Err Read) = (IsUnopened f record' × WritesNothing out) ⊎ IsBroken f out o record' limit
   Plays (Err Write) =
       HasFailedToWrite out
-      × FileHas f.files record' (λ text. HasStopped b out.agrees out.old out.new limit text f.left)
+      × FileHas f.files record' (λ text. HasStopped b o out.agrees out.old out.new limit text f.left)
   Plays (Err (Record g)) =
-      FileHas f.files record' (λ text. HasMetFault b out.agrees out.old out.new limit text f.left g)
+      FileHas f.files record' (λ text. HasMetFault b o out.agrees out.old out.new limit text f.left g)
+
+-- the outcome of a command that showed a record so
+pub record Shown {S : Type 0} (f : ShelfCall) (out : SinkCall S) (b : Book) (o : Showing)
+    (record' : Text) (limit : ℕ) (outcome : Outcome) : Type 0 where
+  pub played : Result ℕ RunError
+  pub outcome_is : outcome ≡ ended played
+  pub pair : Pair
+  pub plays : Plays f out b o pair record' limit played

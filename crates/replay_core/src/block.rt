@@ -11,13 +11,10 @@ use arrayvec::ArrayVec;
 use ecam_kinds::{Colour, Picture, ROWS, Row};
 use itoa::Buffer;
 
-// How many bytes of output are gathered at most.
-pub(crate) const GATHERED: usize = 65536;
-
-pub(crate) type Gathered = ArrayVec<u8, GATHERED>;
-
 // A block's line of its number, and a line for each row of at most 47 bytes, take fewer bytes, as does the last line.
-pub(crate) const BLOCK: usize = 2048;
+const BLOCK: usize = 2048;
+
+pub(crate) type Block = ArrayVec<u8, BLOCK>;
 
 // The names of the rows, in the picture's order.
 const NAMES: [&str; ROWS] = [
@@ -61,8 +58,8 @@ pub(crate) fn put<const CAP: usize>(out: &mut ArrayVec<u8, CAP>, bytes: &[u8])
 }
 
 // Appends a row's colour letter and its text.
-fn put_text(out: &mut Gathered, row: &Row)
-    requires { length out.old.items + 42 ≤ GATHERED }
+fn put_text(out: &mut Block, row: &Row)
+    requires { length out.old.items + 42 ≤ BLOCK }
     ensures text { out.new.items ≡ out.old.items
         ++ output.row_text row.now.colour row.now.text.items }
     ensures short { length out.new.items ≤ length out.old.items + 42 }
@@ -77,8 +74,8 @@ fn put_text(out: &mut Gathered, row: &Row)
 }
 
 // Appends the line of a row.
-fn put_row(out: &mut Gathered, name: &str, row: &Row)
-    requires room { length out.old.items + 47 ≤ GATHERED }
+fn put_row(out: &mut Block, name: &str, row: &Row)
+    requires room { length out.old.items + 47 ≤ BLOCK }
     requires name { length name.now ≤ 3 }
     ensures line { out.new.items ≡ out.old.items ++ output.row_line name.now (row_of row.now) }
     ensures short { length out.new.items ≤ length out.old.items + 47 }
@@ -90,8 +87,8 @@ fn put_row(out: &mut Gathered, name: &str, row: &Row)
 }
 
 // Appends the line of a row if it changed.
-fn put_change(out: &mut Gathered, name: &str, changed: bool, row: &Row)
-    requires room { length out.old.items + 47 ≤ GATHERED }
+fn put_change(out: &mut Block, name: &str, changed: bool, row: &Row)
+    requires room { length out.old.items + 47 ≤ BLOCK }
     requires name { length name.now ≤ 3 }
     ensures line { out.new.items ≡ out.old.items
         ++ (if changed then output.row_line name.now (row_of row.now) else []) }
@@ -120,8 +117,8 @@ fn name_of(row: usize) -> &'static str
 }
 
 // Appends the line that begins the block of a Tick.
-fn put_number(out: &mut Gathered, tick: u64)
-    requires room { length out.old.items + 42 ≤ GATHERED }
+fn put_number(out: &mut Block, tick: u64)
+    requires room { length out.old.items + 42 ≤ BLOCK }
     ensures line { out.new.items ≡ out.old.items ++ output.line (64 ∷ decimal tick) }
     ensures short { length out.new.items ≤ length out.old.items + 42 }
 {
@@ -132,8 +129,8 @@ fn put_number(out: &mut Gathered, tick: u64)
 }
 
 // Appends the lines of the rows whose flag is set.
-fn put_changes(out: &mut Gathered, changed: &[bool], rows: &[Row])
-    requires room { length out.old.items + 47 * ROWS ≤ GATHERED }
+fn put_changes(out: &mut Block, changed: &[bool], rows: &[Row])
+    requires room { length out.old.items + 47 * ROWS ≤ BLOCK }
     requires changed { length changed.now ≡ ROWS }
     requires rows { length rows.now ≡ ROWS }
     ensures { out.new.items ≡ out.old.items
@@ -144,10 +141,9 @@ fn put_changes(out: &mut Gathered, changed: &[bool], rows: &[Row])
     }
 }
 
-// Appends the block of Tick number `tick`, whose picture is this one and which changed the rows whose flag is set. Its
-// cost is a look at each flag, and a copy of each row that changed.
-pub(crate) fn put_block(out: &mut Gathered, tick: u64, picture: &Picture, changed: &[bool; ROWS])
-    requires { length out.old.items + BLOCK ≤ GATHERED }
+// Appends the block of a Tick that changed the rows whose flag is set.
+fn put_block(out: &mut Block, tick: u64, picture: &Picture, changed: &[bool; ROWS])
+    requires { length out.old.items + 42 + 47 * ROWS ≤ BLOCK }
     ensures { (old : spec.Picture) → NamesRows old (picture_of picture.now) changed.now
         → out.new.items ≡ out.old.items ++ output.block tick old (picture_of picture.now) }
 {
@@ -156,4 +152,28 @@ pub(crate) fn put_block(out: &mut Gathered, tick: u64, picture: &Picture, change
     }
     put_number(out, tick);
     put_changes(out, changed, &picture.rows);
+}
+
+// The block of Tick number `tick`, whose picture is this one and which changed the rows whose flag is set. Its cost is a
+// look at each flag, and a copy of each row that changed.
+pub(crate) fn block(tick: u64, picture: &Picture, changed: &[bool; ROWS]) -> Block
+    ensures { (old : spec.Picture) → NamesRows old (picture_of picture.now) changed.now
+        → result.items ≡ output.block tick old (picture_of picture.now) }
+{
+    let mut block = Block::new();
+    put_block(&mut block, tick, picture, changed);
+    block
+}
+
+// The line that ends the output.
+#[tactic(auto, unfolding(ecam_spec::specs::Output::end_line))]
+pub(crate) fn end_line(ticks: u64) -> Block
+    ensures { result.items ≡ output.end_line ticks }
+{
+    let mut line = Block::new();
+    let mut buffer = Buffer::new();
+    put(&mut line, b"END ");
+    put(&mut line, buffer.format(ticks).as_bytes());
+    put(&mut line, b"\n");
+    line
 }

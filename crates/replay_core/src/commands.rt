@@ -1,38 +1,51 @@
 // The commands of the program.
-ghost use Rattle.std.specs.Prelude.{◌≡◌, ◌≢◌, ◌≤◌, List, Some, map, string_bytes, OnOk, OnErr};
+ghost use Rattle.std.specs.Prelude.{◌≡◌, ◌≢◌, ◌≤◌, List, [], Some, map, string_bytes, OnOk, OnErr};
 ghost use Rattle.ecam_io.specs.Outside.{raised, Rose, Appended, AppendedPrefix};
 ghost use Rattle.ecam_spec.specs.declared.kinds.Event.{Event};
 ghost use Rattle.ecam_spec.specs.Book as plain;
 ghost use Rattle.ecam_spec.specs.Summary as spec;
 ghost use Rattle.book_model.specs.Sealed.{the_book};
-ghost use Rattle.replay_core.specs.Answers.{ByBook, ByRecord, Ends};
-ghost use Rattle.replay_core.specs.ReadEndings.{replaying, explaining};
+ghost use Rattle.fwc_pair.specs.PairState.{PairFits};
+ghost use Rattle.record_views.specs.Showing.{blocks_of, shown_by};
+ghost use Rattle.replay_core.specs.Answers.{ByBook, ByRecord, ByNumber, Ends};
+ghost use Rattle.replay_core.specs.Play.{Shown};
+ghost use Rattle.replay_core.specs.Showings.{called_out, report_of, words_of};
+ghost use Rattle.replay_core.specs.ReadEndings.{showing, explaining};
 ghost use Rattle.replay_core.specs.Calls.{shelf_call, sink_call, HasFailed, HasFailedToWrite, Writes};
-ghost use Rattle.ecam_spec.specs.Command.{command_of};
+ghost use Rattle.ecam_spec.specs.Command.{command_of, no_limit};
 ghost use Rattle.replay_core.specs.Decides.{Decides, DecidesUsage};
 ghost use Rattle.replay_core.specs.Headline.{Replays, all_changes};
 ghost use Rattle.replay_core.specs.Outcomes.{status_of, refusal_of, Complains};
 ghost use Rattle.replay_core.specs.declared.outcome.Outcome.{Outcome as Ending};
 
+use crate::changes::Changes;
 use crate::drill::drill;
 use crate::load::{Loaded, load, load_book};
 use crate::outcome::{Outcome, Status};
 use crate::play::play;
-use crate::replay::RunError;
+use crate::silent::Silent;
 use crate::standings::put_standings;
 use crate::summary::summary;
 use crate::words::{Command, parse};
 use book_model::Book;
+use book_places::number_place;
+use callouts::Callouts;
 use ecam_io::{Discard, Failed, Shelf, Sink, put_all};
-use std::alloc::Global;
+use flight_report::Report;
+use fwc_pair::View;
+use record_views::RunError;
+use std::alloc::{AllocError, Global};
+use word_out::WordOut;
 
 /// Runs the command that the words ask for, and answers how the program ends. `words` are the command line's, without
 /// the program's name. `check BOOK` writes to `out` how much the file's book has. `replay BOOK RECORD [--limit N]`
 /// replays the record of the one file by the book of the other, and writes the blocks of changes. `why BOOK RECORD`
 /// replays it too, and writes where each alert stands at the record's end. `drill BOOK SEED MOMENTS` replays the
-/// record that is made of a seed and a number of moments, and writes how much the output has. Why the program ends
-/// otherwise than `Done` stands as one line on `err`. All memory is taken before the record is opened. `Done` comes
-/// only where none of the three counted a fault in this call.
+/// record that is made of a seed and a number of moments, and writes how much the output has. `callouts BOOK RECORD NAME`
+/// writes the heights that the number parameter of that name comes down to in the record, `report BOOK RECORD` what
+/// occurred in each flight, and `words BOOK RECORD` the words that the computers send of themselves, as a record. Why the
+/// program ends otherwise than `Done` stands as one line on `err`. All memory is taken before the record is opened. `Done`
+/// comes only where none of the three counted a fault in this call.
 pub fn ecam<F: Shelf, O: Sink, E: Sink>(
     alloc: Global,
     words: &[String],
@@ -98,6 +111,15 @@ fn answer<F: Shelf, O: Sink>(alloc: Global, words: &[String], files: &mut F, out
                 moments,
             },
         ) => drill(alloc, book, seed, moments, files, out),
+        Some(
+            Command::Callouts {
+                book,
+                record,
+                parameter,
+            },
+        ) => call_out_files(alloc, book, record, parameter, files, out),
+        Some(Command::Report { book, record }) => report_files(alloc, book, record, files, out),
+        Some(Command::Words { book, record }) => tell_words(alloc, book, record, files, out),
         None => Outcome::Usage,
     }
 }
@@ -146,6 +168,36 @@ fn refusal(error: RunError) -> Outcome
     }
 }
 
+// Shows a file by a loaded book and a new view.
+fn show<V: View, F: Shelf, O: Sink>(
+    loaded: &mut Loaded,
+    view: &mut V,
+    record_name: &str,
+    limit: u32,
+    files: &mut F,
+    out: &mut O,
+) -> Outcome
+    requires pair { PairFits (the_book loaded.old.book) loaded.old.pair }
+    requires fits { V.fits (V.settings view.old) (the_book loaded.old.book) }
+    requires new { V.stands view.old (the_book loaded.old.book) [] }
+    ensures shows { Shown (shelf_call F.Source files.old files.new)
+        (sink_call O.Sink out.old out.new)
+        (the_book loaded.old.book)
+        (shown_by V.View (V.settings view.old) (the_book loaded.old.book))
+        record_name.now limit result }
+    ensures opens { F.opens files.new ≡ raised (F.opens files.old) }
+    ensures files { F.files files.new ≡ F.files files.old }
+    ensures faults { F.faults files.old ≤ F.faults files.new }
+    ensures quiet { result ≢ Outcome.ReadFault → F.faults files.new ≡ F.faults files.old }
+    ensures out_faults { O.faults out.old ≤ O.faults out.new }
+    ensures out_quiet { result ≢ Outcome.WriteFault → O.faults out.new ≡ O.faults out.old }
+{
+    match play(loaded, view, record_name, limit, files, out) {
+        Ok(_) => Outcome::Done,
+        Err(error) => refusal(error),
+    }
+}
+
 // Replays one file by the book of another, and writes the blocks of changes.
 fn replay_files<F: Shelf, O: Sink>(
     alloc: Global,
@@ -157,7 +209,8 @@ fn replay_files<F: Shelf, O: Sink>(
 ) -> Outcome
     ensures replays { ByRecord (shelf_call F.Source files.old files.new)
         (sink_call O.Sink out.old out.new)
-        book_name.now record_name.now (replaying (sink_call O.Sink out.old out.new) limit) result }
+        book_name.now record_name.now
+        (showing (sink_call O.Sink out.old out.new) blocks_of limit) result }
     ensures files { F.files files.new ≡ F.files files.old }
     ensures faults { F.faults files.old ≤ F.faults files.new }
     ensures quiet { result ≢ Outcome.ReadFault → F.faults files.new ≡ F.faults files.old }
@@ -165,9 +218,40 @@ fn replay_files<F: Shelf, O: Sink>(
     ensures out_quiet { result ≢ Outcome.WriteFault → O.faults out.new ≡ O.faults out.old }
 {
     match load(alloc, files, book_name) {
-        Ok(mut loaded) => match play(&mut loaded, record_name, limit, files, out) {
-            Ok(_) => Outcome::Done,
-            Err(error) => refusal(error),
+        Ok(mut loaded) => {
+            let mut changes = Changes::new();
+            show(&mut loaded, &mut changes, record_name, limit, files, out)
+        }
+        Err(unready) => unready.outcome(),
+    }
+}
+
+// Shows one file by the book of another, and writes the callouts of a number parameter.
+fn call_out_files<F: Shelf, O: Sink>(
+    alloc: Global,
+    book_name: &str,
+    record_name: &str,
+    parameter: &str,
+    files: &mut F,
+    out: &mut O,
+) -> Outcome
+    ensures calls { ByNumber (shelf_call F.Source files.old files.new)
+        (sink_call O.Sink out.old out.new)
+        book_name.now record_name.now parameter.now
+        (showing (sink_call O.Sink out.old out.new) (called_out parameter.now) no_limit) result }
+    ensures files { F.files files.new ≡ F.files files.old }
+    ensures faults { F.faults files.old ≤ F.faults files.new }
+    ensures quiet { result ≢ Outcome.ReadFault → F.faults files.new ≡ F.faults files.old }
+    ensures out_faults { O.faults out.old ≤ O.faults out.new }
+    ensures out_quiet { result ≢ Outcome.WriteFault → O.faults out.new ≡ O.faults out.old }
+{
+    match load(alloc, files, book_name) {
+        Ok(mut loaded) => match number_place(&loaded.book, parameter) {
+            Some(param) => {
+                let mut calls = Callouts::new(param);
+                show(&mut loaded, &mut calls, record_name, u32::MAX, files, out)
+            }
+            None => Outcome::NoSuch,
         },
         Err(unready) => unready.outcome(),
     }
@@ -193,7 +277,14 @@ fn explain_files<F: Shelf, O: Sink>(
     match load(alloc, files, book_name) {
         Ok(mut loaded) => {
             let mut dropped = Discard;
-            match play(&mut loaded, record_name, u32::MAX, files, &mut dropped) {
+            match play(
+                &mut loaded,
+                &mut Silent,
+                record_name,
+                u32::MAX,
+                files,
+                &mut dropped,
+            ) {
                 Ok(_) => match put_standings(&loaded, out) {
                     Ok(()) => Outcome::Done,
                     Err(Failed) => Outcome::WriteFault,
@@ -201,6 +292,60 @@ fn explain_files<F: Shelf, O: Sink>(
                 Err(error) => refusal(error),
             }
         }
+        Err(unready) => unready.outcome(),
+    }
+}
+
+// Shows one file by the book of another, and writes what occurred in each flight.
+fn report_files<F: Shelf, O: Sink>(
+    alloc: Global,
+    book_name: &str,
+    record_name: &str,
+    files: &mut F,
+    out: &mut O,
+) -> Outcome
+    ensures reports { ByRecord (shelf_call F.Source files.old files.new)
+        (sink_call O.Sink out.old out.new)
+        book_name.now record_name.now
+        (showing (sink_call O.Sink out.old out.new) report_of no_limit) result }
+    ensures files { F.files files.new ≡ F.files files.old }
+    ensures faults { F.faults files.old ≤ F.faults files.new }
+    ensures quiet { result ≢ Outcome.ReadFault → F.faults files.new ≡ F.faults files.old }
+    ensures out_faults { O.faults out.old ≤ O.faults out.new }
+    ensures out_quiet { result ≢ Outcome.WriteFault → O.faults out.new ≡ O.faults out.old }
+{
+    match load(alloc, files, book_name) {
+        Ok(mut loaded) => match Report::new(alloc, &loaded.book) {
+            Ok(mut report) => show(&mut loaded, &mut report, record_name, u32::MAX, files, out),
+            Err(AllocError) => Outcome::NoMemory,
+        },
+        Err(unready) => unready.outcome(),
+    }
+}
+
+// Shows one file by the book of another, and writes the computers' own words.
+fn tell_words<F: Shelf, O: Sink>(
+    alloc: Global,
+    book_name: &str,
+    record_name: &str,
+    files: &mut F,
+    out: &mut O,
+) -> Outcome
+    ensures tells { ByRecord (shelf_call F.Source files.old files.new)
+        (sink_call O.Sink out.old out.new)
+        book_name.now record_name.now
+        (showing (sink_call O.Sink out.old out.new) words_of no_limit) result }
+    ensures files { F.files files.new ≡ F.files files.old }
+    ensures faults { F.faults files.old ≤ F.faults files.new }
+    ensures quiet { result ≢ Outcome.ReadFault → F.faults files.new ≡ F.faults files.old }
+    ensures out_faults { O.faults out.old ≤ O.faults out.new }
+    ensures out_quiet { result ≢ Outcome.WriteFault → O.faults out.new ≡ O.faults out.old }
+{
+    match load(alloc, files, book_name) {
+        Ok(mut loaded) => match WordOut::new(alloc, &loaded.book) {
+            Ok(mut words) => show(&mut loaded, &mut words, record_name, u32::MAX, files, out),
+            Err(AllocError) => Outcome::NoMemory,
+        },
         Err(unready) => unready.outcome(),
     }
 }

@@ -3,19 +3,21 @@
 #![tactic(auto)]
 
 mod block;
+mod changes;
 mod commands;
 mod drill;
 mod file;
-mod gather;
 pub mod laws;
 mod load;
 mod outcome;
 mod play;
 mod replay;
+mod silent;
 mod standings;
 mod summary;
 mod words;
 
 pub use commands::ecam;
 pub use outcome::Status;
-pub use replay::{RunError, run};
+pub use record_views::{RunError, run_view};
+pub use replay::run;

@@ -27,10 +27,12 @@ pub enum Status {
     WriteFault,
     /// There was too little memory for the book.
     NoMemory,
+    /// The book has no number parameter of that name.
+    NoSuch,
 }
 
 impl Status {
-    /// The number with which the program ends, 0 to 6.
+    /// The number with which the program ends, 0 to 7.
     pub fn code(self) -> u8
         ensures { result ≡ status_code self }
     {
@@ -42,6 +44,7 @@ impl Status {
             Status::ReadFault => 4,
             Status::WriteFault => 5,
             Status::NoMemory => 6,
+            Status::NoSuch => 7,
         }
     }
 }
@@ -56,10 +59,11 @@ pub(crate) enum Outcome {
     ReadFault,
     WriteFault,
     NoMemory,
+    NoSuch,
 }
 
 // The longest line has fewer bytes.
-type Complaint = ArrayVec<u8, 160>;
+type Complaint = ArrayVec<u8, 256>;
 
 impl Outcome {
     pub(crate) fn status(self) -> Status
@@ -73,6 +77,7 @@ impl Outcome {
             Outcome::ReadFault => Status::ReadFault,
             Outcome::WriteFault => Status::WriteFault,
             Outcome::NoMemory => Status::NoMemory,
+            Outcome::NoSuch => Status::NoSuch,
         }
     }
 
@@ -92,19 +97,20 @@ impl Outcome {
         match self {
             Outcome::Done => ArrayVec::new(),
             Outcome::Usage => text_line(
-                "usage: check BOOK | replay BOOK RECORD [--limit N] | why BOOK RECORD | drill BOOK SEED MOMENTS",
+                "usage: check BOOK | replay BOOK RECORD [--limit N] | why BOOK RECORD | drill BOOK SEED MOMENTS | callouts BOOK RECORD NAME | report BOOK RECORD | words BOOK RECORD",
             ),
             Outcome::BookRefused(fault) => book_line(fault),
             Outcome::RecordRefused(fault) => record_line(fault),
             Outcome::ReadFault => text_line("read fault"),
             Outcome::WriteFault => text_line("write fault"),
             Outcome::NoMemory => text_line("no memory"),
+            Outcome::NoSuch => text_line("no such number"),
         }
     }
 }
 
 fn text_line(text: &str) -> Complaint
-    requires { length text.now ≤ 140 }
+    requires { length text.now ≤ 240 }
     ensures { result.items ≡ text.now ++ codes "\n" }
 {
     let mut line = ArrayVec::new();
@@ -122,6 +128,7 @@ fn section_word(section: Section) -> &'static str
         Section::System => "system",
         Section::Page => "page",
         Section::Param => "param",
+        Section::Term => "term",
         Section::Phase => "phase",
         Section::Alert => "alert",
         Section::Memo => "memo",

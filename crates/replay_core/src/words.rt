@@ -1,6 +1,6 @@
 // The words of the command line, read by hand.
 ghost use Rattle.std.specs.Prelude.{◌≡◌, ◌≤◌, map, string_bytes, option_map, IfSome};
-ghost use Rattle.ecam_spec.specs.Command.{command_of, check_form, record_form, drill_form, limit_form, number_of};
+ghost use Rattle.ecam_spec.specs.Command.{command_of, form_of_two, form_of_three, form_of_four, drill_of, seed_of, moments_of, form_of_five, number_of};
 ghost use Rattle.replay_core.specs.Words.{asked, IsShort};
 
 // What the words ask for, with the names of files and the numbers.
@@ -22,6 +22,19 @@ pub(crate) enum Command<'a> {
         seed: u64,
         moments: u32,
     },
+    Callouts {
+        book: &'a str,
+        record: &'a str,
+        parameter: &'a str,
+    },
+    Report {
+        book: &'a str,
+        record: &'a str,
+    },
+    Words {
+        book: &'a str,
+        record: &'a str,
+    },
 }
 
 // The command, if the words have one of the forms.
@@ -31,13 +44,13 @@ pub(crate) fn parse(words: &[String]) -> Option<Command<'_>>
 {
     let count = words.len();
     if count == 2 {
-        return parse_check(words[0].as_str(), words[1].as_str());
+        return parse_two(words[0].as_str(), words[1].as_str());
     }
     if count == 3 {
-        return parse_record(words[0].as_str(), words[1].as_str(), words[2].as_str());
+        return parse_three(words[0].as_str(), words[1].as_str(), words[2].as_str());
     }
     if count == 4 {
-        return parse_drill(
+        return parse_four(
             words[0].as_str(),
             words[1].as_str(),
             words[2].as_str(),
@@ -45,7 +58,7 @@ pub(crate) fn parse(words: &[String]) -> Option<Command<'_>>
         );
     }
     if count == 5 {
-        return parse_limited(
+        return parse_five(
             words[0].as_str(),
             words[1].as_str(),
             words[2].as_str(),
@@ -56,8 +69,8 @@ pub(crate) fn parse(words: &[String]) -> Option<Command<'_>>
     None
 }
 
-fn parse_check<'a>(form: &str, book: &'a str) -> Option<Command<'a>>
-    ensures asks { option_map asked result ≡ check_form form.now book.now }
+fn parse_two<'a>(form: &str, book: &'a str) -> Option<Command<'a>>
+    ensures asks { option_map asked result ≡ form_of_two form.now book.now }
     ensures short { IfSome result IsShort }
 {
     if form == "check" {
@@ -67,8 +80,8 @@ fn parse_check<'a>(form: &str, book: &'a str) -> Option<Command<'a>>
     }
 }
 
-fn parse_record<'a>(form: &str, book: &'a str, record_name: &'a str) -> Option<Command<'a>>
-    ensures asks { option_map asked result ≡ record_form form.now book.now record_name.now }
+fn parse_three<'a>(form: &str, book: &'a str, record_name: &'a str) -> Option<Command<'a>>
+    ensures asks { option_map asked result ≡ form_of_three form.now book.now record_name.now }
     ensures short { IfSome result IsShort }
 {
     if form == "replay" {
@@ -84,16 +97,43 @@ fn parse_record<'a>(form: &str, book: &'a str, record_name: &'a str) -> Option<C
             record: record_name,
         });
     }
+    if form == "report" {
+        return Some(Command::Report {
+            book,
+            record: record_name,
+        });
+    }
+    if form == "words" {
+        return Some(Command::Words {
+            book,
+            record: record_name,
+        });
+    }
     None
 }
 
-fn parse_drill<'a>(form: &str, book: &'a str, seed: &str, moments: &str) -> Option<Command<'a>>
-    ensures asks { option_map asked result ≡ drill_form form.now book.now seed.now moments.now }
+fn parse_four<'a>(form: &str, book: &'a str, second: &'a str, third: &'a str) -> Option<Command<'a>>
+    ensures asks { option_map asked result ≡ form_of_four form.now book.now second.now third.now }
     ensures short { IfSome result IsShort }
 {
-    if form != "drill" {
-        return None;
+    if form == "drill" {
+        return parse_drill(book, second, third);
     }
+    if form == "callouts" {
+        return Some(Command::Callouts {
+            book,
+            record: second,
+            parameter: third,
+        });
+    }
+    None
+}
+
+fn parse_drill<'a>(book: &'a str, seed: &str, moments: &str) -> Option<Command<'a>>
+    ensures asks { option_map asked result
+        ≡ drill_of book.now (seed_of seed.now) (moments_of moments.now) }
+    ensures short { IfSome result IsShort }
+{
     match (
         parse_number(seed, 20, u64::MAX),
         parse_number(moments, 7, 1_000_000),
@@ -108,7 +148,7 @@ fn parse_drill<'a>(form: &str, book: &'a str, seed: &str, moments: &str) -> Opti
     }
 }
 
-fn parse_limited<'a>(
+fn parse_five<'a>(
     form: &str,
     book: &'a str,
     record_name: &'a str,
@@ -116,7 +156,7 @@ fn parse_limited<'a>(
     limit: &str,
 ) -> Option<Command<'a>>
     ensures asks { option_map asked result
-        ≡ limit_form form.now book.now record_name.now option.now limit.now }
+        ≡ form_of_five form.now book.now record_name.now option.now limit.now }
     ensures short { IfSome result IsShort }
 {
     if form != "replay" {

@@ -118,7 +118,7 @@ fn a_file_is_not_read(rt: HostRuntime) -> Result<(), Fail> {
 #[test]
 fn words_without_a_form(rt: HostRuntime) -> Result<(), Fail> {
     let usage =
-        "usage: check BOOK | replay BOOK RECORD [--limit N] | why BOOK RECORD | drill BOOK SEED MOMENTS\n";
+        "usage: check BOOK | replay BOOK RECORD [--limit N] | why BOOK RECORD | drill BOOK SEED MOMENTS | callouts BOOK RECORD NAME | report BOOK RECORD | words BOOK RECORD\n";
     for words in [
         "",
         " replay",

@@ -15,6 +15,8 @@ mod faults;
 #[cfg(test)]
 mod limits;
 #[cfg(test)]
+mod named;
+#[cfg(test)]
 mod outside;
 #[cfg(test)]
 mod pairs;
@@ -24,5 +26,7 @@ mod records;
 mod replays;
 #[cfg(test)]
 mod rows;
+#[cfg(test)]
+mod shown;
 #[cfg(test)]
 mod writes;

@@ -75,7 +75,7 @@ fn blocks_leave_in_few_calls(rt: HostRuntime) -> Result<(), Fail> {
     // A call for each of three pieces, in which there are 600 blocks.
     let turning = record_of(alloc, "W 0 0000041d\nT\nW 0 8000001d\nT\n", 300)?;
     writes(&rt, alloc, (TWO, turning.as_str()), (4, 5), 8298)?;
-    // 510 blocks in one piece: five calls with 86 blocks each, which are more than 63488 bytes, and one with the rest.
+    // 510 blocks in one piece: five calls with 87 or 88 blocks each, as many as 65536 bytes hold, and one with the rest.
     let pages = two_pages(alloc)?;
     let full = record_of(alloc, "P PG1\nT\nP PG2\nT\n", 255)?;
     writes(&rt, alloc, (pages.as_str(), full.as_str()), (7, 8), 379848)

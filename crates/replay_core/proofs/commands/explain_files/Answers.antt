@@ -11,7 +11,7 @@ use Rattle.replay_core.specs.ReadEndings.{explaining}
 use Rattle.replay_core.specs.Calls.{shelf_call, sink_call, WritesPart}
 use Rattle.replay_core.specs.declared.load.Unready.TheVariants as unready
 use Rattle.replay_core.specs.declared.outcome.Outcome.TheVariants as outcomes
-use Rattle.replay_core.specs.declared.replay.RunError.TheVariants as runs
+use Rattle.record_views.specs.declared.show.RunError.TheVariants as runs
 use Rattle.replay_core.proofs.Causes.{Follows, half-explained, unexplained, not-refused, not-unready}
 use Rattle.replay_core.proofs.Drilled.{never-rose}
 use Rattle.replay_core.proofs.commands.explain_files.Goals as goal
@@ -31,7 +31,7 @@ returns-in-Ok-clause-explains g c =
       has = c.in-Ok.ensures.readies;
     } in
     subst (ByRecord (shelf_call g.F.Source c.args.files.now c.play.new.files) out c.args.book_name.now c.args.record_name.now (explaining out)) (sym c.refusal.ensures)
-    (unexplained first second c.args.book_name.now c.args.record_name.now c.in-Ok.loaded on out {D = Discard} (record { agrees = λ s w. ⊤; old = _; new = c.play.new.out; faults = 0; faults_now = 0 }) never-rose c.play.new.loaded.pair c.in-Err-play.error c.in-Err-play.ensures.plays (λ w was. was))
+    (unexplained first second c.args.book_name.now c.args.record_name.now c.in-Ok.loaded on out {D = Discard} (record { agrees = λ s w. ⊤; old = _; new = c.play.new.out; faults = 0; faults_now = 0 }) _ never-rose c.play.new.loaded.pair c.in-Err-play.error c.in-Err-play.ensures.plays (λ w was. was))
 
 pub returns-in-Ok-play-clause-explains : goal.returns-in-Ok-play-clause-explains
 returns-in-Ok-play-clause-explains g c =
@@ -47,7 +47,7 @@ returns-in-Ok-play-clause-explains g c =
       second = c.in-Ok-play.ensures.opens;
       has = c.in-Ok.ensures.readies;
     } in
-    half-explained first second c.args.book_name.now c.args.record_name.now c.in-Ok.loaded on out {D = Discard} (record { agrees = λ s w. ⊤; old = _; new = c.play.new.out; faults = 0; faults_now = 0 })
+    half-explained first second c.args.book_name.now c.args.record_name.now c.in-Ok.loaded on out {D = Discard} (record { agrees = λ s w. ⊤; old = _; new = c.play.new.out; faults = 0; faults_now = 0 }) _
     never-rose c.play.new.loaded.pair _ c.in-Ok-play.ensures.plays c.in-Err-put_standings.ensures.cause
     (subst (λ d. (h : List Event) → PairStands (the_book d) h c.play.new.loaded.pair → WritesPart out (standing_lines (the_book d) h)) c.in-Ok-play.ensures.book c.in-Err-put_standings.ensures.prefix)
 

@@ -10,7 +10,7 @@ returns-then-count-eq2-clause-asks c =
     (omega arith) c.index-words-0.is c.index-words-1.is in
     let form = c.as_str.ensures.value in
     let book = c.as_str-then-count-eq2.ensures.value in
-    let asked = c.parse_check.ensures.asks in
+    let asked = c.parse_two.ensures.asks in
     cc
 
 pub returns-then-count-eq3-clause-asks : goal.returns-then-count-eq3-clause-asks
@@ -21,7 +21,7 @@ returns-then-count-eq3-clause-asks c =
     let form = c.as_str-then-count-eq3.ensures.value in
     let book = c.as_str-then-count-eq3-2.ensures.value in
     let record' = c.as_str-then-count-eq3-3.ensures.value in
-    let asked = c.parse_record.ensures.asks in
+    let asked = c.parse_three.ensures.asks in
     cc
 
 pub returns-then-count-eq4-clause-asks : goal.returns-then-count-eq4-clause-asks
@@ -33,7 +33,7 @@ returns-then-count-eq4-clause-asks c =
     let book = c.as_str-then-count-eq4-2.ensures.value in
     let seed = c.as_str-then-count-eq4-3.ensures.value in
     let moments = c.as_str-then-count-eq4-4.ensures.value in
-    let asked = c.parse_drill.ensures.asks in
+    let asked = c.parse_four.ensures.asks in
     cc
 
 pub returns-then-count-eq5-clause-asks : goal.returns-then-count-eq5-clause-asks
@@ -47,7 +47,7 @@ returns-then-count-eq5-clause-asks c =
     let record' = c.as_str-then-count-eq5-3.ensures.value in
     let option = c.as_str-then-count-eq5-4.ensures.value in
     let limit = c.as_str-then-count-eq5-5.ensures.value in
-    let asked = c.parse_limited.ensures.asks in
+    let asked = c.parse_five.ensures.asks in
     cc
 
 pub returns-clause-asks : goal.returns-clause-asks

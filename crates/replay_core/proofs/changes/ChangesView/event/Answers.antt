@@ -1,0 +1,47 @@
+use Rattle.std.proofs.Common.{sym, ◌∙◌, subst, ap}
+use Rattle.std.specs.Prelude.{OnOk, OnErr}
+use Rattle.ecam_io.specs.Outside.{Appended, AppendedPrefix}
+use Rattle.ecam_spec.specs.Output.{block}
+use Rattle.ecam_kinds.specs.Shown.{picture_of}
+use Rattle.replay_core.specs.Flagged.{NamesRows}
+use Rattle.book_model.specs.Sealed.{the_book}
+use Rattle.replay_core.proofs.Feeding.{quiet-adds, quiet-count, tick-count, few-ticks, tick-block, adds-block, adds-part, on-ok}
+use Rattle.replay_core.proofs.changes.ChangesView.event.Goals as goal
+
+pub returns-then-not-is_tick-clause-stands : goal.returns-then-not-is_tick-clause-stands
+returns-then-not-is_tick-clause-stands g c = λ h stood next.
+    quiet-count (the_book c.args._book.now) h c.args.event.now c.args._fresh c.args.pair.now next g.O.Sink.agrees
+    (sym c.is_tick.ensures ∙ c.if-not-is_tick.true) c.args.self.now.ticks stood
+
+pub returns-then-not-is_tick-clause-adds : goal.returns-then-not-is_tick-clause-adds
+returns-then-not-is_tick-clause-adds g c = λ h stood next.
+    quiet-adds (the_book c.args._book.now) h c.args.event.now c.args._fresh c.args.pair.now next g.O.Sink.agrees
+    (sym c.is_tick.ensures ∙ c.if-not-is_tick.true) c.args.out.now
+
+pub number-requires : goal.number-requires
+number-requires g c =
+    let (h, seen) = c.requires.next in
+    few-ticks (the_book c.args._book.now) h c.args.event.now c.args._fresh c.args.pair.now seen.1 g.O.Sink.agrees (sym c.is_tick.ensures ∙ c.if-not-is_tick.false) c.args.self.now.ticks seen.0
+
+pub returns-clause-stands : goal.returns-clause-stands
+returns-clause-stands g c = λ h stood next.
+    on-ok c.put_all.result _
+    (c.number.ensures.counted ∙ tick-count (the_book c.args._book.now) h c.args.event.now c.args._fresh c.args.pair.now next g.O.Sink.agrees (sym c.is_tick.ensures ∙ c.if-not-is_tick.false) c.args.self.now.ticks stood)
+
+pub returns-clause-adds : goal.returns-clause-adds
+returns-clause-adds g c = λ h stood next.
+    adds-block (the_book c.args._book.now) h c.args.event.now c.args._fresh c.args.pair.now next g.O.Sink.agrees c.args.out.now c.put_all.new.out c.block-block.result.items
+    (tick-block (the_book c.args._book.now) h c.args.event.now c.args._fresh c.args.pair.now next g.O.Sink.agrees (sym c.is_tick.ensures ∙ c.if-not-is_tick.false) c.args.self.now.ticks stood c.block-block.result.items c.changed.result.now c.changed.ensures.value
+    (λ old names. c.block-block.ensures old (subst (λ q. NamesRows old (picture_of q) c.changed.result.now) (sym c.picture.ensures.value) names)
+    ∙ ap (λ n. block n old (picture_of c.picture.result.now)) c.number.ensures.number
+    ∙ ap (λ q. block c.args.self.now.ticks old (picture_of q)) c.picture.ensures.value))
+    c.put_all.result (subst (λ text. OnOk c.put_all.result (Appended g.O.Sink.agrees c.args.out.now c.put_all.new.out text)) c.as_slice.ensures.value c.put_all.ensures.all)
+
+pub returns-clause-part : goal.returns-clause-part
+returns-clause-part g c = λ h stood next.
+    adds-part (the_book c.args._book.now) h c.args.event.now c.args._fresh c.args.pair.now next g.O.Sink.agrees c.args.out.now c.put_all.new.out c.block-block.result.items
+    (tick-block (the_book c.args._book.now) h c.args.event.now c.args._fresh c.args.pair.now next g.O.Sink.agrees (sym c.is_tick.ensures ∙ c.if-not-is_tick.false) c.args.self.now.ticks stood c.block-block.result.items c.changed.result.now c.changed.ensures.value
+    (λ old names. c.block-block.ensures old (subst (λ q. NamesRows old (picture_of q) c.changed.result.now) (sym c.picture.ensures.value) names)
+    ∙ ap (λ n. block n old (picture_of c.picture.result.now)) c.number.ensures.number
+    ∙ ap (λ q. block c.args.self.now.ticks old (picture_of q)) c.picture.ensures.value))
+    c.put_all.result (subst (λ text. OnErr c.put_all.result (AppendedPrefix g.O.Sink.agrees c.args.out.now c.put_all.new.out text)) c.as_slice.ensures.value c.put_all.ensures.prefix)
