@@ -58,9 +58,9 @@ def full(last=None, top="version = 1\n", systems=None, phase=None, more=""):
     return "".join(parts) + more
 
 
-def plain(count):
+def plain(count, version=1):
     """So many alerts of level 1, of one discrete."""
     source = 'source = [{ bus = 0, label = "270", bit = 11 }]'
-    book = f'version = 1\nsystems = ["HYD"]\n[[param]]\nname = "g_lo"\nkind = "disc"\nstale = 600\n{source}\n'
+    book = f'version = {version}\nsystems = ["HYD"]\n[[param]]\nname = "g_lo"\nkind = "disc"\nstale = 600\n{source}\n'
     item = '[[alert]]\nname = "n{0}"\ntitle = "ALERT {0}"\nsystem = "HYD"\nlevel = 1\nwhen = "g_lo"\n'
     return book + "".join(item.format(it) for it in range(1, count + 1))

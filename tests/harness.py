@@ -21,14 +21,38 @@ BOOK = f"{EXAMPLES}/hydraulics/book.toml"
 RECORD = f"{EXAMPLES}/hydraulics/record"
 with open(f"{EXAMPLES}/hydraulics/expected", "rb") as it:
     SHOWN = it.read()
+with open(f"{EXAMPLES}/words/record", "rb") as it:
+    OWN_WORDS = it.read()
 
-# The four commands on them, and what each writes.
+# Each command on them, and what it writes.
 COMMANDS = {
     "check": (("check", BOOK), b"OK alerts 2 params 3 memos 0 pages 1 slots 0\n"),
     "replay": (("replay", BOOK, RECORD), SHOWN),
     "why": (("why", BOOK, RECORD), b"g_rsvr titled 1\ng_press_lo starred g_rsvr\n"),
     "drill": (("drill", BOOK, "7", "600"), b"moments 600 blocks 3 lines 8 bytes 162\n"),
+    "callouts": (("callouts", BOOK, RECORD, "g_press"), b"@2 CALL 10\nEND 7\n"),
+    "report": (("report", BOOK, RECORD), b"FLIGHT 0 FROM 0 ONSETS 1\n@1 PHASE 1 g_rsvr\nEND 7\n"),
+    "words": (("words", BOOK, RECORD), OWN_WORDS),
 }
+
+
+def forms(book, record, number="g_press"):
+    """The words of each command with this book, this record and this number of the book."""
+    return [
+        ("check", book),
+        ("replay", book, record),
+        ("why", book, record),
+        ("drill", book, "1", "1"),
+        ("callouts", book, record, number),
+        ("report", book, record),
+        ("words", book, record),
+    ]
+
+
+def recording(record, book=BOOK, number="g_press"):
+    """Those of the commands that read a record, with this one."""
+    return [words for words in forms(book, record, number) if words[0] not in ("check", "drill")]
+
 
 if not os.access(PROGRAM, os.X_OK):
     sys.exit(f"{NAME}: {PROGRAM} isn't there: build it by ./ecam_replay, or name a built program")
