@@ -7,14 +7,17 @@ use Rattle.ecam_spec.specs.Book.{Text}
 use Rattle.ecam_spec.specs.TermNumber.{digits_value}
 
 -- check a book; replay a record by a book, under a limit on the record's bytes; tell where each alert stands at a
--- record's end; replay the record that is made of a seed and a number of moments; tell which heights a parameter, by its
--- name, comes down to; report what occurred in each flight; write the computers' own words. Files go by their names.
+-- record's end; replay the record that is made of a seed and a number of moments; write a book again in version 2; tell
+-- which heights a parameter, by its name, comes down to; tell which values drift out of the ranges of a file of limits;
+-- report what occurred in each flight; write the computers' own words. Files go by their names.
 pub data Command : Type 0 where
   check : Text → Command
   replay : Text → Text → ℕ → Command
   why : Text → Text → Command
   drill : Text → ℕ → ℕ → Command
+  migrate : Text → Command
   callouts : Text → Text → Text → Command
+  advise : Text → Text → Text → Command
   report : Text → Text → Command
   words : Text → Text → Command
 
@@ -39,7 +42,9 @@ moments_of = number_of 7 1000000
 
 -- the forms with two words, with three, with four and with five
 abbrev pub form_of_two : Text → Text → Option Command
-form_of_two form book = if same_text form (codes "check") then Some (check book) else None
+form_of_two form book =
+    if same_text form (codes "check") then Some (check book)
+    else (if same_text form (codes "migrate") then Some (migrate book) else None)
 
 abbrev pub form_of_three : Text → Text → Text → Option Command
 form_of_three form book record' =
@@ -56,7 +61,8 @@ drill_of book None moments = None
 abbrev pub form_of_four : Text → Text → Text → Text → Option Command
 form_of_four form book second third =
     if same_text form (codes "drill") then drill_of book (seed_of second) (moments_of third)
-    else (if same_text form (codes "callouts") then Some (callouts book second third) else None)
+    else (if same_text form (codes "callouts") then Some (callouts book second third)
+    else (if same_text form (codes "advise") then Some (advise book second third) else None))
 
 abbrev pub form_of_five : Text → Text → Text → Text → Text → Option Command
 form_of_five form book record' option limit =
@@ -72,4 +78,4 @@ command_of _ = None
 
 -- the line that tells the forms
 abbrev pub usage : Text
-usage = codes "usage: check BOOK | replay BOOK RECORD [--limit N] | why BOOK RECORD | drill BOOK SEED MOMENTS | callouts BOOK RECORD NAME | report BOOK RECORD | words BOOK RECORD"
+usage = codes "usage: check BOOK | replay BOOK RECORD [--limit N] | why BOOK RECORD | drill BOOK SEED MOMENTS | migrate BOOK | callouts BOOK RECORD NAME | advise BOOK RECORD LIMITS | report BOOK RECORD | words BOOK RECORD"
