@@ -3,3 +3,5 @@ pub mod SameParts
 pub mod SameFaults
 pub mod Found
 pub mod Depths
+pub mod Accepted
+pub mod Same
