@@ -47,6 +47,16 @@ accepted bytes none =
     let short = short_so (leb (length bytes) BOOK_BYTES) (table_of_text bytes) none in
     accepted_so (table_of_text bytes) (sym (ap (λ b. fault_of b (table_of_text bytes)) short) ∙ none)
 
+some_same : (a b : Members) → Some a ≡ Some b → a ≡ b
+some_same a b same = cc
+
+-- the table of a text without a fault has none, nor has its draft
+pub faultless : (bytes : Text) (table : Members) → book_fault bytes ≡ None → table_of_text bytes ≡ Some table → (table_fault table ≡ None) × (draft_fault (draft_of table) ≡ None)
+faultless bytes table none is =
+    let has = accepted bytes none in
+    let same = some_same has.table table (sym has.is ∙ is) in
+    (sym (ap table_fault same) ∙ has.table_faultless, sym (ap (λ t. draft_fault (draft_of t)) same) ∙ has.draft_faultless)
+
 is_short : (n : ℕ) → n ≤ BOOK_BYTES → leb n BOOK_BYTES ≡ true
 is_short n h = grind (arith, nat_tests)
 

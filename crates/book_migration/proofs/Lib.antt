@@ -5,3 +5,4 @@ pub mod Found
 pub mod Depths
 pub mod Accepted
 pub mod Same
+pub mod Printed
