@@ -6,8 +6,9 @@
 // FAIL_LAST   the last one
 // FAIL_ERRNO  why it fails
 // READ_PIECE, WRITE_PIECE  the most bytes that one call moves
+// STACK       so many bytes of the stack are used at the start, so that the system has granted them
 // TOLD        the file that gets the line: allocations, those before the last open, opens and reads, writes to 1, writes
-//             to 2, closes, and the most memory that was in use at once, in KiB
+//             to 2, closes, and the most memory and the most stack that were in use at once, in KiB
 #define _GNU_SOURCE
 #include <dlfcn.h>
 #include <errno.h>
@@ -32,6 +33,12 @@ static unsigned long number(const char *name, unsigned long otherwise) {
   return text ? strtoul(text, 0, 10) : otherwise;
 }
 
+// Writes to each page of so many bytes of the stack.
+static void use_stack(unsigned long size) {
+  volatile char stack[size];
+  for (unsigned long left = size; left > 0; left -= left < 4096 ? left : 4096) stack[left - 1] = 0;
+}
+
 __attribute__((constructor)) static void begin(void) {
   const char *kind = getenv("FAIL_KIND");
   next_malloc = dlsym(RTLD_NEXT, "malloc");
@@ -43,6 +50,7 @@ __attribute__((constructor)) static void begin(void) {
   why = (int)number("FAIL_ERRNO", EIO);
   read_piece = number("READ_PIECE", ~0UL);
   write_piece = number("WRITE_PIECE", ~0UL);
+  use_stack(number("STACK", 1));
   is_begun = 1;
 }
 
@@ -107,23 +115,23 @@ ssize_t __write(int to, const void *bytes, size_t size) { return write_to(to, by
 
 int close(int file) { return fails(CLOSE) ? -1 : (int)syscall(SYS_close, file); }
 
-// The most memory in use at once, in KiB.
-static unsigned long most(void) {
+// What the system tells of the program behind this word, in KiB.
+static unsigned long said(const char *word) {
   char text[4096];
   int file = (int)syscall(SYS_openat, AT_FDCWD, "/proc/self/status", O_RDONLY, 0);
   long size = syscall(SYS_read, file, text, sizeof text - 1);
   syscall(SYS_close, file);
   text[size < 0 ? 0 : size] = 0;
-  const char *line = strstr(text, "VmHWM:");
-  return line ? strtoul(line + 6, 0, 10) : 0;
+  const char *line = strstr(text, word);
+  return line ? strtoul(line + strlen(word), 0, 10) : 0;
 }
 
 __attribute__((destructor)) static void end(void) {
   const char *told = getenv("TOLD");
   if (!told) return;
   char line[200];
-  int size = snprintf(line, sizeof line, "%lu %lu %lu %lu %lu %lu %lu\n", count[ALLOC], early, count[FILES], count[OUT],
-                      count[ERR], count[CLOSE], most());
+  int size = snprintf(line, sizeof line, "%lu %lu %lu %lu %lu %lu %lu %lu\n", count[ALLOC], early, count[FILES], count[OUT],
+                      count[ERR], count[CLOSE], said("VmHWM:"), said("VmStk:"));
   int file = (int)syscall(SYS_openat, AT_FDCWD, told, O_WRONLY | O_CREAT | O_TRUNC, 0600);
   syscall(SYS_write, file, line, (size_t)size);
   syscall(SYS_close, file);

@@ -16,13 +16,19 @@ PROGRAM = os.path.abspath(sys.argv[1] if len(sys.argv) > 1 else f"{TOP}/crates/e
 EXAMPLES = f"{TOP}/examples"
 UNREAD = (4, b"", b"read fault\n")
 
-# The book and the record of a failure with its procedure and its secondary, and what `replay` writes of them.
+# The book and the record of a failure with its procedure and its secondary, limits for them, and what is written of them.
 BOOK = f"{EXAMPLES}/hydraulics/book.toml"
 RECORD = f"{EXAMPLES}/hydraulics/record"
+LIMITS = f"{EXAMPLES}/hydraulics/limits.toml"
 with open(f"{EXAMPLES}/hydraulics/expected", "rb") as it:
     SHOWN = it.read()
 with open(f"{EXAMPLES}/words/record", "rb") as it:
     OWN_WORDS = it.read()
+
+with open(f"{EXAMPLES}/hydraulics/migrated.toml", "rb") as it:
+    MIGRATED = it.read()
+with open(f"{EXAMPLES}/hydraulics/advised", "rb") as it:
+    ADVISED = it.read()
 
 # Each command on them, and what it writes.
 COMMANDS = {
@@ -30,28 +36,37 @@ COMMANDS = {
     "replay": (("replay", BOOK, RECORD), SHOWN),
     "why": (("why", BOOK, RECORD), b"g_rsvr titled 1\ng_press_lo starred g_rsvr\n"),
     "drill": (("drill", BOOK, "7", "600"), b"moments 600 blocks 3 lines 8 bytes 162\n"),
+    "migrate": (("migrate", BOOK), MIGRATED),
     "callouts": (("callouts", BOOK, RECORD, "g_press"), b"@2 CALL 10\nEND 7\n"),
+    "advise": (("advise", BOOK, RECORD, LIMITS), ADVISED),
     "report": (("report", BOOK, RECORD), b"FLIGHT 0 FROM 0 ONSETS 1\n@1 PHASE 1 g_rsvr\nEND 7\n"),
     "words": (("words", BOOK, RECORD), OWN_WORDS),
 }
 
 
-def forms(book, record, number="g_press"):
-    """The words of each command with this book, this record and this number of the book."""
+def forms(book, record, number="g_press", limits=LIMITS):
+    """The words of each command with this book and this record, a number of the book, and limits for it."""
     return [
         ("check", book),
         ("replay", book, record),
         ("why", book, record),
         ("drill", book, "1", "1"),
+        ("migrate", book),
         ("callouts", book, record, number),
+        ("advise", book, record, limits),
         ("report", book, record),
         ("words", book, record),
     ]
 
 
-def recording(record, book=BOOK, number="g_press"):
+def reads_record(words):
+    """Whether these words ask for a command that reads a record, which is then the third of them."""
+    return words[0] not in ("check", "drill", "migrate")
+
+
+def recording(record, book=BOOK, number="g_press", limits=LIMITS):
     """Those of the commands that read a record, with this one."""
-    return [words for words in forms(book, record, number) if words[0] not in ("check", "drill")]
+    return [words for words in forms(book, record, number, limits) if reads_record(words)]
 
 
 if not os.access(PROGRAM, os.X_OK):
@@ -59,13 +74,14 @@ if not os.access(PROGRAM, os.X_OK):
 
 _scratch = tempfile.TemporaryDirectory(prefix="ecam-tests-")
 SCRATCH = _scratch.name
+TOLD = f"{SCRATCH}/told"
 
 # How a run ended: its status, and what it wrote to standard output and standard error.
 Ran = namedtuple("Ran", "status out err")
 
 # What a run called: allocations, those before its last open, opens and reads, writes to standard output and to standard
-# error, closes; and the most memory that it had in use at once, in KiB.
-Calls = namedtuple("Calls", "alloc early files out err close most")
+# error, closes; and the most memory and the most stack that it had in use at once, in KiB.
+Calls = namedtuple("Calls", "alloc early files out err close most stack")
 
 
 def run(words, stdin=subprocess.DEVNULL, stdout=None, stderr=None, seconds=60, prepare=None, **settings):
@@ -127,15 +143,26 @@ def fails(words, kind=None, first=1, last=None, why=5, **more):
     return run(words, **settings)
 
 
+def told():
+    """Which calls the last run made that had TOLD among its settings."""
+    with open(TOLD, encoding="ascii") as it:
+        made = Calls(*map(int, it.read().split()))
+    in_use(made)
+    return made
+
+
 def calls(words, **more):
     """How a run ends with nothing failing, and which calls it makes."""
-    told = f"{SCRATCH}/told"
-    ran = fails(words, TOLD=told, **more)
-    with open(told, encoding="ascii") as it:
-        return ran, Calls(*map(int, it.read().split()))
+    return fails(words, TOLD=TOLD, **more), told()
 
 
-_tally = {"tried": 0, "failed": 0}
+_tally = {"tried": 0, "failed": 0, "most": 0, "stack": 0}
+
+
+def in_use(made):
+    """Notes how much memory and stack a run had in use at most."""
+    for name in "most", "stack":
+        _tally[name] = max(_tally[name], getattr(made, name))
 
 
 def short(got):
@@ -158,7 +185,9 @@ def note(text):
 
 
 def end():
-    """Says how many cases there were, and ends with 1 where one wasn't as wanted."""
-    tried, failed = _tally["tried"], _tally["failed"]
-    note(f"{tried} cases, {'all as expected' if not failed else f'{failed} not as expected'}")
+    """Says how many cases there were and how much memory a run had in use at most, where that was measured, and ends with 1
+    where a case wasn't as wanted."""
+    tried, failed, most, stack = _tally.values()
+    memory = f"; at most {most} KiB in use, of the stack {stack}" if most else ""
+    note(f"{tried} cases, {'all as expected' if not failed else f'{failed} not as expected'}{memory}")
     sys.exit(1 if failed else 0)
