@@ -39,6 +39,7 @@ pub(crate) fn wake(lane: &mut Lane, up: bool, other: &Lane, other_up: bool, book
 }
 
 /// An event comes to a computer, if it is up. Of one that is down nothing changes.
+#[inline(always)]
 pub(crate) fn step(
     lane: &mut Lane,
     up: bool,

@@ -62,6 +62,7 @@ fn mend_dead(rows: &mut [Row], changed: &mut [bool])
 
 // Shows what a lane shows. Only the rows that it names as changed are compared, but for the first moment of an era:
 // what stood before that is none of its pictures.
+#[inline(never)]
 fn show_lane(face: &mut Picture, changed: &mut [bool; ROWS], lane: &Lane)
     requires { changed.old ≡ replicate ROWS false }
     ensures { NamesChanges lane.now (picture_of face.old)
@@ -77,6 +78,7 @@ fn show_lane(face: &mut Picture, changed: &mut [bool; ROWS], lane: &Lane)
     );
 }
 
+#[inline(never)]
 fn show_dead(face: &mut Picture, changed: &mut [bool; ROWS])
     requires { changed.old ≡ replicate ROWS false }
     ensures { IsShown spec.dead (picture_of face.old) (picture_of face.new) changed.new }
@@ -87,6 +89,7 @@ fn show_dead(face: &mut Picture, changed: &mut [bool; ROWS])
 /// At a Tick, shows what the first computer that is up shows, or that none is. Other events leave what stands. Costs at
 /// most the comparison of each row, and a copy of those that differ; after the first moment of an era no row is looked
 /// at but those that the computer changed.
+#[inline(always)]
 pub(crate) fn show(
     face: &mut Picture,
     changed: &mut [bool; ROWS],

@@ -73,6 +73,8 @@ impl Pair {
     /// Tick costs what it costs each computer that is up, and the comparison of the rows that changed. A computer that
     /// fails costs nothing; one that comes up takes over all that the other holds, or starts cold where that is down
     /// too.
+    // (It stands in its caller, so that a word goes to the two computers at once.)
+    #[inline(always)]
     pub fn event(&mut self, book: &Book, event: &Event)
         requires fits { PairFits (the_book book.now) self.old }
         requires event { IsEvent event.now }
@@ -121,6 +123,7 @@ impl Pair {
     }
 
     // Notes which computers are up after an event, and brings up one that comes up.
+    #[inline(always)]
     fn note_health(&mut self, book: &Book, event: &Event)
         requires { PairFits (the_book book.now) self.old }
         ensures fits { PairFits (the_book book.now) self.new }
@@ -159,6 +162,7 @@ impl Pair {
     }
 
     // Computer 1 or 2 comes up.
+    #[inline(never)]
     fn wake(&mut self, book: &Book, computer: u8)
         requires { PairFits (the_book book.now) self.old }
         ensures fits { PairFits (the_book book.now) self.new }

@@ -61,6 +61,22 @@ end_across (x ∷ y ∷ line) rest =
     and-false (x == 69) ∙ sym (ap (λ b. cond b (length rest == 0) false) (and-false (x == 69)))
     ∙ ap (λ b. cond b (bytes_eq rest (codes "E")) (cond (bytes_eq (x ∷ y ∷ line) (codes "E")) (length rest == 0) false)) (sym (suc-not (suc (length line))))
 
+-- more bytes than a line may have hold a whole line that doesn't end the record, or one that is too long
+pub lacks_long : (r : ReaderState) → 32 < length r.pending → lacks_line (position (λ b. b == 10) r.pending) r ≡ false
+lacks_long r long = by (position (λ b. b == 10) r.pending) where
+  at_end : (at : ℕ) (b : Bool) → (length r.pending == at + 1) ≡ b → ((length r.pending == at + 1) && is_end (r.line ++ take at r.pending)) ≡ false
+  at_end at false is = ap (λ b. b && is_end (r.line ++ take at r.pending)) is
+  at_end at true is =
+      ap (λ b. b && is_end (r.line ++ take at r.pending)) is
+      ∙ long-no_end (r.line ++ take at r.pending)
+      (let count : length r.pending ≡ at + 1 = grind (arith, nat_tests) in
+      let all = length-append r.line (take at r.pending) in
+      let len : length (take at r.pending) ≡ at = length-take-le at r.pending (omega arith) in omega arith)
+
+  by : (at : Option ℕ) → lacks_line at r ≡ false
+  by None = lt-leb (length r.pending) (32 - length r.line) (omega arith)
+  by (Some at) = at_end at (length r.pending == at + 1) refl
+
 module _ (r : ReaderState) (lines : r.stage ≡ Lines) where
   at_line : (at : Option ℕ) → position (λ b. b == 10) r.pending ≡ at → reads_next r ≡ (not r.over && lacks_line at r)
   at_line at feed = ap (λ s. not r.over && lacks_bytes s r) lines ∙ ap (λ p. not r.over && lacks_line p r) feed

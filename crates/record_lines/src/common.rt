@@ -82,6 +82,7 @@ fn bits(a: u8, b: u8, c: u8, d: u8, e: u8, f: u8, g: u8, h: u8) -> Option<u32>
 
 // The event of the line that stands at the head of these bytes, and the place of its line feed, where it is a Tick or a
 // word on a bus of one digit.
+#[inline(always)]
 pub(crate) fn common_line(bytes: &[u8]) -> Option<(Event, usize)>
     ensures { IfSome result (IsCommon bytes.now) }
 {

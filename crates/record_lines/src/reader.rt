@@ -76,7 +76,7 @@ impl LineReader {
     }
 
     /// Whether the next call of `next` reads from its source: what the reader has decides no answer yet. It costs a look
-    /// for the line feed in what is left of the piece.
+    /// for the line feed in what is left of the piece, where that is no longer than a line.
     pub fn reads_next(&self) -> bool
         ensures { result ≡ reads_next self.now }
     {
@@ -90,11 +90,16 @@ impl LineReader {
         }
     }
 
-    // Whether the piece has no whole line, or the one that ends the record and no more.
+    // Whether the piece has no whole line, or the one that ends the record and no more. What is longer than any line costs
+    // no look.
+    #[tactic(auto, using(crate::proofs::Needs::lacks_long))]
     fn lacks_line(&self) -> bool
         ensures { result ≡ lacks_line (position (λ b. b == 10) self.now.pending) self.now }
     {
         let bytes = self.piece.bytes();
+        if bytes.len() > LONGEST {
+            return false;
+        }
         match place_of(b'\n', bytes) {
             None => bytes.len() <= LONGEST - self.line.len(),
             Some(at) => bytes.len() == at + 1 && ends_record(self.line.as_slice(), &bytes[..at]),
@@ -105,6 +110,8 @@ impl LineReader {
     /// its end; it is answered again without reading, as is a fault of the record. After `Failed` all bytes taken
     /// so far are kept, and the next call reads again. It reads where `reads_next` says so and not else, asks for 4096
     /// bytes each time, and takes none behind the piece in which the record's fault stands.
+    // (It stands in its caller, so that the event of a common line is handed on in registers.)
+    #[inline(always)]
     pub fn next<S: Source>(&mut self, source: &mut S) -> Result<Event, LineError>
         // Some bytes were taken, which tell this, whatever bytes were taken and events answered before.
         ensures told { Takes (S.left source.old) (S.left source.new)
@@ -164,6 +171,7 @@ impl LineReader {
     }
 
     // What is answered without reading; if there is nothing, the piece is gone through.
+    #[inline(never)]
     fn found(&mut self) -> Option<Result<Event, LineError>>
         requires { settled self.old ≡ None }
         ensures given { IfSome result (Gives self.old self.new) }
@@ -197,6 +205,7 @@ impl LineReader {
     }
 
     // The event of a line of the common forms that lies whole in the piece, and goes past it; else nothing is changed.
+    #[inline(always)]
     fn common(&mut self) -> Option<Event>
         ensures lines { IfSome result (λ _. self.old.stage ≡ Stage.Lines) }
         ensures given { IfSome result (λ e. Gives self.old self.new (Ok e)) }
@@ -295,6 +304,7 @@ impl LineReader {
     }
 
     // Reads the next piece, and keeps of it what the limit allows. False is the source's end.
+    #[inline(never)]
     fn fill<S: Source>(&mut self, source: &mut S) -> Result<bool, Failed>
         requires empty { self.old.pending ≡ [] }
         requires within { self.old.over ≡ false }
@@ -331,6 +341,7 @@ impl LineReader {
     }
 
     // The answer at the source's end.
+    #[inline(always)]
     fn finish(&mut self) -> Result<Event, LineError>
         requires unsettled { settled self.old ≡ None }
         requires empty { self.old.pending ≡ [] }

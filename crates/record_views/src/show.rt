@@ -136,6 +136,7 @@ fn show_lines<V: View, S: Source, O: Sink>(
 
 // Hands the sink what was gathered where the next call of the reader reads, so that whoever follows a live record sees
 // what is shown of each piece at once.
+#[inline(always)]
 fn hand_over_before_read<O: Sink>(
     reader: &LineReader,
     out: &mut Gathering<'_, O>,
