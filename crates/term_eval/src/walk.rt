@@ -123,6 +123,13 @@ struct Tally {
     due: u64,
 }
 
+// One node more is visited.
+fn count_visit(visits: &mut u64)
+    ensures { visits.new ≡ min (visits.old + 1) (2 ^ 64 - 1) }
+{
+    *visits = u64::saturating_add(*visits, 1);
+}
+
 // Counts an atom as visited. It takes no walk of its own.
 fn visit(visits: &mut u64, holds: bool) -> Turn
     ensures visits { visits.new ≡ min (visits.old + 1) (2 ^ 64 - 1) }
@@ -131,6 +138,70 @@ fn visit(visits: &mut u64, holds: bool) -> Turn
 {
     *visits = u64::saturating_add(*visits, 1);
     lasting(holds)
+}
+
+// Steps a condition that stands in another, as `step` does. One that has several others in it is walked here, which saves
+// a call where such conditions stand in one another.
+#[cycle(walk)]
+#[tactic(auto, unfolding(ecam_spec::specs::TermSize::slots, ecam_spec::specs::TermSize::nodes, ecam_spec::specs::TermNames::IsWithin))]
+fn step_inner(
+    cond: &Cond,
+    cells: &mut [Cell],
+    next: &mut usize,
+    visits: &mut u64,
+    env: &Env,
+    now: u64,
+) -> Turn
+    requires range { next.old + slots (tree_of cond.now) ≤ length cells.old }
+    requires names { IsWithin (length env.now.values.now) (length env.now.active.now)
+        (tree_of cond.now) }
+    requires first { 1 ≤ env.now.phase.number }
+    requires last { env.now.phase.number ≤ 10 }
+    requires now { now < 2 ^ 63 }
+    ensures next { next.new ≡ next.old + slots (tree_of cond.now) }
+    ensures visits { visits.new ≡ min (visits.old + nodes (tree_of cond.now)) (2 ^ 64 - 1) }
+    ensures steps { Steps env.now now (tree_of cond.now) next.old cells.old cells.new result.holds
+        result.due }
+{
+    match cond {
+        Cond::All(members) => {
+            count_visit(visits);
+            let tally = step_each(members, cells, next, visits, env, now);
+            Turn {
+                holds: tally.count == members.len(),
+                due: tally.due,
+            }
+        }
+        Cond::Any(members) => {
+            count_visit(visits);
+            let tally = step_each(members, cells, next, visits, env, now);
+            Turn {
+                holds: tally.count > 0,
+                due: tally.due,
+            }
+        }
+        Cond::AtLeast(least, members) => {
+            count_visit(visits);
+            let tally = step_each(members, cells, next, visits, env, now);
+            Turn {
+                holds: *least as usize <= tally.count,
+                due: tally.due,
+            }
+        }
+        Cond::Const(_)
+        | Cond::Disc(_)
+        | Cond::Valid(_)
+        | Cond::Cmp(_, _, _)
+        | Cond::InPhase(_)
+        | Cond::Alert(_)
+        | Cond::Press(_)
+        | Cond::Fwc(_)
+        | Cond::Not(_)
+        | Cond::Conf(_, _)
+        | Cond::Hold(_, _)
+        | Cond::Rise(_)
+        | Cond::Latch(_, _) => step(cond, cells, next, visits, env, now),
+    }
 }
 
 /// Steps each of some conditions, whatever the others answer.
@@ -160,7 +231,7 @@ fn step_each(
     for member in members {
         let turn = match atom(member, env) {
             Some(holds) => visit(visits, holds),
-            None => step(member, cells, next, visits, env, now),
+            None => step_inner(member, cells, next, visits, env, now),
         };
         if turn.holds {
             count += 1;

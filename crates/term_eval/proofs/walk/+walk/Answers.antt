@@ -137,9 +137,28 @@ step-returns-in-Latch-clause-steps t c =
     let within : c.args.next.now < length c.step-reset.new.cells = omega arith in
     arm-latched c.args.env.now c.args.now _ (tree_of c.in-Latch.set.value) (tree_of c.in-Latch.reset.value) _ _ _ _ _ _ _ _ _ _ _ _ tree c.take_slot-own-in-Latch.ensures.own within first second c.latch-holds.ensures.truth c.latch-holds.ensures.cell c.min.ensures
 
-pub step_each-step-turn-requires : goal.step_each-step-turn-requires
+pub step_inner-returns-in-All-clause-steps : goal.step_inner-returns-in-All-clause-steps
+step_inner-returns-in-All-clause-steps t c =
+    let tree = ap tree_of c.in-All.is ∙ tree_of-All c.in-All.members in
+    let steps = steps_all-as _ _ _ _ _ _ _ _ _ _ (ap trees_of (sym c.deref.ensures.value)) refl c.step_each-tally.ensures.steps in
+    steps-as _ _ _ _ _ _ _ _ _ _ _ _ tree refl (ap (λ n. eqb c.step_each-tally.result.count n) (c.len.ensures ∙ c.in-All.members.ok.0 ∙ sym (length-map c.in-All.members.items tree_of))) refl
+    (steps-all _ _ (map tree_of c.in-All.members.items) _ _ _ _ _ steps)
+
+pub step_inner-returns-in-Any-clause-steps : goal.step_inner-returns-in-Any-clause-steps
+step_inner-returns-in-Any-clause-steps t c =
+    let tree = ap tree_of c.in-Any.is ∙ tree_of-Any c.in-Any.members in
+    let steps = steps_all-as _ _ _ _ _ _ _ _ _ _ (ap trees_of (sym c.deref-in-Any.ensures.value)) refl c.step_each-tally-in-Any.ensures.steps in
+    steps-as _ _ _ _ _ _ _ _ _ _ _ _ tree refl refl refl (steps-any _ _ _ _ _ _ _ _ steps)
+
+pub step_inner-returns-in-AtLeast-clause-steps : goal.step_inner-returns-in-AtLeast-clause-steps
+step_inner-returns-in-AtLeast-clause-steps t c =
+    let tree = ap tree_of c.in-AtLeast.is ∙ tree_of-AtLeast c.in-AtLeast.least c.in-AtLeast.members in
+    let steps = steps_all-as _ _ _ _ _ _ _ _ _ _ (ap trees_of (sym c.deref-in-AtLeast.ensures.value)) refl c.step_each-tally-in-AtLeast.ensures.steps in
+    steps-as _ _ _ _ _ _ _ _ _ _ _ _ tree refl refl refl (steps-at_least _ _ c.in-AtLeast.least _ _ _ _ _ _ steps)
+
+pub step_each-step_inner-turn-requires : goal.step_each-step_inner-turn-requires
 unfolding IsWithin
-step_each-step-turn-requires t c =
+step_each-step_inner-turn-requires t c =
     let next = trees_of-next c.args.members.now c.loop-member.member-index c.member-item.result c.loop-member-test.true c.member-item.is in
     let size = slots-next c.args.members.now c.loop-member.member-index c.member-item.result c.loop-member-test.true c.member-item.is in
     (search (rules, the_lemmas, get_or_read), (omega arith, ((names_of_all _ _ _ _ next c.loop-member.invariant.names).0, (c.requires.first, (c.requires.last, c.requires.now)))))
@@ -160,12 +179,12 @@ step_each-loop-member-preserved t c =
     let stepped : c.match-atom.next ≡ c.loop-member.next + slots item =
     elim c.match-atom.branch [
       | step_each-in-Some w ↦ let none = subst (λ o. IfSome o (λ h. slots item ≡ 0)) w.in-Some.is c.atom.ensures.slots in omega (arith, w.next-is, none)
-      | step_each-in-None w ↦ w.next-is ∙ w.step-turn.ensures.next
+      | step_each-in-None w ↦ w.next-is ∙ w.step_inner-turn.ensures.next
     ] in
     let visited : c.match-atom.visits ≡ min (c.loop-member.visits + nodes item) (2 ^ 64 - 1) =
     elim c.match-atom.branch [
       | step_each-in-Some w ↦ let one = subst (λ o. IfSome o (λ h. nodes item ≡ 1)) w.in-Some.is c.atom.ensures.nodes in omega (arith, w.visits-is, w.visit-turn.ensures.visits, one)
-      | step_each-in-None w ↦ w.visits-is ∙ w.step-turn.ensures.visits
+      | step_each-in-None w ↦ w.visits-is ∙ w.step_inner-turn.ensures.visits
     ] in
     let steps : Steps c.args.env.now c.args.now item c.loop-member.next c.loop-member.cells c.match-atom.cells c.match-atom.turn.holds c.match-atom.turn.due =
     elim c.match-atom.branch [
@@ -177,7 +196,7 @@ step_each-loop-member-preserved t c =
           (steps-as _ _ _ _ _ _ _ _ _ _ _ _ refl refl holds due (own c.args.now c.loop-member.next c.loop-member.cells))
       | step_each-in-None w ↦
           subst (λ cells. Steps c.args.env.now c.args.now item c.loop-member.next c.loop-member.cells cells c.match-atom.turn.holds c.match-atom.turn.due) (sym w.cells-is)
-          (steps-as _ _ _ _ _ _ _ _ _ _ _ _ refl refl (ap (λ (t : Turn). t.holds) w.turn-is) (ap (λ (t : Turn). t.due) w.turn-is) w.step-turn.ensures.steps)
+          (steps-as _ _ _ _ _ _ _ _ _ _ _ _ refl refl (ap (λ (t : Turn). t.holds) w.turn-is) (ap (λ (t : Turn). t.due) w.turn-is) w.step_inner-turn.ensures.steps)
     ] in
     let grown : c.if-turn.count ≡ c.loop-member.count + one_if c.match-atom.turn.holds
     = elim c.if-turn.branch [ step_each-then-turn w ↦ w.count-is ∙ ap (λ b. c.loop-member.count + one_if b) (sym w.if-turn.true) | step_each-else-turn w ↦ w.count-is ∙ sym (add-zero c.loop-member.count) ∙ ap (λ b. c.loop-member.count + one_if b) (sym w.if-turn.false) ]
