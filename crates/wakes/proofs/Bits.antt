@@ -1,6 +1,7 @@
 -- One bit of some words is set or cleared, and the first is found.
 use Rattle.std.proofs.Common.{◌≡◌, ◌≢◌, ℕ, ◌+◌, ◌-◌, ◌*◌, ◌/◌, ◌%◌, ◌^◌, ◌<◌, ◌≤◌, false, not, ◌&&◌, ◌||◌, ◌==◌, List, length, get_or, set, slice_index, bit_or, bit_and, sym, ap, ◌∙◌, Option, None, Some, inl, inr, arith}
-use Rattle.std.proofs.lemmas.List.{get_or-set_same, get_or-set_other, get_or_default}
+use Rattle.std.proofs.lemmas.List.{get_or-set_same, get_or-set_other, get_or_default, length-set}
+use Rattle.std.proofs.Math.Bool.{and-false}
 use Rattle.std.proofs.lemmas.Bool.{cases_eq, cases_lt, eq-eqb, ne_eqb}
 use Rattle.std.proofs.lemmas.Nat.{shr-shr}
 use Rattle.std.proofs.lemmas.Nat.Bits.{bit_at_set_same, bit_at_set_other, bit_at_clear_same, bit_at_clear_other, bit_at-zero}
@@ -9,6 +10,7 @@ use lib.Pow.{pow_mono}
 use native.Mathlib.Nat.{div-eq_of_lt}
 use Rattle.std.specs.Int.{w64, bit_at}
 use Rattle.wakes.specs.Marks.{is_marked, IsNext, Finds}
+use Rattle.wakes.specs.MarkedEnd.{EndsAt}
 
 -- of two numbers in one word
 apart : (i j : ℕ) → j / 64 ≡ i / 64 → (j % 64 ≡ i % 64 → ⊥) → j ≢ i
@@ -68,6 +70,29 @@ module _ (words new : List ℕ) (i v : ℕ) (room : i < 64 * length words) (here
         ap (λ w. bit_at w (j % 64) == 1) (other words new i v _ room here is j e)
         ∙ sym (ap (λ b. not b && is_marked words j) (ne_eqb j i (λ same. e (ap (λ n. n / 64) same))))
   ]
+
+  same-length : (x : ℕ) → new ≡ set words (i / 64) x → length new ≡ length words
+  same-length x is = ap length is ∙ length-set words (i / 64) x
+
+  -- how far the marks reach then
+  pub marked-ends : (end later : ℕ) → new ≡ set words (i / 64) (bit_or v (1 * 2 ^ (i % 64) % 2 ^ 64)) → EndsAt words end → end ≤ later → i < later → later ≤ 64 * length words → EndsAt new later
+  marked-ends end later is e le lt fits =
+      let long = same-length _ is in
+      record {
+        few = omega (arith, long, e.few);
+        within = omega (arith, long);
+        none = λ j past.
+            marks is j ∙ ap (λ b. b || is_marked words j) (ne_eqb j i (λ same. let w : ⊥ = omega arith in w)) ∙ e.none j (omega arith);
+      }
+
+  pub unmarked-ends : (end : ℕ) → new ≡ set words (i / 64) (bit_and v (18446744073709551615 - 1 * 2 ^ (i % 64) % 2 ^ 64)) → EndsAt words end → EndsAt new end
+  unmarked-ends end is e =
+      let long = same-length _ is in
+      record {
+        few = omega (arith, long, e.few);
+        within = omega (arith, long, e.within);
+        none = λ j past. unmarks is j ∙ ap (λ b. not (j == i) && b) (e.none j past) ∙ and-false (not (j == i));
+      }
 
 -- a word without bits has none marked
 pub none_in : (words : List ℕ) (j : ℕ) → slice_index words (j / 64) ≡ 0 → is_marked words j ≡ false

@@ -3,6 +3,7 @@ ghost use Rattle.std.specs.Prelude.{◌≡◌, ℕ, ◌+◌, ◌*◌, ◌/◌, �
 ghost use Rattle.std.specs.Int.{bit_at};
 ghost use Rattle.std.specs.Box.{boxed_slice_items};
 ghost use Rattle.wakes.specs.Marks.{is_marked, room, Finds};
+ghost use Rattle.wakes.specs.MarkedEnd.{EndsAt};
 
 use std::alloc::{AllocError, Global};
 use std::boxed::BoxedSlice;
@@ -12,6 +13,8 @@ use std::marker::Model;
 #[derive(Drop)]
 pub struct Marked {
     words: BoxedSlice<u64>,
+    // No number from this one on is in the set.
+    end: usize,
 }
 
 // A number is in the set where its bit is set.
@@ -20,7 +23,7 @@ impl Model for Marked {
 
     ghost view = { λ s. boxed_slice_items s.words };
 
-    ghost invariant = { λ s. length (boxed_slice_items s.words) ≤ 2 ^ 32 };
+    ghost invariant = { λ s. EndsAt (boxed_slice_items s.words) s.end };
 }
 
 impl Marked {
@@ -33,15 +36,19 @@ impl Marked {
     {
         Ok(Marked {
             words: vec![in alloc; 0u64; count / 64 + 1]?.into_boxed_slice(),
+            end: 0,
         })
     }
 
-    /// Takes all numbers out. Its cost is one write for each 64 numbers.
+    /// Takes all numbers out. Its cost is one look where there are none, else one write for each 64 numbers.
     pub fn clear(&mut self)
         ensures room { room self.new ≡ room self.old }
         ensures none { (i : ℕ) → is_marked self.new i ≡ false }
     {
-        self.words.as_mut_slice().fill(0);
+        if self.end > 0 {
+            self.words.as_mut_slice().fill(0);
+            self.end = 0;
+        }
     }
 
     /// Takes over the numbers of another set of the same room. Its cost is one write for each 64 numbers.
@@ -50,6 +57,7 @@ impl Marked {
         ensures { self.new ≡ other.now }
     {
         self.words.copy_from_slice(&other.words);
+        self.end = other.end;
     }
 
     /// Puts a number in. Its cost is one write.
@@ -59,6 +67,7 @@ impl Marked {
         ensures marks { (j : ℕ) → is_marked self.new j ≡ (j == i || is_marked self.old j) }
     {
         self.words[i / 64] |= 1 << (i % 64);
+        self.end = self.end.max(i + 1);
     }
 
     /// Takes a number out. Its cost is one write.
@@ -78,14 +87,15 @@ impl Marked {
         bits_from(self.words[i / 64], i % 64) % 2 == 1
     }
 
-    /// The first number of the set from `from` on. Its cost is one look for each 64 numbers that it goes over.
+    /// The first number of the set from `from` on. Its cost is one look for each 64 numbers that it goes over; one alone
+    /// where `from` lies behind each number that was put in since the set was empty.
     pub fn first_from(&self, from: usize) -> Option<usize>
         ensures { Finds self.now from result }
     {
-        let place = from / 64;
-        if place >= self.words.len() {
+        if from >= self.end {
             return None;
         }
+        let place = from / 64;
         let rest = bits_from(self.words[place], from % 64);
         if rest != 0 {
             return Some(from + lowest(rest));
