@@ -1,6 +1,7 @@
 pub mod Orders
 pub mod BookAlerts
 pub mod Walking
+pub mod Idling
 pub mod Stretches
 pub mod Crews
 pub mod Stepping

@@ -1,6 +1,6 @@
 // What the crew made of one alert.
-ghost use Rattle.std.specs.Prelude.{◌≡◌, Bool, not, ◌&&◌, ◌||◌};
-ghost use Rattle.crew_marks.specs.MarkStep.{is_struck, is_called_off, cleared_after, cancelled_after, recalled_after, shown_by, mark_after, acts, actions_of};
+ghost use Rattle.std.specs.Prelude.{◌≡◌, Bool, true, not, ◌&&◌, ◌||◌};
+ghost use Rattle.crew_marks.specs.MarkStep.{is_struck, is_called_off, cleared_after, cancelled_after, recalled_after, shown_by, mark_after, no_mark, acts, actions_of};
 
 use ecam_kinds::{Key, Keys};
 
@@ -44,6 +44,13 @@ pub struct Actions {
 }
 
 impl Mark {
+    /// Whether nothing is marked.
+    pub fn is_none(self) -> bool
+        ensures { result ≡ true → self ≡ no_mark }
+    {
+        !self.cleared && !self.cancelled && !self.recalled && !self.shown
+    }
+
     /// What the crew made of the alert with one moment more.
     pub fn next(self, sight: &Sight, actions: &Actions) -> Mark
         ensures { result ≡ mark_after self sight.now actions.now }

@@ -3,8 +3,8 @@ ghost use Rattle.std.specs.Prelude.{◌≡◌, ◌↔◌, ℕ, ◌<◌, true, fa
 ghost use Rattle.ecam_spec.specs.Levels.{is_caution_level};
 ghost use Rattle.ecam_spec.specs.Screen.{order};
 ghost use Rattle.book_model.specs.Sealed.{the_book};
-ghost use Rattle.crew_marks.specs.MarkSets.{mark_at, AreMany};
-ghost use Rattle.crew_marks.specs.MarkStep.{mark_after, sight_of, acts};
+ghost use Rattle.crew_marks.specs.MarkSets.{mark_at, set_mark, HasMark, AreMany};
+ghost use Rattle.crew_marks.specs.MarkStep.{mark_after, sight_of, acts, IsIdle};
 
 use crate::mark::{Actions, Sight};
 use crate::sets::Sets;
@@ -20,8 +20,8 @@ pub struct Walked {
     pub changed: bool,
 }
 
-/// Steps the mark of each alert by one moment. Its cost is one look at each alert, and a write for each mark that
-/// changes.
+/// Steps the mark of each alert by one moment. Its cost is one look at each alert, a few more at those that are up, wait,
+/// are marked or are the target, and a write for each mark that changes.
 pub fn walk(
     sets: &mut Sets,
     book: &Book,
@@ -45,8 +45,7 @@ pub fn walk(
     let mut first = None;
     let mut changed = false;
     for place in order {
-        let sight = look(book, up, waiting, target, *place);
-        let turned = sets.step(*place as usize, &sight, actions);
+        let turned = step_one(sets, book, up, waiting, target, *place, actions);
         changed |= turned;
         first = first.or(sets.is_shown(*place as usize).then_some(*place));
     }
@@ -83,6 +82,45 @@ pub fn walk_still(
         first,
         changed: false,
     }
+}
+
+// Steps the mark of one alert, and answers whether that changed it. An idle one stays as it is, whatever the crew does.
+fn step_one(
+    sets: &mut Sets,
+    book: &Book,
+    up: &[bool],
+    waiting: &[bool],
+    target: Option<u32>,
+    place: u32,
+    actions: &Actions,
+) -> bool
+    requires place { place < length (the_book book.now).alerts }
+    requires has { HasMark sets.old place }
+    requires up { length up.now ≡ length (the_book book.now).alerts }
+    requires waiting { length waiting.now ≡ length (the_book book.now).alerts }
+    ensures mark { sets.new ≡ set_mark sets.old place (mark_after (mark_at sets.old place)
+        (sight_of (the_book book.now) up.now waiting.now target place) actions.now) }
+    ensures changed { (result ≡ false) ↔ (sets.new ≡ sets.old) }
+{
+    if is_idle(sets, up, waiting, target, place) {
+        return false;
+    }
+    let sight = look(book, up, waiting, target, place);
+    sets.step(place as usize, &sight, actions)
+}
+
+// Whether an alert isn't up, doesn't wait, has no mark and isn't the target.
+fn is_idle(sets: &Sets, up: &[bool], waiting: &[bool], target: Option<u32>, place: u32) -> bool
+    requires has { HasMark sets.now place }
+    requires up { place < length up.now }
+    requires waiting { place < length waiting.now }
+    ensures { result ≡ true → IsIdle (mark_at sets.now place) up.now waiting.now target place }
+{
+    let alert = place as usize;
+    if up[alert] || waiting[alert] || Some(place) == target {
+        return false;
+    }
+    sets.mark(alert).is_none()
 }
 
 // How an alert stands in the moment.

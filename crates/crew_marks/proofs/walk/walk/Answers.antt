@@ -13,19 +13,19 @@ use Rattle.crew_marks.proofs.BookAlerts.{place-within}
 use Rattle.crew_marks.proofs.Walking.{has-mark, many-set, then_some-cond, walk-more, walked-mark, walked-first}
 use Rattle.crew_marks.proofs.walk.walk.Goals as goal
 
-pub look-sight-requires-clause-place : goal.look-sight-requires-clause-place
-look-sight-requires-clause-place c =
+pub step_one-turned-requires-clause-place : goal.step_one-turned-requires-clause-place
+step_one-turned-requires-clause-place c =
     place-within c.args.book.now c.order-order.result.now c.loop-place.place-index c.order-order.ensures.within (omega arith)
 
-pub step-turned-requires : goal.step-turned-requires
-step-turned-requires c =
+pub step_one-turned-requires-clause-has : goal.step_one-turned-requires-clause-has
+step_one-turned-requires-clause-has c =
     has-mark c.loop-place.sets (length (the_book c.args.book.now).alerts) _ c.loop-place.invariant.many
     (place-within c.args.book.now c.order-order.result.now c.loop-place.place-index c.order-order.ensures.within (omega arith))
 
 pub is_shown-requires : goal.is_shown-requires
 is_shown-requires c =
-    has-mark c.step-turned.new.self (length (the_book c.args.book.now).alerts) _
-    (subst (λ s. AreMany s (length (the_book c.args.book.now).alerts)) (sym c.step-turned.ensures.mark) (many-set c.loop-place.sets _ _ _ c.loop-place.invariant.many))
+    has-mark c.step_one-turned.new.sets (length (the_book c.args.book.now).alerts) _
+    (subst (λ s. AreMany s (length (the_book c.args.book.now).alerts)) (sym c.step_one-turned.ensures.mark) (many-set c.loop-place.sets _ _ _ c.loop-place.invariant.many))
     (place-within c.args.book.now c.order-order.result.now c.loop-place.place-index c.order-order.ensures.within (omega arith))
 
 pub loop-place-preserved : goal.loop-place-preserved
@@ -34,14 +34,13 @@ loop-place-preserved c =
     let x = get_or c.order-order.result.now c.loop-place.place-index 0 in
     let place : x < n = place-within c.args.book.now c.order-order.result.now c.loop-place.place-index c.order-order.ensures.within (omega arith) in
     record {
-      many = subst (λ s. AreMany s n) (sym c.step-turned.ensures.mark) (many-set c.loop-place.sets _ _ _ c.loop-place.invariant.many);
+      many = subst (λ s. AreMany s n) (sym c.step_one-turned.ensures.mark) (many-set c.loop-place.sets _ _ _ c.loop-place.invariant.many);
       walked =
-          walk-more _ _ _ _ x c.loop-place.sets c.step-turned.new.self c.loop-place.first c.loop-place.changed c.step-turned.result
+          walk-more _ _ _ _ x c.loop-place.sets c.step_one-turned.new.sets c.loop-place.first c.loop-place.changed c.step_one-turned.result
           (ap distinct c.order-order.ensures.value ∙ distinct-order (the_book c.args.book.now)) (omega arith) refl
           (has-mark c.loop-place.sets n x c.loop-place.invariant.many place)
-          (c.step-turned.ensures.mark ∙ ap (λ g. set_mark c.loop-place.sets x (mark_after (mark_at c.loop-place.sets x) g c.args.actions.now)) c.look-sight.ensures)
-          c.step-turned.ensures.changed c.loop-place.invariant.walked c.or-first.result
-          (c.or-first.ensures ∙ ap (option_or c.loop-place.first) (c.then_some.ensures ∙ ap (λ b. then_some b x) c.is_shown.ensures ∙ then_some-cond (get_or c.step-turned.new.self.shown x false) x));
+          c.step_one-turned.ensures.mark c.step_one-turned.ensures.changed c.loop-place.invariant.walked c.or-first.result
+          (c.or-first.ensures ∙ ap (option_or c.loop-place.first) (c.then_some.ensures ∙ ap (λ b. then_some b x) c.is_shown.ensures ∙ then_some-cond (get_or c.step_one-turned.new.sets.shown x false) x));
     }
 
 pub returns-clause-marks : goal.returns-clause-marks
