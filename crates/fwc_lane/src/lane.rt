@@ -202,7 +202,8 @@ impl Lane {
         }
     }
 
-    // The moment ends.
+    // The moment ends. (It stands by itself, so that a word takes none of the room that a Tick needs.)
+    #[inline(never)]
     fn tick(&mut self, book: &Book, one_up: bool, two_up: bool)
         requires fits { LaneFits (the_book book.now) self.old }
         requires goes_on { CanGoOn self.old }
