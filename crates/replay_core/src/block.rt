@@ -154,15 +154,14 @@ fn put_block(out: &mut Block, tick: u64, picture: &Picture, changed: &[bool; ROW
     put_changes(out, changed, &picture.rows);
 }
 
-// The block of Tick number `tick`, whose picture is this one and which changed the rows whose flag is set. Its cost is a
-// look at each flag, and a copy of each row that changed.
-pub(crate) fn block(tick: u64, picture: &Picture, changed: &[bool; ROWS]) -> Block
+// Puts in place of what was there the block of Tick number `tick`, whose picture is this one and which changed the rows
+// whose flag is set. Its cost is a look at each flag, and a copy of each row that changed.
+pub(crate) fn renew(block: &mut Block, tick: u64, picture: &Picture, changed: &[bool; ROWS])
     ensures { (old : spec.Picture) → NamesRows old (picture_of picture.now) changed.now
-        → result.items ≡ output.block tick old (picture_of picture.now) }
+        → block.new.items ≡ output.block tick old (picture_of picture.now) }
 {
-    let mut block = Block::new();
-    put_block(&mut block, tick, picture, changed);
-    block
+    block.clear();
+    put_block(block, tick, picture, changed);
 }
 
 // The line that ends the output.

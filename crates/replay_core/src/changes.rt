@@ -4,16 +4,18 @@ ghost use Rattle.ecam_spec.specs.Output as output;
 ghost use Rattle.ecam_spec.specs.Replay.{is_tick, tick_count, history_blocks};
 ghost use Rattle.record_views.proofs.Blocks.{blocks_begin, blocks_go_on};
 
-use crate::block::{block, end_line};
+use crate::block::{Block, end_line, renew};
 use book_model::Book;
 use ecam_io::{Failed, Sink, put_all};
 use ecam_spec::Event;
 use fwc_pair::{Pair, View};
 
-// The changes of a replay. It counts the Ticks, and keeps nothing else.
+// The changes of a replay. It counts the Ticks, and has room for the block of one. That stands here, since a call pays
+// for its locals where it begins, and most events write nothing.
 #[derive(Drop)]
 pub(crate) struct Changes {
     ticks: u64,
+    block: Block,
 }
 
 impl Changes {
@@ -21,7 +23,10 @@ impl Changes {
     pub(crate) fn new() -> Changes
         ensures { result.ticks ≡ tick_count [] }
     {
-        Changes { ticks: 0 }
+        Changes {
+            ticks: 0,
+            block: Block::new(),
+        }
     }
 
     // The number of a Tick that comes now.
@@ -71,8 +76,9 @@ impl View for Changes {
         if !is_tick(event) {
             return Ok(());
         }
-        let block = block(self.number(), pair.picture(), pair.changed());
-        put_all(out, block.as_slice())
+        let tick = self.number();
+        renew(&mut self.block, tick, pair.picture(), pair.changed());
+        put_all(out, self.block.as_slice())
     }
 
     fn close<O: Sink>(&mut self, _book: &Book, ticks: u64, out: &mut O) -> Result<(), Failed> {

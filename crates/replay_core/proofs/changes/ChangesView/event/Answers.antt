@@ -18,30 +18,30 @@ returns-then-not-is_tick-clause-adds g c = λ h stood next.
     quiet-adds (the_book c.args._book.now) h c.args.event.now c.args._fresh c.args.pair.now next g.O.Sink.agrees
     (sym c.is_tick.ensures ∙ c.if-not-is_tick.true) c.args.out.now
 
-pub number-requires : goal.number-requires
-number-requires g c =
+pub number-tick-requires : goal.number-tick-requires
+number-tick-requires g c =
     let (h, seen) = c.requires.next in
     few-ticks (the_book c.args._book.now) h c.args.event.now c.args._fresh c.args.pair.now seen.1 g.O.Sink.agrees (sym c.is_tick.ensures ∙ c.if-not-is_tick.false) c.args.self.now.ticks seen.0
 
 pub returns-clause-stands : goal.returns-clause-stands
 returns-clause-stands g c = λ h stood next.
     on-ok c.put_all.result _
-    (c.number.ensures.counted ∙ tick-count (the_book c.args._book.now) h c.args.event.now c.args._fresh c.args.pair.now next g.O.Sink.agrees (sym c.is_tick.ensures ∙ c.if-not-is_tick.false) c.args.self.now.ticks stood)
+    (c.number-tick.ensures.counted ∙ tick-count (the_book c.args._book.now) h c.args.event.now c.args._fresh c.args.pair.now next g.O.Sink.agrees (sym c.is_tick.ensures ∙ c.if-not-is_tick.false) c.args.self.now.ticks stood)
 
 pub returns-clause-adds : goal.returns-clause-adds
 returns-clause-adds g c = λ h stood next.
-    adds-block (the_book c.args._book.now) h c.args.event.now c.args._fresh c.args.pair.now next g.O.Sink.agrees c.args.out.now c.put_all.new.out c.block-block.result.items
-    (tick-block (the_book c.args._book.now) h c.args.event.now c.args._fresh c.args.pair.now next g.O.Sink.agrees (sym c.is_tick.ensures ∙ c.if-not-is_tick.false) c.args.self.now.ticks stood c.block-block.result.items c.changed.result.now c.changed.ensures.value
-    (λ old names. c.block-block.ensures old (subst (λ q. NamesRows old (picture_of q) c.changed.result.now) (sym c.picture.ensures.value) names)
-    ∙ ap (λ n. block n old (picture_of c.picture.result.now)) c.number.ensures.number
+    adds-block (the_book c.args._book.now) h c.args.event.now c.args._fresh c.args.pair.now next g.O.Sink.agrees c.args.out.now c.put_all.new.out c.renew.new.block.items
+    (tick-block (the_book c.args._book.now) h c.args.event.now c.args._fresh c.args.pair.now next g.O.Sink.agrees (sym c.is_tick.ensures ∙ c.if-not-is_tick.false) c.args.self.now.ticks stood c.renew.new.block.items c.changed.result.now c.changed.ensures.value
+    (λ old names. c.renew.ensures old (subst (λ q. NamesRows old (picture_of q) c.changed.result.now) (sym c.picture.ensures.value) names)
+    ∙ ap (λ n. block n old (picture_of c.picture.result.now)) c.number-tick.ensures.number
     ∙ ap (λ q. block c.args.self.now.ticks old (picture_of q)) c.picture.ensures.value))
     c.put_all.result (subst (λ text. OnOk c.put_all.result (Appended g.O.Sink.agrees c.args.out.now c.put_all.new.out text)) c.as_slice.ensures.value c.put_all.ensures.all)
 
 pub returns-clause-part : goal.returns-clause-part
 returns-clause-part g c = λ h stood next.
-    adds-part (the_book c.args._book.now) h c.args.event.now c.args._fresh c.args.pair.now next g.O.Sink.agrees c.args.out.now c.put_all.new.out c.block-block.result.items
-    (tick-block (the_book c.args._book.now) h c.args.event.now c.args._fresh c.args.pair.now next g.O.Sink.agrees (sym c.is_tick.ensures ∙ c.if-not-is_tick.false) c.args.self.now.ticks stood c.block-block.result.items c.changed.result.now c.changed.ensures.value
-    (λ old names. c.block-block.ensures old (subst (λ q. NamesRows old (picture_of q) c.changed.result.now) (sym c.picture.ensures.value) names)
-    ∙ ap (λ n. block n old (picture_of c.picture.result.now)) c.number.ensures.number
+    adds-part (the_book c.args._book.now) h c.args.event.now c.args._fresh c.args.pair.now next g.O.Sink.agrees c.args.out.now c.put_all.new.out c.renew.new.block.items
+    (tick-block (the_book c.args._book.now) h c.args.event.now c.args._fresh c.args.pair.now next g.O.Sink.agrees (sym c.is_tick.ensures ∙ c.if-not-is_tick.false) c.args.self.now.ticks stood c.renew.new.block.items c.changed.result.now c.changed.ensures.value
+    (λ old names. c.renew.ensures old (subst (λ q. NamesRows old (picture_of q) c.changed.result.now) (sym c.picture.ensures.value) names)
+    ∙ ap (λ n. block n old (picture_of c.picture.result.now)) c.number-tick.ensures.number
     ∙ ap (λ q. block c.args.self.now.ticks old (picture_of q)) c.picture.ensures.value))
     c.put_all.result (subst (λ text. OnErr c.put_all.result (AppendedPrefix g.O.Sink.agrees c.args.out.now c.put_all.new.out text)) c.as_slice.ensures.value c.put_all.ensures.prefix)
