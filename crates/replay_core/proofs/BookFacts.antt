@@ -1,7 +1,6 @@
 -- What the reading and the sealing of a book's bytes tell of the bytes.
-use Rattle.std.proofs.Common.{◌≡◌, ◌<◌, ◌≤◌, true, false, Option, Some, None, length, length-take, take, cond, leb, refl, sym, ap, ◌∙◌, inl, inr, arith}
-use Rattle.std.specs.Prelude.{is_none, if◌then◌else◌}
-use Rattle.std.proofs.lemmas.List.{take_all}
+use Rattle.std.proofs.Common.{◌≡◌, ◌<◌, ◌≤◌, true, false, Result, Ok, Err, Option, Some, None, length, take, cond, leb, refl, sym, ap, ◌∙◌, subst, inl, inr, arith}
+use Rattle.std.specs.Prelude.{is_none, if◌then◌else◌, IfOk, IfErr}
 use Rattle.std.proofs.lemmas.Bool.{lt-leb}
 use Rattle.std.proofs.lemmas.Bool.Decides.{leb_tells}
 use Rattle.ecam_spec.specs.declared.kinds.BookFault.{BookFault}
@@ -10,52 +9,44 @@ use Rattle.ecam_spec.specs.Draft.{Draft, book_of}
 use Rattle.ecam_spec.specs.DraftFaults.{draft_fault}
 use Rattle.book_spec.specs.DraftOf.{draft_of}
 use Rattle.book_spec.specs.BookBytes.{table_of_text, top_fault, document_fault, text_fault, draft_in, draft_of_bytes, fault_after, book_fault, sealed, book}
+use Rattle.book_checker.specs.Sealing.{Refuses}
+use Rattle.book_model.specs.Sealed.{the_book}
+use Rattle.book_model.specs.declared.draft.Draft as code
+use Rattle.book_model.specs.declared.error.LoadError.{LoadError}
+use Rattle.book_model.specs.declared.error.LoadError.TheVariants.{Fault, Memory}
+use Rattle.replay_core.proofs.Files.{front-same}
 
 -- ---- a book that is too long is told by its first bytes
 
-long-fault : (bytes : Text) → 4194304 < length bytes → text_fault bytes ≡ text_fault (take 4194305 bytes)
+long-fault : (bytes : Text) → 4194305 ≤ length bytes → text_fault bytes ≡ Some (top_fault 1)
 unfolding text_fault
-long-fault bytes long =
-    let whole = lt-leb (length bytes) 4194304 long in
-    let part = lt-leb (length (take 4194305 bytes)) 4194304 (omega (arith, long, length-take 4194305 bytes)) in
-    rw whole (rw part refl)
+long-fault bytes long = rw (lt-leb (length bytes) 4194304 (omega (arith, long))) refl
 
-long-draft : (bytes : Text) → 4194304 < length bytes → draft_of_bytes bytes ≡ None
+long-draft : (bytes : Text) → 4194305 ≤ length bytes → draft_of_bytes bytes ≡ None
 unfolding draft_of_bytes
-long-draft bytes long = rw (lt-leb (length bytes) 4194304 long) refl
+long-draft bytes long = rw (lt-leb (length bytes) 4194304 (omega (arith, long))) refl
 
-fault-front : (bytes : Text) → text_fault (take 4194305 bytes) ≡ text_fault bytes
-fault-front bytes =
-    elim (leb_tells (length bytes) 4194305) [
-      | inl (_, short) ↦ ap text_fault (take_all 4194305 bytes short)
-      | inr (_, long) ↦ sym (long-fault bytes (omega (arith, long)))
-    ]
-
-draft-front : (bytes : Text) → draft_of_bytes (take 4194305 bytes) ≡ draft_of_bytes bytes
-draft-front bytes =
-    elim (leb_tells (length bytes) 4194305) [
-      | inl (_, short) ↦ ap draft_of_bytes (take_all 4194305 bytes short)
-      | inr (_, long) ↦
-          long-draft (take 4194305 bytes) (omega (arith, long, length-take 4194305 bytes)) ∙ sym (long-draft bytes (omega (arith, long)))
-    ]
-
--- a draft is as short as a book may be
-pub draft-short : (bytes : Text) (d : Draft) → draft_of_bytes bytes ≡ Some d → length bytes ≤ 4194304
-draft-short bytes d is =
-    elim (leb_tells (length bytes) 4194304) [
-      | inl (_, short) ↦ short
-      | inr (_, long) ↦ let none = long-draft bytes (omega (arith, long)) in absurd (let w : ⊥ = cc in w)
-    ]
-
--- so are its fault, and the book that it is
-pub book-front : (bytes : Text) → book (take 4194305 bytes) ≡ book bytes
+long-book : (bytes : Text) → 4194305 ≤ length bytes → book bytes ≡ None
 unfolding book
-book-front bytes = ap sealed (draft-front bytes)
+long-book bytes long = ap sealed (long-draft bytes long)
+
+long-refused : (bytes : Text) → 4194305 ≤ length bytes → book_fault bytes ≡ Some (top_fault 1)
+unfolding book_fault
+long-refused bytes long = ap (λ d. fault_after d (text_fault bytes)) (long-draft bytes long) ∙ long-fault bytes long
+
+-- a book is as short as it may be
+pub book-short : (bytes : Text) (b : Book) → book bytes ≡ Some b → length bytes < 4194305
+book-short bytes b is =
+    elim (leb_tells 4194305 (length bytes)) [
+      | inl (_, long) ↦ let none = long-book bytes long in absurd (let w : ⊥ = cc in w)
+      | inr (_, short) ↦ short
+    ]
+
+pub book-front : (bytes : Text) → book (take 4194305 bytes) ≡ book bytes
+book-front = front-same 4194305 book None long-book
 
 pub book_fault-front : (bytes : Text) → book_fault (take 4194305 bytes) ≡ book_fault bytes
-unfolding book_fault
-book_fault-front bytes =
-    ap (λ d. fault_after d (text_fault (take 4194305 bytes))) (draft-front bytes) ∙ ap (fault_after (draft_of_bytes bytes)) (fault-front bytes)
+book_fault-front = front-same 4194305 book_fault (Some (top_fault 1)) long-refused
 
 -- ---- what is read and sealed
 
@@ -102,3 +93,16 @@ sealed-faultless (Some d) f b is = by (draft_fault d) is where
 pub book-faultless : (bytes : Text) (b : Book) → book bytes ≡ Some b → book_fault bytes ≡ None
 unfolding book book_fault
 book-faultless bytes b is = sealed-faultless (draft_of_bytes bytes) (text_fault bytes) b is
+
+-- ---- how sealing ends
+
+module _ (bytes : Text) (d : Draft) (is : draft_of_bytes bytes ≡ Some d) where
+  pub sealed-book : (r : Result code.Draft LoadError) → IfOk r (λ b. the_book b ≡ book_of d) → IfOk r (λ b. draft_fault d ≡ None)
+      → IfOk r (λ b. book bytes ≡ Some (the_book b))
+  sealed-book (Ok b) same faultless = seals bytes d is faultless ∙ sym (ap Some same)
+  sealed-book (Err e) same faultless = tt
+
+  pub sealed-fault : (r : Result code.Draft LoadError) → IfErr r (Refuses d) → (f : BookFault) → r ≡ Err (Fault f) → book_fault bytes ≡ Some f
+  sealed-fault (Ok b) refuses f told = absurd (let w : ⊥ = cc in w)
+  sealed-fault (Err (Fault g)) refuses f told = seal-refused bytes d is f (subst (λ g. draft_fault d ≡ Some g) (let same : g ≡ f = cc in same) refuses)
+  sealed-fault (Err Memory) refuses f told = absurd (let w : ⊥ = cc in w)

@@ -15,10 +15,10 @@ use Rattle.ecam_spec.specs.Replay.{standing_lines}
 use Rattle.record_views.specs.Showing.{Showing}
 use Rattle.replay_core.specs.Calls.{Files, ShelfCall, OpenedOne, OpenedBoth, SinkCall, Writes, WritesPart, WritesNothing, HasFailedToWrite}
 use Rattle.record_views.specs.Runs.{HasStopped}
-use Rattle.replay_core.specs.Loading.{BookHas, IsUnopened, HasLoaded, Loads, Readies}
+use Rattle.replay_core.specs.Loading.{BookHas, IsUnopened, Unloaded, HasLoaded, Loads, Readies}
 use Rattle.view_spec.specs.Places.{number_place}
 use Rattle.replay_core.specs.Play.{ShowsInPart, Plays, Shown}
-use Rattle.replay_core.specs.Answers.{ByBook, ByRecord, ByNumber, LacksNumber, BookTold, BookUntold}
+use Rattle.replay_core.specs.Answers.{ByBookAlone, ByBook, ByReading, ByRecord, ByNumber, LacksNumber, BookTold, BookUntold}
 use Rattle.replay_core.specs.ReadEndings.{Endings, ShowsWhole, ShowsUpTo, showing, HasNumber, ExplainsInPart, ExplainsNothing, BreaksOff, explaining}
 use Rattle.replay_core.specs.Outcomes.{outcome_of, refusal_of, ended}
 use Rattle.replay_core.specs.declared.load.Loaded.{Loaded}
@@ -44,15 +44,16 @@ since files name before mid now less (inr lacks) = inr lacks
 -- ---- no book stands ready
 
 module _ {S : Type 0} (f : ShelfCall) (out : SinkCall S) (name : Text) (once : OpenedOne f) (kept : WritesNothing out) where
+  pub unloaded-alone : (done unwritten : Type 0) (e : Unready) → Unloaded f name e → ByBookAlone f out name done unwritten (outcome_of e)
+  unloaded-alone done unwritten (Refused g) faulty = record { count = once; faulty = faulty; kept = kept }
+  unloaded-alone done unwritten Unread unread = record { count = once; unread = unread; kept = kept }
+  unloaded-alone done unwritten NoMemory took = record { count = once; took = took; kept = kept }
+
   pub unready-book : (writes : Book → Text) (e : Unready) → Readies f name (Err e) → ByBook f out name writes (outcome_of e)
-  unready-book writes (Refused g) faulty = record { count = once; faulty = faulty; kept = kept }
-  unready-book writes Unread unread = record { count = once; unread = unread; kept = kept }
-  unready-book writes NoMemory took = record { count = once; took = took; kept = kept }
+  unready-book writes e = unloaded-alone (BookTold f out name writes) (BookUntold f out name writes) e
 
   pub unloaded-book : (writes : Book → Text) (e : Unready) → Loads f name (Err e) → ByBook f out name writes (outcome_of e)
-  unloaded-book writes (Refused g) faulty = record { count = once; faulty = faulty; kept = kept }
-  unloaded-book writes Unread unread = record { count = once; unread = unread; kept = kept }
-  unloaded-book writes NoMemory took = record { count = once; took = took; kept = kept }
+  unloaded-book writes e = unloaded-alone (BookTold f out name writes) (BookUntold f out name writes) e
 
   pub unready-record : (record' : Text) (ends : Endings) (e : Unready) → Readies f name (Err e) → ByRecord f out name record' ends (outcome_of e)
   unready-record record' ends (Refused g) faulty = record { count = once; faulty = faulty; kept = kept }
@@ -101,33 +102,36 @@ joined a c = record {
   left = c.left;
 }
 
--- the book was loaded in the first, and the second follows it and opens a file
-pub record Follows (a c : ShelfCall) (name : Text) (l : Loaded) : Type 0 where
+-- this book was loaded in the first, and the second follows it
+pub record Follows (a c : ShelfCall) (name : Text) (b : Book) : Type 0 where
   pub same : c.files ≡ a.files
   pub faults : c.faults ≡ a.faults_now
-  pub opens : c.opens ≡ a.opens_now
   pub less : a.faults ≤ a.faults_now
-  pub first : OpenedOne a
-  pub second : OpenedOne c
-  pub has : HasLoaded a name l
+  pub has : BookHas a.files name (λ x. x ≡ b)
 
-module _ (a c : ShelfCall) (name record' : Text) (l : Loaded) (on : Follows a c name l) {S : Type 0} (out : SinkCall S) where
-  both : OpenedBoth (joined a c)
-  both = on.second ∙ ap raised (on.opens ∙ on.first)
+pub after-loading : (a c : ShelfCall) (name : Text) (b : Book) → c.files ≡ a.files → c.faults ≡ a.faults_now → a.faults ≤ a.faults_now
+    → BookHas a.files name (λ x. (x ≡ b) × (a.left ≡ Some [])) → Follows a c name b
+after-loading a c name b same faults less has = record {
+  same = same;
+  faults = faults;
+  less = less;
+  has = BookHas-weaker a.files name (λ x. (x ≡ b) × (a.left ≡ Some [])) (λ x. x ≡ b) (λ x is. is.0) has;
+}
 
+module _ (a c : ShelfCall) (name record' : Text) (b : Book) (on : Follows a c name b) where
   -- what is known of the loaded book holds of the book that its file is
-  loaded : (P : Book → Type 0) → P (the_book l.book) → BookHas a.files name P
-  loaded P so = BookHas-weaker a.files name (λ b. (b ≡ the_book l.book) × (a.left ≡ Some [])) P (λ b is. subst P (sym is.0) so) on.has.book
+  pub loaded : (P : Book → Type 0) → P b → BookHas a.files name P
+  loaded P so = BookHas-weaker a.files name (λ x. x ≡ b) P (λ x is. subst P (sym is) so) on.has
 
-  -- and what is known of the record's file
-  of-both : (Q : Text → Type 0) (P : Book → Text → Option Text → Type 0) → ((text : Text) → Q text → P (the_book l.book) text c.left)
+  -- and what is known of another file
+  of-both : (Q : Text → Type 0) (P : Book → Text → Option Text → Type 0) → ((text : Text) → Q text → P b text c.left)
       → FileHas c.files record' Q → BookHas a.files name (λ b. FileHas a.files record' (λ text. P b text c.left))
   of-both Q P then has =
       loaded (λ b. FileHas a.files record' (λ text. P b text c.left))
-      (subst (λ files. FileHas files record' (λ text. P (the_book l.book) text c.left)) on.same
-      (FileHas-weaker c.files record' Q (λ text. P (the_book l.book) text c.left) then has))
+      (subst (λ files. FileHas files record' (λ text. P b text c.left)) on.same
+      (FileHas-weaker c.files record' Q (λ text. P b text c.left) then has))
 
-  unopened : IsUnopened c record' → IsUnopened (joined a c) record'
+  pub unopened : IsUnopened c record' → IsUnopened (joined a c) record'
   unopened un = record {
     cause = since a.files record' a.faults a.faults_now c.faults_now on.less
         (subst (λ n. MayRefuse a.files record' n c.faults_now) on.faults (subst (λ files. MayRefuse files record' c.faults c.faults_now) on.same un.cause));
@@ -135,64 +139,65 @@ module _ (a c : ShelfCall) (name record' : Text) (l : Loaded) (on : Follows a c 
     closed = subst (λ files. IsClosed files c.left) on.same un.closed;
   }
 
-  rose : Rose c.faults c.faults_now → Rose a.faults c.faults_now
+  pub rose : Rose c.faults c.faults_now → Rose a.faults c.faults_now
   rose r = Rose-earlier a.faults a.faults_now c.faults_now on.less (subst (λ n. Rose n c.faults_now) on.faults r)
 
+module _ (a c : ShelfCall) (name record' : Text) (b : Book) (on : Follows a c name b) {S : Type 0} (out : SinkCall S) (Opened : Type 0) (count : Opened) where
   -- the record was shown
   module _ (o : Book → Showing) (limit : ℕ) (pair : Pair) where
-    ended-so : (played : Result ℕ RunError) → Plays c out (the_book l.book) (o (the_book l.book)) pair record' limit played
-        → ByRecord (joined a c) out name record' (showing out o limit) (ended played)
+    ended-so : (played : Result ℕ RunError) → Plays c out b (o b) pair record' limit played
+        → ByReading (joined a c) out Opened name record' (showing out o limit) (ended played)
     ended-so (Ok n) plays = record {
-      count = both;
-      both = of-both _ (ShowsWhole out o limit) (λ text h. record { faultless = h.faultless; written = h.written; spent = h.spent }) plays;
+      count = count;
+      both = of-both a c name record' b on _ (ShowsWhole out o limit) (λ text h. record { faultless = h.faultless; written = h.written; spent = h.spent }) plays;
     }
-    ended-so (Err Read) (inl (un, kept)) = inr (inl (record { count = both; accepted = loaded (λ b. Unit {0}) tt; unopened = unopened un; kept = kept }))
+    ended-so (Err Read) (inl (un, kept)) = inr (inl (record { count = count; accepted = loaded a c name record' b on (λ b. Unit {0}) tt; unopened = unopened a c name record' b on un; kept = kept }))
     ended-so (Err Read) (inr broken) = inr (inr (record {
-      count = both;
-      cause = rose broken.cause;
+      count = count;
+      cause = rose a c name record' b on broken.cause;
       opened = broken.opened;
-      both = of-both _ (λ b text left. ShowsInPart out limit (o b) text left) (λ text h. h) broken.replies;
+      both = of-both a c name record' b on _ (λ b text left. ShowsInPart out limit (o b) text left) (λ text h. h) broken.replies;
     }))
     ended-so (Err Write) plays = record {
-      count = both;
+      count = count;
       cause = plays.0;
-      both = of-both _ (λ b text left. HasStopped b (o b) out.agrees out.old out.new limit text left) (λ text h. h) plays.1;
+      both = of-both a c name record' b on _ (λ b text left. HasStopped b (o b) out.agrees out.old out.new limit text left) (λ text h. h) plays.1;
     }
     ended-so (Err (Record g)) plays = record {
-      count = both;
-      both = of-both _ (ShowsUpTo out o limit g) (λ text h. record { fault_is = h.fault_is; written = h.written; took = h.took }) plays;
+      count = count;
+      both = of-both a c name record' b on _ (ShowsUpTo out o limit g) (λ text h. record { fault_is = h.fault_is; written = h.written; took = h.took }) plays;
     }
 
-  pub shown-so : (o : Book → Showing) (limit : ℕ) (outcome : Outcome) → Shown c out (the_book l.book) (o (the_book l.book)) record' limit outcome
-      → ByRecord (joined a c) out name record' (showing out o limit) outcome
+  pub shown-so : (o : Book → Showing) (limit : ℕ) (outcome : Outcome) → Shown c out b (o b) record' limit outcome
+      → ByReading (joined a c) out Opened name record' (showing out o limit) outcome
   shown-so o limit outcome shown =
-      subst (ByRecord (joined a c) out name record' (showing out o limit)) (sym shown.outcome_is)
+      subst (ByReading (joined a c) out Opened name record' (showing out o limit)) (sym shown.outcome_is)
       (ended-so o limit shown.pair shown.played shown.plays)
 
   -- the replay went into a sink that never fails, and nothing was written elsewhere
   module _ {D : Type 0} (dropped : SinkCall D) (silent : Showing) (never : HasFailedToWrite dropped → ⊥) (pair : Pair) where
-    pub unexplained : (e : RunError) → Plays c dropped (the_book l.book) silent pair record' no_limit (Err e) → WritesNothing out → ByRecord (joined a c) out name record' (explaining out) (refusal_of e)
-    unexplained Read (inl (un, none)) kept = inr (inl (record { count = both; accepted = loaded (λ b. Unit {0}) tt; unopened = unopened un; kept = kept }))
+    pub unexplained : (e : RunError) → Plays c dropped b silent pair record' no_limit (Err e) → WritesNothing out → ByReading (joined a c) out Opened name record' (explaining out) (refusal_of e)
+    unexplained Read (inl (un, none)) kept = inr (inl (record { count = count; accepted = loaded a c name record' b on (λ b. Unit {0}) tt; unopened = unopened a c name record' b on un; kept = kept }))
     unexplained Read (inr broken) kept = inr (inr (record {
-      count = both;
-      cause = rose broken.cause;
+      count = count;
+      cause = rose a c name record' b on broken.cause;
       opened = broken.opened;
-      both = of-both _ (BreaksOff out) (λ text h. record { taken = h.taken; behind = h.behind; part = h.part; rest = h.rest; kept = kept }) broken.replies;
+      both = of-both a c name record' b on _ (BreaksOff out) (λ text h. record { taken = h.taken; behind = h.behind; part = h.part; rest = h.rest; kept = kept }) broken.replies;
     }))
     unexplained Write plays kept = absurd (never plays.0)
     unexplained (Record g) plays kept = record {
-      count = both;
-      both = of-both _ (ExplainsNothing out g) (λ text h. record { fault_is = h.fault_is; kept = kept; took = h.took }) plays;
+      count = count;
+      both = of-both a c name record' b on _ (ExplainsNothing out g) (λ text h. record { fault_is = h.fault_is; kept = kept; took = h.took }) plays;
     }
 
     -- and then a prefix of the standings was written
-    pub half-explained : (n : ℕ) → Plays c dropped (the_book l.book) silent pair record' no_limit (Ok n) → HasFailedToWrite out
-        → ((h : List Event) → PairStands (the_book l.book) h pair → WritesPart out (standing_lines (the_book l.book) h))
-        → ByRecord (joined a c) out name record' (explaining out) outcomes.WriteFault
+    pub half-explained : (n : ℕ) → Plays c dropped b silent pair record' no_limit (Ok n) → HasFailedToWrite out
+        → ((h : List Event) → PairStands b h pair → WritesPart out (standing_lines b h))
+        → ByReading (joined a c) out Opened name record' (explaining out) outcomes.WriteFault
     half-explained n plays cause part = record {
-      count = both;
+      count = count;
       cause = cause;
-      both = of-both _ (ExplainsInPart out) (λ text h. record { faultless = h.faultless; written = part (events text no_limit) h.stands; spent = h.spent }) plays;
+      both = of-both a c name record' b on _ (ExplainsInPart out) (λ text h. record { faultless = h.faultless; written = part (events text no_limit) h.stands; spent = h.spent }) plays;
     }
 
 -- ---- a command that goes by a number parameter besides
@@ -204,7 +209,7 @@ file-and (Some told) name P Q p q = each (file_named told name) p q where
   each None p q = p
   each (Some bytes) p q = (p, q)
 
-book-and : (files : Files) (name : Text) (P Q : Book → Type 0) → BookHas files name P → BookHas files name Q → BookHas files name (λ b. P b × Q b)
+pub book-and : (files : Files) (name : Text) (P Q : Book → Type 0) → BookHas files name P → BookHas files name Q → BookHas files name (λ b. P b × Q b)
 book-and files name P Q p q =
     FileHas-weaker files name (λ bytes. IsSomeAnd (book bytes) P × IsSomeAnd (book bytes) Q) (λ bytes. IsSomeAnd (book bytes) (λ b. P b × Q b))
     (λ bytes both. each (book bytes) both.0 both.1)
@@ -233,6 +238,7 @@ module _ {S : Type 0} (f : ShelfCall) (out : SinkCall S) (name record' number : 
   by-its-number outcomes.WriteFault has = record { count = has.count; cause = has.cause; both = with-number e.stopped has.both }
   by-its-number outcomes.NoMemory has = has
   by-its-number outcomes.NoSuch never = absurd never
+  by-its-number (outcomes.LimitsRefused g) never = never
 
 -- the loaded book has the number, or lacks it
 module _ (f : ShelfCall) (name number : Text) (l : Loaded) (has : HasLoaded f name l) where

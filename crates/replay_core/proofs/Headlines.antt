@@ -28,6 +28,7 @@ done-is outcomes.ReadFault is = absurd (let w : ⊥ = cc in w)
 done-is outcomes.WriteFault is = absurd (let w : ⊥ = cc in w)
 done-is outcomes.NoMemory is = absurd (let w : ⊥ = cc in w)
 done-is outcomes.NoSuch is = absurd (let w : ⊥ = cc in w)
+done-is (outcomes.LimitsRefused g) is = absurd (let w : ⊥ = cc in w)
 
 -- without a fault an output is the blocks and the line that ends it
 whole-output : (b : Book) (text : Text) (limit : ℕ) → fault text limit ≡ None → output_of (blocks_of b) text limit ≡ all_changes b (events text limit)

@@ -10,7 +10,9 @@ mod StandingLines
 mod Drilled
 pub mod Feeding
 pub mod BookFacts
+pub mod LimitsFacts
 pub mod Loads
 pub mod Causes
+pub mod Limited
 pub mod Decided
 pub mod Headlines

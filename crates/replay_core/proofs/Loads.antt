@@ -1,25 +1,72 @@
--- How loading a book ends, from how its steps do.
-use Rattle.std.proofs.Common.{◌≡◌, [], Option, Some, None, IsSomeAnd, sym, ap, ◌∙◌, subst, arith}
+-- How loading a book or limits ends, from how its steps do.
+use Rattle.std.proofs.Common.{◌≡◌, [], Option, Some, None, IsSomeAnd, List, refl, sym, ap, ◌∙◌, subst}
 use Rattle.ecam_io.specs.Outside.{FileHas}
 use Rattle.ecam_io.proofs.Calls.{FileHas-weaker}
 use Rattle.ecam_spec.specs.declared.kinds.BookFault.{BookFault}
 use Rattle.ecam_spec.specs.Book.{Text, Book}
-use Rattle.ecam_spec.specs.Draft.{Draft, book_of}
-use Rattle.ecam_spec.specs.DraftFaults.{draft_fault}
-use Rattle.book_spec.specs.BookBytes.{draft_of_bytes, book_fault, book}
-use Rattle.replay_core.specs.Calls.{Files}
-use Rattle.replay_core.specs.Loading.{BookHas, IsFront, HasFault}
-use Rattle.replay_core.proofs.BookFacts.{draft-short, book-front, book_fault-front, seals}
-use Rattle.replay_core.proofs.Files.{front-is, front-took, front-spent}
+use Rattle.book_spec.specs.BookBytes.{book_fault, book}
+use Rattle.book_model.specs.Sealed.{the_book}
+use Rattle.book_migration.specs.Migration.{IsMigration}
+use Rattle.view_spec.specs.Advisories.{Advisory}
+use Rattle.limits_spec.specs.LimitsBytes.{limits_fault, limits}
+use Rattle.limits_spec.specs.declared.form.LimitsFault.{LimitsFault}
+use Rattle.replay_core.specs.Calls.{Files, ShelfCall}
+use Rattle.replay_core.specs.Loading.{BookHas, IsFront, HasFault, IsBookFile}
+use Rattle.replay_core.specs.LimitsLoading.{LimitsHave, HasLimitsFault}
+use Rattle.replay_core.specs.Migrations.{IsMigrated, HasMigrated}
+use Rattle.replay_core.specs.declared.load.BookFile.{BookFile}
+use Rattle.replay_core.proofs.BookFacts.{book-short, book-front, book_fault-front, book-faultless}
+use Rattle.replay_core.proofs.LimitsFacts.{limits-front, limits_fault-front}
+use Rattle.replay_core.proofs.Files.{front-is, front-took, front-all, front-spent}
 
 -- ---- a book's file is read as far as a book may go, and that tells what the whole file is
 
-module _ (files : Files) (name v : Text) (left : Option Text) (read : FileHas files name (λ bytes. IsFront bytes v left)) where
-  pub file-refused : (f : BookFault) → book_fault v ≡ Some f → FileHas files name (λ bytes. HasFault bytes f left)
-  file-refused f is = FileHas-weaker files name (λ bytes. IsFront bytes v left) (λ bytes. HasFault bytes f left)
-      (λ bytes front. record { fault_is = sym (ap book_fault (front-is bytes v left front) ∙ book_fault-front bytes) ∙ is; took = front-took bytes v left front }) read
+module _ (s : ShelfCall) (name v : Text) (read : FileHas s.files name (λ bytes. IsFront 4194305 bytes v s.left)) where
+  pub file-refused : (f : BookFault) → book_fault v ≡ Some f → FileHas s.files name (λ bytes. HasFault bytes f s.left)
+  file-refused f is = FileHas-weaker s.files name (λ bytes. IsFront 4194305 bytes v s.left) (λ bytes. HasFault bytes f s.left)
+      (λ bytes front. record { fault_is = sym (ap book_fault (front-is 4194305 bytes v s.left front) ∙ book_fault-front bytes) ∙ is; took = front-took 4194305 bytes v s.left front }) read
 
-  pub file-sealed : (d : Draft) (b : Book) → draft_of_bytes v ≡ Some d → draft_fault d ≡ None → b ≡ book_of d → BookHas files name (λ x. (x ≡ b) × (left ≡ Some []))
-  file-sealed d b drafted faultless is = FileHas-weaker files name (λ bytes. IsFront bytes v left) (λ bytes. IsSomeAnd (book bytes) (λ x. (x ≡ b) × (left ≡ Some [])))
-      (λ bytes front. subst (λ o. IsSomeAnd o (λ x. (x ≡ b) × (left ≡ Some []))) (sym (seals v d drafted faultless) ∙ ap book (front-is bytes v left front) ∙ book-front bytes)
-      (sym is, front-spent bytes v left front (omega (arith, draft-short v d drafted)))) read
+  pub file-read : (f : BookFile) → v ≡ f.bytes.items → book v ≡ Some (the_book f.book) → FileHas s.files name (IsBookFile s name f)
+  file-read f held is =
+      let short = book-short v (the_book f.book) is in
+      FileHas-weaker s.files name (λ bytes. IsFront 4194305 bytes v s.left) (IsBookFile s name f)
+      (λ bytes front. record {
+        bytes_are = front-all 4194305 bytes v s.left front short ∙ held;
+        book_is = ap book (front-all 4194305 bytes v s.left front short) ∙ is;
+        spent = front-spent 4194305 bytes v s.left front short;
+      }) read
+
+-- ---- what is known of a file that is a book
+
+module _ (s : ShelfCall) (name : Text) (f : BookFile) (has : FileHas s.files name (IsBookFile s name f)) where
+  pub file-book : BookHas s.files name (λ b. (b ≡ the_book f.book) × (s.left ≡ Some []))
+  file-book = FileHas-weaker s.files name (IsBookFile s name f) (λ bytes. IsSomeAnd (book bytes) (λ b. (b ≡ the_book f.book) × (s.left ≡ Some [])))
+      (λ bytes is. subst (λ o. IsSomeAnd o (λ b. (b ≡ the_book f.book) × (s.left ≡ Some []))) (sym is.book_is) (refl, is.spent)) has
+
+  pub file-migrated : (text : Text) → IsMigration f.bytes.items text → FileHas s.files name (IsMigrated text s.left)
+  file-migrated text so = FileHas-weaker s.files name (IsBookFile s name f) (IsMigrated text s.left)
+      (λ bytes is. record {
+        faultless = book-faultless bytes (the_book f.book) is.book_is;
+        migration = subst (λ bytes. IsMigration bytes text) (sym is.bytes_are) so;
+        spent = is.spent;
+      }) has
+
+-- and then something of its text
+pub file-written : (files : Files) (name text : Text) (left : Option Text) (P : Text → Type 0) → FileHas files name (IsMigrated text left) → P text
+    → FileHas files name (HasMigrated P left)
+file-written files name text left P has so = FileHas-weaker files name (IsMigrated text left) (HasMigrated P left)
+    (λ bytes is. record { text = text; migrated = is; holds = so }) has
+
+-- ---- a limits file is read as far as it may go, too
+
+module _ (files : Files) (name v : Text) (left : Option Text) (read : FileHas files name (λ bytes. IsFront 65537 bytes v left)) (b : Book) where
+  pub limits-refused : (f : LimitsFault) → limits_fault b v ≡ Some f → FileHas files name (HasLimitsFault b f left)
+  limits-refused f is = FileHas-weaker files name (λ bytes. IsFront 65537 bytes v left) (HasLimitsFault b f left)
+      (λ bytes front. record {
+        fault_is = sym (ap (limits_fault b) (front-is 65537 bytes v left front) ∙ limits_fault-front b bytes) ∙ is;
+        took = front-took 65537 bytes v left front;
+      }) read
+
+  pub limits-read : (ls : List Advisory) → limits b v ≡ Some ls → LimitsHave files name b (λ x. x ≡ ls)
+  limits-read ls is = FileHas-weaker files name (λ bytes. IsFront 65537 bytes v left) (λ bytes. IsSomeAnd (limits b bytes) (λ x. x ≡ ls))
+      (λ bytes front. subst (λ o. IsSomeAnd o (λ x. x ≡ ls)) (sym is ∙ ap (limits b) (front-is 65537 bytes v left front) ∙ limits-front b bytes) refl) read

@@ -35,12 +35,15 @@ shelf_call g old new = record {
 abbrev pub HasFailed : ShelfCall → Type 0
 HasFailed s = Rose s.faults s.faults_now
 
--- `open` was called once, or twice
+-- `open` was called once, twice, or three times
 abbrev pub OpenedOne : ShelfCall → Type 0
 OpenedOne s = s.opens_now ≡ raised s.opens
 
 abbrev pub OpenedBoth : ShelfCall → Type 0
 OpenedBoth s = s.opens_now ≡ raised (raised s.opens)
+
+abbrev pub OpenedThree : ShelfCall → Type 0
+OpenedThree s = s.opens_now ≡ raised (raised (raised s.opens))
 
 -- Of a sink: what its states agree with, the states before the call and now, and its counts of
 -- faults.

@@ -3,6 +3,8 @@ pub mod Flagged
 pub mod Unaffected
 pub mod RecordLines
 pub mod Loading
+pub mod LimitsLoading
+pub mod Migrations
 pub mod Words
 pub mod Outcomes
 pub mod Play

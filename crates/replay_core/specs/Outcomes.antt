@@ -1,18 +1,24 @@
 -- What a command that ends so tells on standard error, and the number with which the program ends.
-use Rattle.std.specs.Prelude.{◌≡◌, ◌⊎◌, ℕ, [], codes, Result, Ok, Err}
+use Rattle.std.specs.Prelude.{◌≡◌, ◌⊎◌, ℕ, [], ◌++◌, codes, decimal, Result, Ok, Err}
 use Rattle.ecam_spec.specs.Book.{Text}
 use Rattle.ecam_spec.specs.Command.{usage}
-use Rattle.ecam_spec.specs.Complaint.{book_complaint, record_complaint}
+use Rattle.ecam_spec.specs.Complaint.{code_text, book_complaint, record_complaint}
 use Rattle.ecam_spec.specs.Output.{line}
 use Rattle.replay_core.specs.Calls.{SinkCall, Writes, WritesPart, HasFailedToWrite}
+use Rattle.limits_spec.specs.declared.form.LimitsFault.{LimitsFault}
 use Rattle.replay_core.specs.declared.load.Unready.{Unready}
 use Rattle.replay_core.specs.declared.load.Unready.TheVariants.{Refused, Unread, NoMemory}
+use Rattle.replay_core.specs.declared.load_limits.UnreadyLimits.{UnreadyLimits}
+use Rattle.replay_core.specs.declared.load_limits.UnreadyLimits.TheVariants as unready
 use Rattle.record_views.specs.declared.show.RunError.{RunError}
 use Rattle.record_views.specs.declared.show.RunError.TheVariants as runs
 use Rattle.replay_core.specs.declared.outcome.Status.{Status}
 use Rattle.replay_core.specs.declared.outcome.Status.TheVariants as statuses
 use Rattle.replay_core.specs.declared.outcome.Outcome.{Outcome}
 use Rattle.replay_core.specs.declared.outcome.Outcome.TheVariants as outcomes
+
+abbrev pub limits_complaint : LimitsFault → Text
+limits_complaint f = codes "limits: A" ++ code_text f.code ++ codes " item " ++ decimal f.item
 
 abbrev pub complaint : Outcome → Text
 complaint outcomes.Done = []
@@ -23,6 +29,7 @@ complaint outcomes.ReadFault = line (codes "read fault")
 complaint outcomes.WriteFault = line (codes "write fault")
 complaint outcomes.NoMemory = line (codes "no memory")
 complaint outcomes.NoSuch = line (codes "no such number")
+complaint (outcomes.LimitsRefused f) = line (limits_complaint f)
 
 abbrev pub status_of : Outcome → Status
 status_of outcomes.Done = statuses.Done
@@ -33,6 +40,7 @@ status_of outcomes.ReadFault = statuses.ReadFault
 status_of outcomes.WriteFault = statuses.WriteFault
 status_of outcomes.NoMemory = statuses.NoMemory
 status_of outcomes.NoSuch = statuses.NoSuch
+status_of (outcomes.LimitsRefused f) = statuses.LimitsRefused
 
 abbrev pub status_code : Status → ℕ
 status_code statuses.Done = 0
@@ -43,12 +51,19 @@ status_code statuses.ReadFault = 4
 status_code statuses.WriteFault = 5
 status_code statuses.NoMemory = 6
 status_code statuses.NoSuch = 7
+status_code statuses.LimitsRefused = 8
 
 -- how the program ends where no book stands ready
 abbrev pub outcome_of : Unready → Outcome
 outcome_of (Refused f) = outcomes.BookRefused f
 outcome_of Unread = outcomes.ReadFault
 outcome_of NoMemory = outcomes.NoMemory
+
+-- or no limits do
+abbrev pub limits_outcome_of : UnreadyLimits → Outcome
+limits_outcome_of (unready.Refused f) = outcomes.LimitsRefused f
+limits_outcome_of unready.Unread = outcomes.ReadFault
+limits_outcome_of unready.NoMemory = outcomes.NoMemory
 
 -- how it ends where a replay didn't reach the record's end
 abbrev pub refusal_of : RunError → Outcome

@@ -1,13 +1,15 @@
 -- How `why`, and commands that show a record, end that read it by a book: what is written, and how far the
 -- record was read.
-use Rattle.std.specs.Prelude.{◌≡◌, ℕ, true, [], ◌++◌, Option, Some, None, is_some}
+use Rattle.std.specs.Prelude.{◌≡◌, ℕ, true, List, [], ◌++◌, Option, Some, None, is_some}
 use Rattle.ecam_spec.specs.declared.kinds.RecordFault.{RecordFault}
 use Rattle.ecam_spec.specs.Book.{Text, Book}
 use Rattle.ecam_spec.specs.Record.{fault, events}
 use Rattle.ecam_spec.specs.Replay.{standing_lines}
 use Rattle.ecam_spec.specs.Command.{no_limit}
+use Rattle.view_spec.specs.Advisories.{Advisory}
 use Rattle.view_spec.specs.Places.{number_place}
-use Rattle.replay_core.specs.Calls.{SinkCall, Writes, WritesPart, WritesNothing}
+use Rattle.replay_core.specs.Calls.{Files, SinkCall, Writes, WritesPart, WritesNothing}
+use Rattle.replay_core.specs.LimitsLoading.{LimitsHave}
 use Rattle.replay_core.specs.Play.{ShowsInPart}
 use Rattle.record_views.specs.Showing.{Showing, output_of}
 use Rattle.record_views.specs.Runs.{TookNear, HasStopped}
@@ -60,6 +62,18 @@ numbered name e = record {
   refused = λ g b text left. HasNumber name b × e.refused g b text left;
   broken = λ b text left. HasNumber name b × e.broken b text left;
   stopped = λ b text left. HasNumber name b × e.stopped b text left;
+}
+
+-- ---- those of a command that goes by the limits of a file besides
+
+-- the file has limits by the book, and these are the endings under them
+abbrev pub under : Files → Text → (List Advisory → Endings) → Endings
+under files name e = record {
+  accepts = λ b. LimitsHave files name b (λ ls. (e ls).accepts b);
+  whole = λ b text left. LimitsHave files name b (λ ls. (e ls).whole b text left);
+  refused = λ g b text left. LimitsHave files name b (λ ls. (e ls).refused g b text left);
+  broken = λ b text left. LimitsHave files name b (λ ls. (e ls).broken b text left);
+  stopped = λ b text left. LimitsHave files name b (λ ls. (e ls).stopped b text left);
 }
 
 -- ---- the endings of `why`

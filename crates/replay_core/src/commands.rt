@@ -1,28 +1,29 @@
 // The commands of the program.
-ghost use Rattle.std.specs.Prelude.{◌≡◌, ◌≢◌, ◌≤◌, List, [], Some, map, string_bytes, OnOk, OnErr};
-ghost use Rattle.ecam_io.specs.Outside.{raised, Rose, Appended, AppendedPrefix};
+ghost use Rattle.std.specs.Prelude.{◌≡◌, ◌≢◌, ◌≤◌, List, Some, map, string_bytes, OnOk, OnErr};
+ghost use Rattle.ecam_io.specs.Outside.{Rose, Appended, AppendedPrefix};
 ghost use Rattle.ecam_spec.specs.declared.kinds.Event.{Event};
 ghost use Rattle.ecam_spec.specs.Book as plain;
 ghost use Rattle.ecam_spec.specs.Summary as spec;
 ghost use Rattle.book_model.specs.Sealed.{the_book};
-ghost use Rattle.fwc_pair.specs.PairState.{PairFits};
-ghost use Rattle.record_views.specs.Showing.{blocks_of, shown_by};
+ghost use Rattle.record_views.specs.Showing.{blocks_of};
 ghost use Rattle.replay_core.specs.Answers.{ByBook, ByRecord, ByNumber, Ends};
-ghost use Rattle.replay_core.specs.Play.{Shown};
 ghost use Rattle.replay_core.specs.Showings.{called_out, report_of, words_of};
 ghost use Rattle.replay_core.specs.ReadEndings.{showing, explaining};
 ghost use Rattle.replay_core.specs.Calls.{shelf_call, sink_call, HasFailed, HasFailedToWrite, Writes};
 ghost use Rattle.ecam_spec.specs.Command.{command_of, no_limit};
 ghost use Rattle.replay_core.specs.Decides.{Decides, DecidesUsage};
 ghost use Rattle.replay_core.specs.Headline.{Replays, all_changes};
-ghost use Rattle.replay_core.specs.Outcomes.{status_of, refusal_of, Complains};
+ghost use Rattle.replay_core.specs.Outcomes.{status_of, Complains};
 ghost use Rattle.replay_core.specs.declared.outcome.Outcome.{Outcome as Ending};
 
+use crate::advise::advise;
 use crate::changes::Changes;
 use crate::drill::drill;
-use crate::load::{Loaded, load, load_book};
+use crate::load::{give_up, load, load_book};
+use crate::migrate::migrate;
 use crate::outcome::{Outcome, Status};
 use crate::play::play;
+use crate::show::{refusal, show};
 use crate::silent::Silent;
 use crate::standings::put_standings;
 use crate::summary::summary;
@@ -32,8 +33,6 @@ use book_places::number_place;
 use callouts::Callouts;
 use ecam_io::{Discard, Failed, Shelf, Sink, put_all};
 use flight_report::Report;
-use fwc_pair::View;
-use record_views::RunError;
 use std::alloc::{AllocError, Global};
 use word_out::WordOut;
 
@@ -41,11 +40,14 @@ use word_out::WordOut;
 /// the program's name. `check BOOK` writes to `out` how much the file's book has. `replay BOOK RECORD [--limit N]`
 /// replays the record of the one file by the book of the other, and writes the blocks of changes. `why BOOK RECORD`
 /// replays it too, and writes where each alert stands at the record's end. `drill BOOK SEED MOMENTS` replays the
-/// record that is made of a seed and a number of moments, and writes how much the output has. `callouts BOOK RECORD NAME`
-/// writes the heights that the number parameter of that name comes down to in the record, `report BOOK RECORD` what
-/// occurred in each flight, and `words BOOK RECORD` the words that the computers send of themselves, as a record. Why the
-/// program ends otherwise than `Done` stands as one line on `err`. All memory is taken before the record is opened. `Done`
-/// comes only where none of the three counted a fault in this call.
+/// record that is made of a seed and a number of moments, and writes how much the output has. `migrate BOOK` writes the
+/// book again as one of version 2 that says the same; all its text is made before any of it is written. `callouts BOOK
+/// RECORD NAME` writes the heights that the number parameter of that name comes down to in the record, `advise BOOK RECORD
+/// LIMITS` which values drift out of the ranges of a file of limits and which page the first of them calls, `report BOOK
+/// RECORD` what occurred in each flight, and `words BOOK RECORD` the words that the computers send of themselves, as a
+/// record. Files are opened in the order book, limits, record, each once those before it have no fault. Why the program
+/// ends otherwise than `Done` stands as one line on `err`. All memory is taken before the record is opened. `Done` comes
+/// only where none of the three counted a fault in this call.
 pub fn ecam<F: Shelf, O: Sink, E: Sink>(
     alloc: Global,
     words: &[String],
@@ -111,6 +113,7 @@ fn answer<F: Shelf, O: Sink>(alloc: Global, words: &[String], files: &mut F, out
                 moments,
             },
         ) => drill(alloc, book, seed, moments, files, out),
+        Some(Command::Migrate { book }) => migrate(alloc, book, files, out),
         Some(
             Command::Callouts {
                 book,
@@ -118,6 +121,13 @@ fn answer<F: Shelf, O: Sink>(alloc: Global, words: &[String], files: &mut F, out
                 parameter,
             },
         ) => call_out_files(alloc, book, record, parameter, files, out),
+        Some(
+            Command::Advise {
+                book,
+                record,
+                limits,
+            },
+        ) => advise(alloc, book, record, limits, files, out),
         Some(Command::Report { book, record }) => report_files(alloc, book, record, files, out),
         Some(Command::Words { book, record }) => tell_words(alloc, book, record, files, out),
         None => Outcome::Usage,
@@ -136,7 +146,7 @@ fn check_file<F: Shelf, O: Sink>(alloc: Global, name: &str, files: &mut F, out: 
     ensures out_quiet { result ≢ Outcome.WriteFault → O.faults out.new ≡ O.faults out.old }
 {
     match load_book(alloc, files, name) {
-        Ok(book) => match put_summary(&book, out) {
+        Ok(book) => match put_summary(book, out) {
             Ok(()) => Outcome::Done,
             Err(Failed) => Outcome::WriteFault,
         },
@@ -144,58 +154,17 @@ fn check_file<F: Shelf, O: Sink>(alloc: Global, name: &str, files: &mut F, out: 
     }
 }
 
-// Writes how much a book has.
-fn put_summary<O: Sink>(book: &Book, out: &mut O) -> Result<(), Failed>
+// Writes how much a book has, and gives up the book.
+fn put_summary<O: Sink>(book: Book, out: &mut O) -> Result<(), Failed>
     ensures all { OnOk result (Appended O.agrees out.old out.new
-        (spec.summary (the_book book.now))) }
+        (spec.summary (the_book book))) }
     ensures prefix { OnErr result (AppendedPrefix O.agrees out.old out.new
-        (spec.summary (the_book book.now))) }
+        (spec.summary (the_book book))) }
     ensures faults { O.faults out.old ≤ O.faults out.new }
     ensures quiet { OnOk result (O.faults out.new ≡ O.faults out.old) }
     ensures cause { OnErr result (Rose (O.faults out.old) (O.faults out.new)) }
 {
-    put_all(out, summary(book).as_slice())
-}
-
-// How the program ends whose replay didn't reach the record's end.
-fn refusal(error: RunError) -> Outcome
-    ensures { result ≡ refusal_of error }
-{
-    match error {
-        RunError::Read => Outcome::ReadFault,
-        RunError::Write => Outcome::WriteFault,
-        RunError::Record(fault) => Outcome::RecordRefused(fault),
-    }
-}
-
-// Shows a file by a loaded book and a new view.
-fn show<V: View, F: Shelf, O: Sink>(
-    loaded: &mut Loaded,
-    view: &mut V,
-    record_name: &str,
-    limit: u32,
-    files: &mut F,
-    out: &mut O,
-) -> Outcome
-    requires pair { PairFits (the_book loaded.old.book) loaded.old.pair }
-    requires fits { V.fits (V.settings view.old) (the_book loaded.old.book) }
-    requires new { V.stands view.old (the_book loaded.old.book) [] }
-    ensures shows { Shown (shelf_call F.Source files.old files.new)
-        (sink_call O.Sink out.old out.new)
-        (the_book loaded.old.book)
-        (shown_by V.View (V.settings view.old) (the_book loaded.old.book))
-        record_name.now limit result }
-    ensures opens { F.opens files.new ≡ raised (F.opens files.old) }
-    ensures files { F.files files.new ≡ F.files files.old }
-    ensures faults { F.faults files.old ≤ F.faults files.new }
-    ensures quiet { result ≢ Outcome.ReadFault → F.faults files.new ≡ F.faults files.old }
-    ensures out_faults { O.faults out.old ≤ O.faults out.new }
-    ensures out_quiet { result ≢ Outcome.WriteFault → O.faults out.new ≡ O.faults out.old }
-{
-    match play(loaded, view, record_name, limit, files, out) {
-        Ok(_) => Outcome::Done,
-        Err(error) => refusal(error),
-    }
+    put_all(out, summary(&book).as_slice())
 }
 
 // Replays one file by the book of another, and writes the blocks of changes.
@@ -218,9 +187,9 @@ fn replay_files<F: Shelf, O: Sink>(
     ensures out_quiet { result ≢ Outcome.WriteFault → O.faults out.new ≡ O.faults out.old }
 {
     match load(alloc, files, book_name) {
-        Ok(mut loaded) => {
+        Ok(loaded) => {
             let mut changes = Changes::new();
-            show(&mut loaded, &mut changes, record_name, limit, files, out)
+            show(loaded, &mut changes, record_name, limit, files, out)
         }
         Err(unready) => unready.outcome(),
     }
@@ -246,12 +215,15 @@ fn call_out_files<F: Shelf, O: Sink>(
     ensures out_quiet { result ≢ Outcome.WriteFault → O.faults out.new ≡ O.faults out.old }
 {
     match load(alloc, files, book_name) {
-        Ok(mut loaded) => match number_place(&loaded.book, parameter) {
+        Ok(loaded) => match number_place(&loaded.book, parameter) {
             Some(param) => {
                 let mut calls = Callouts::new(param);
-                show(&mut loaded, &mut calls, record_name, u32::MAX, files, out)
+                show(loaded, &mut calls, record_name, u32::MAX, files, out)
             }
-            None => Outcome::NoSuch,
+            None => {
+                give_up(loaded);
+                Outcome::NoSuch
+            }
         },
         Err(unready) => unready.outcome(),
     }
@@ -285,11 +257,14 @@ fn explain_files<F: Shelf, O: Sink>(
                 files,
                 &mut dropped,
             ) {
-                Ok(_) => match put_standings(&loaded, out) {
+                Ok(_) => match put_standings(loaded, out) {
                     Ok(()) => Outcome::Done,
                     Err(Failed) => Outcome::WriteFault,
                 },
-                Err(error) => refusal(error),
+                Err(error) => {
+                    give_up(loaded);
+                    refusal(error)
+                }
             }
         }
         Err(unready) => unready.outcome(),
@@ -315,9 +290,12 @@ fn report_files<F: Shelf, O: Sink>(
     ensures out_quiet { result ≢ Outcome.WriteFault → O.faults out.new ≡ O.faults out.old }
 {
     match load(alloc, files, book_name) {
-        Ok(mut loaded) => match Report::new(alloc, &loaded.book) {
-            Ok(mut report) => show(&mut loaded, &mut report, record_name, u32::MAX, files, out),
-            Err(AllocError) => Outcome::NoMemory,
+        Ok(loaded) => match Report::new(alloc, &loaded.book) {
+            Ok(mut report) => show(loaded, &mut report, record_name, u32::MAX, files, out),
+            Err(AllocError) => {
+                give_up(loaded);
+                Outcome::NoMemory
+            }
         },
         Err(unready) => unready.outcome(),
     }
@@ -342,9 +320,12 @@ fn tell_words<F: Shelf, O: Sink>(
     ensures out_quiet { result ≢ Outcome.WriteFault → O.faults out.new ≡ O.faults out.old }
 {
     match load(alloc, files, book_name) {
-        Ok(mut loaded) => match WordOut::new(alloc, &loaded.book) {
-            Ok(mut words) => show(&mut loaded, &mut words, record_name, u32::MAX, files, out),
-            Err(AllocError) => Outcome::NoMemory,
+        Ok(loaded) => match WordOut::new(alloc, &loaded.book) {
+            Ok(mut words) => show(loaded, &mut words, record_name, u32::MAX, files, out),
+            Err(AllocError) => {
+                give_up(loaded);
+                Outcome::NoMemory
+            }
         },
         Err(unready) => unready.outcome(),
     }

@@ -3,6 +3,7 @@ ghost use Rattle.std.specs.Prelude.{◌≡◌, ◌≢◌, ◌≤◌, ◌+◌, �
 ghost use Rattle.ecam_io.specs.Outside.{Rose, Appended, AppendedPrefix};
 ghost use Rattle.ecam_io.specs.Tally.{IsTallyOf};
 ghost use Rattle.ecam_spec.specs.Book.{Text};
+ghost use Rattle.ecam_spec.specs.Command.{no_limit};
 ghost use Rattle.ecam_spec.specs.Replay.{reply};
 ghost use Rattle.book_model.specs.Sealed.{the_book};
 ghost use Rattle.fwc_pair.specs.PairState.{PairFits};
@@ -12,7 +13,7 @@ ghost use Rattle.replay_core.specs.Calls.{shelf_call, sink_call};
 ghost use Rattle.replay_core.specs.Drill.{counts_line, drill_line};
 
 use crate::block::put;
-use crate::load::{Loaded, load};
+use crate::load::{Loaded, give_up, load};
 use crate::outcome::Outcome;
 use crate::replay::run;
 use arrayvec::ArrayVec;
@@ -48,11 +49,12 @@ fn counts(moments: u64, tally: &Tally) -> Counts
     line
 }
 
-// The tally of what a replay of the made record writes. The record has no fault, and neither it nor the tally fails.
-fn replay_made(loaded: &mut Loaded, seed: u64, moments: u32) -> Tally
-    requires fits { PairFits (the_book loaded.old.book) loaded.old.pair }
+// The tally of what a replay of the made record writes. The record has no fault, and neither it nor the tally fails. It
+// gives up the book.
+fn replay_made(mut loaded: Loaded, seed: u64, moments: u32) -> Tally
+    requires fits { PairFits (the_book loaded.book) loaded.pair }
     requires moments { moments ≤ 1000000 }
-    ensures { IsTallyOf result (reply (the_book loaded.old.book) (made seed moments) 4294967295) }
+    ensures { IsTallyOf result (reply (the_book loaded.book) (made seed moments) no_limit) }
 {
     let mut maker = Maker::new(seed, moments);
     let mut tally = Tally::new();
@@ -63,6 +65,7 @@ fn replay_made(loaded: &mut Loaded, seed: u64, moments: u32) -> Tally
         &mut maker,
         &mut tally,
     );
+    give_up(loaded);
     tally
 }
 
@@ -87,8 +90,8 @@ pub(crate) fn drill<F: Shelf, O: Sink>(
     ensures out_quiet { result ≢ Outcome.WriteFault → O.faults out.new ≡ O.faults out.old }
 {
     match load(alloc, files, book_name) {
-        Ok(mut loaded) => {
-            let tally = replay_made(&mut loaded, seed, moments);
+        Ok(loaded) => {
+            let tally = replay_made(loaded, seed, moments);
             match put_counts(moments as u64, &tally, out) {
                 Ok(()) => Outcome::Done,
                 Err(Failed) => Outcome::WriteFault,

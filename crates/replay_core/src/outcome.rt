@@ -2,13 +2,14 @@
 ghost use Rattle.std.specs.Prelude.{◌≡◌, ◌≤◌, ◌<◌, ◌+◌, ◌++◌, length, codes, decimal};
 ghost use Rattle.ecam_spec.specs.Complaint.{section_word, kind_word, code_text, book_complaint, record_complaint};
 ghost use Rattle.replay_core.specs.Calls.{sink_call};
-ghost use Rattle.replay_core.specs.Outcomes.{complaint, status_of, status_code, Complains};
+ghost use Rattle.replay_core.specs.Outcomes.{complaint, limits_complaint, status_of, status_code, Complains};
 
 use crate::block::put;
 use arrayvec::ArrayVec;
 use ecam_io::{Sink, put_all};
 use ecam_spec::{BookFault, FaultKind, RecordFault, Section};
 use itoa::Buffer;
+use limits_spec::LimitsFault;
 
 /// How the program ends.
 #[derive(Clone, Copy, Debug, PartialEq, Eq)]
@@ -29,10 +30,12 @@ pub enum Status {
     NoMemory,
     /// The book has no number parameter of that name.
     NoSuch,
+    /// The limits file has a fault.
+    LimitsRefused,
 }
 
 impl Status {
-    /// The number with which the program ends, 0 to 7.
+    /// The number with which the program ends, 0 to 8.
     pub fn code(self) -> u8
         ensures { result ≡ status_code self }
     {
@@ -45,6 +48,7 @@ impl Status {
             Status::WriteFault => 5,
             Status::NoMemory => 6,
             Status::NoSuch => 7,
+            Status::LimitsRefused => 8,
         }
     }
 }
@@ -60,6 +64,7 @@ pub(crate) enum Outcome {
     WriteFault,
     NoMemory,
     NoSuch,
+    LimitsRefused(LimitsFault),
 }
 
 // The longest line has fewer bytes.
@@ -78,6 +83,7 @@ impl Outcome {
             Outcome::WriteFault => Status::WriteFault,
             Outcome::NoMemory => Status::NoMemory,
             Outcome::NoSuch => Status::NoSuch,
+            Outcome::LimitsRefused(_) => Status::LimitsRefused,
         }
     }
 
@@ -97,7 +103,7 @@ impl Outcome {
         match self {
             Outcome::Done => ArrayVec::new(),
             Outcome::Usage => text_line(
-                "usage: check BOOK | replay BOOK RECORD [--limit N] | why BOOK RECORD | drill BOOK SEED MOMENTS | callouts BOOK RECORD NAME | report BOOK RECORD | words BOOK RECORD",
+                "usage: check BOOK | replay BOOK RECORD [--limit N] | why BOOK RECORD | drill BOOK SEED MOMENTS | migrate BOOK | callouts BOOK RECORD NAME | advise BOOK RECORD LIMITS | report BOOK RECORD | words BOOK RECORD",
             ),
             Outcome::BookRefused(fault) => book_line(fault),
             Outcome::RecordRefused(fault) => record_line(fault),
@@ -105,6 +111,7 @@ impl Outcome {
             Outcome::WriteFault => text_line("write fault"),
             Outcome::NoMemory => text_line("no memory"),
             Outcome::NoSuch => text_line("no such number"),
+            Outcome::LimitsRefused(fault) => limits_line(fault),
         }
     }
 }
@@ -186,6 +193,19 @@ fn record_line(fault: RecordFault) -> Complaint
     put(&mut line, kind_word(fault.kind).as_bytes());
     put(&mut line, b" line ");
     put(&mut line, buffer.format(fault.line).as_bytes());
+    put(&mut line, b"\n");
+    line
+}
+
+fn limits_line(fault: LimitsFault) -> Complaint
+    ensures { result.items ≡ limits_complaint fault ++ codes "\n" }
+{
+    let mut line = ArrayVec::new();
+    let mut buffer = Buffer::new();
+    put(&mut line, b"limits: A");
+    put_code(&mut line, fault.code);
+    put(&mut line, b" item ");
+    put(&mut line, buffer.format(fault.item).as_bytes());
     put(&mut line, b"\n");
     line
 }

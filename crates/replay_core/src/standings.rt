@@ -10,7 +10,7 @@ ghost use Rattle.book_model.specs.Sealed.{the_book};
 ghost use Rattle.fwc_pair.specs.PairState.{PairFits, PairStands};
 
 use crate::block::put;
-use crate::load::Loaded;
+use crate::load::{Loaded, give_up};
 use arrayvec::ArrayVec;
 use book_model::Book;
 use ecam_io::{Failed, Sink, put_all};
@@ -72,20 +72,22 @@ fn standing_line(book: &Book, alert: usize, standing: Standing) -> Line
     line
 }
 
-// Writes where each alert stands, an alert a line in the book's order.
-pub(crate) fn put_standings<O: Sink>(loaded: &Loaded, out: &mut O) -> Result<(), Failed>
-    requires { PairFits (the_book loaded.now.book) loaded.now.pair }
-    ensures all { (h : List Event) → PairStands (the_book loaded.now.book) h loaded.now.pair
+// Writes where each alert stands, an alert a line in the book's order, and gives up the book.
+pub(crate) fn put_standings<O: Sink>(loaded: Loaded, out: &mut O) -> Result<(), Failed>
+    requires { PairFits (the_book loaded.book) loaded.pair }
+    ensures all { (h : List Event) → PairStands (the_book loaded.book) h loaded.pair
         → OnOk result (Appended O.agrees out.old out.new
-        (replay.standing_lines (the_book loaded.now.book) h)) }
-    ensures prefix { (h : List Event) → PairStands (the_book loaded.now.book) h loaded.now.pair
+        (replay.standing_lines (the_book loaded.book) h)) }
+    ensures prefix { (h : List Event) → PairStands (the_book loaded.book) h loaded.pair
         → OnErr result (AppendedPrefix O.agrees out.old out.new
-        (replay.standing_lines (the_book loaded.now.book) h)) }
+        (replay.standing_lines (the_book loaded.book) h)) }
     ensures faults { O.faults out.old ≤ O.faults out.new }
     ensures quiet { OnOk result (O.faults out.new ≡ O.faults out.old) }
     ensures cause { OnErr result (Rose (O.faults out.old) (O.faults out.new)) }
 {
-    put_lines(&loaded.book, &loaded.pair, out)
+    let written = put_lines(&loaded.book, &loaded.pair, out);
+    give_up(loaded);
+    written
 }
 
 fn put_lines<O: Sink>(book: &Book, pair: &Pair, out: &mut O) -> Result<(), Failed>

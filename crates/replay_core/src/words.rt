@@ -22,10 +22,18 @@ pub(crate) enum Command<'a> {
         seed: u64,
         moments: u32,
     },
+    Migrate {
+        book: &'a str,
+    },
     Callouts {
         book: &'a str,
         record: &'a str,
         parameter: &'a str,
+    },
+    Advise {
+        book: &'a str,
+        record: &'a str,
+        limits: &'a str,
     },
     Report {
         book: &'a str,
@@ -74,10 +82,12 @@ fn parse_two<'a>(form: &str, book: &'a str) -> Option<Command<'a>>
     ensures short { IfSome result IsShort }
 {
     if form == "check" {
-        Some(Command::Check { book })
-    } else {
-        None
+        return Some(Command::Check { book });
     }
+    if form == "migrate" {
+        return Some(Command::Migrate { book });
+    }
+    None
 }
 
 fn parse_three<'a>(form: &str, book: &'a str, record_name: &'a str) -> Option<Command<'a>>
@@ -124,6 +134,13 @@ fn parse_four<'a>(form: &str, book: &'a str, second: &'a str, third: &'a str) ->
             book,
             record: second,
             parameter: third,
+        });
+    }
+    if form == "advise" {
+        return Some(Command::Advise {
+            book,
+            record: second,
+            limits: third,
         });
     }
     None

@@ -14,10 +14,10 @@ const RECORD: &str = "W 0 0000041d\nT\nE\n";
 const WHOLE: &str = "@0\nL1 A HYD G RSVR LO LVL\nEND 1\n";
 
 // A failure with its procedure and its secondary.
-const FAILURE: &str =
+pub(crate) const FAILURE: &str =
     "W 1 6bb80003\nT\nW 0 0000041d\nT\nW 1 e0000003\nT\nW 0 80000c1d\nT\nP CLR\nT\nP STS\nT\nP RCL\nT\nE\n";
 
-const FAILURE_SHOWN: &str =
+pub(crate) const FAILURE_SHOWN: &str =
     "@1\nL1 A HYD G RSVR LO LVL\nL2 C -G ENG 1 PUMP.....OFF\nFL W STS\nS01 W HYD\nS02 G GREEN PRESS                 3000 PSI\nMC A MASTER CAUT\nAU W SC\n@2\nR1 A *HYD\nS02 G GREEN PRESS                    0 PSI\n@3\nL2 -\n@4\nL1 -\nS01 -\nS02 -\nMC -\nAU -\n@5\nS01 A GREEN HYD\n@6\nL1 A HYD G RSVR LO LVL\nMC A MASTER CAUT\nEND 7\n";
 
 // How `replay` ends, what it writes, and what it tells.

@@ -51,6 +51,7 @@ fn a_write_fails(rt: HostRuntime) -> Result<(), Fail> {
         (" why book record", "g_"),
         (" drill book 1 1", "mo"),
         (" check book", "OK"),
+        (" migrate book", "sy"),
     ] {
         let files = two_files(rt.alloc(), ADVISORY, RECORD)?;
         does(
@@ -90,6 +91,8 @@ fn a_file_is_not_read(rt: HostRuntime) -> Result<(), Fail> {
         " why book record",
         " drill book 1 1",
         " check book",
+        " migrate book",
+        " advise book record limits",
     ] {
         let files = two_files(rt.alloc(), ADVISORY, RECORD)?;
         does(
@@ -108,6 +111,9 @@ fn a_file_is_not_read(rt: HostRuntime) -> Result<(), Fail> {
         " why book other",
         " drill other 1 1",
         " check other",
+        " migrate other",
+        " advise other record limits",
+        " advise book record other",
     ] {
         let files = two_files(rt.alloc(), ADVISORY, RECORD)?;
         does(&rt, rt.alloc(), words, files, sound(), UNREAD)?;
@@ -118,7 +124,7 @@ fn a_file_is_not_read(rt: HostRuntime) -> Result<(), Fail> {
 #[test]
 fn words_without_a_form(rt: HostRuntime) -> Result<(), Fail> {
     let usage =
-        "usage: check BOOK | replay BOOK RECORD [--limit N] | why BOOK RECORD | drill BOOK SEED MOMENTS | callouts BOOK RECORD NAME | report BOOK RECORD | words BOOK RECORD\n";
+        "usage: check BOOK | replay BOOK RECORD [--limit N] | why BOOK RECORD | drill BOOK SEED MOMENTS | migrate BOOK | callouts BOOK RECORD NAME | advise BOOK RECORD LIMITS | report BOOK RECORD | words BOOK RECORD\n";
     for words in [
         "",
         " replay",
@@ -144,6 +150,10 @@ fn words_without_a_form(rt: HostRuntime) -> Result<(), Fail> {
         " drill book 1 00000001",
         " drill book +1 1",
         " drill book 1 -1",
+        " migrate",
+        " migrate book book",
+        " advise book record",
+        " advise book record limits limits",
     ] {
         let files = two_files(rt.alloc(), ADVISORY, "E\n")?;
         does(

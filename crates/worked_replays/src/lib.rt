@@ -3,6 +3,8 @@
 #![tactic(auto)]
 
 #[cfg(test)]
+mod advised;
+#[cfg(test)]
 mod books;
 #[cfg(test)]
 mod checks;
@@ -14,6 +16,8 @@ mod failures;
 mod faults;
 #[cfg(test)]
 mod limits;
+#[cfg(test)]
+mod migrated;
 #[cfg(test)]
 mod named;
 #[cfg(test)]

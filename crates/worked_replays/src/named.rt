@@ -6,21 +6,26 @@ use std::alloc::{AllocError, Global};
 use std::test::Fail;
 
 // The advisory by a condition that waits for two moments and has a name.
-const NAMED: &str = "version = 2\nsystems = [\"HYD\"]\n\
+pub(crate) const NAMED: &str = "version = 2\nsystems = [\"HYD\"]\n\
 [[param]]\nname = \"g_lo\"\nkind = \"disc\"\nstale = 600\nsource = [{ bus = 0, label = \"270\", bit = 11 }]\n\
 [[term]]\nname = \"low\"\nwhen = \"conf(g_lo, 2)\"\n\
 [[alert]]\nname = \"g_rsvr\"\ntitle = \"HYD G RSVR LO LVL\"\nsystem = \"HYD\"\nlevel = 1\nwhen = \"low\"\n";
 
-// The same with another text in the place of one.
-fn edited(alloc: Global, old: &str, new: &str) -> Result<String, AllocError> {
-    let mut book = String::new(alloc);
-    for (i, part) in NAMED.split(old).enumerate() {
+// A text with another part in the place of one.
+pub(crate) fn edited(
+    alloc: Global,
+    text: &str,
+    old: &str,
+    new: &str,
+) -> Result<String, AllocError> {
+    let mut edited = String::new(alloc);
+    for (i, part) in text.split(old).enumerate() {
         if i > 0 {
-            book.push_str(new)?;
+            edited.push_str(new)?;
         }
-        book.push_str(part)?;
+        edited.push_str(part)?;
     }
-    Ok(book)
+    Ok(edited)
 }
 
 // What stands in the place of what, and what is told of it.
@@ -48,7 +53,7 @@ fn a_condition_has_a_name(rt: HostRuntime) -> Result<(), Fail> {
         (Status::Done, shown, ""),
     )?;
     for (old, new, line) in FAULTS {
-        let book = edited(alloc, old, new)?;
+        let book = edited(alloc, NAMED, old, new)?;
         checks(&rt, alloc, book.as_bytes(), (Status::BookRefused, "", line))?;
     }
     Ok(())

@@ -13,9 +13,9 @@ returns-in-Ok-put_counts-clause-drills g c =
     book-told (shelf_call g.F.Source c.args.files.now c.load.new.files) (sink_call g.O.Sink c.args.out.now c.put_counts.new.out) c.args.book_name.now c.in-Ok.ensures.opens b
     c.in-Ok.ensures.readies.book (drill_line c.args.seed c.args.moments) (c.in-Ok-put_counts.ensures.all (reply b (made c.args.seed c.args.moments) 4294967295) c.replay_made-tally.ensures)
 
-pub returns-in-Ok-clause-drills : goal.returns-in-Ok-clause-drills
+pub returns-in-Err-put_counts-clause-drills : goal.returns-in-Err-put_counts-clause-drills
 unfolding drill_line
-returns-in-Ok-clause-drills g c =
+returns-in-Err-put_counts-clause-drills g c =
     let b = the_book c.in-Ok.loaded.book in
     book-untold (shelf_call g.F.Source c.args.files.now c.load.new.files) (sink_call g.O.Sink c.args.out.now c.put_counts.new.out) c.args.book_name.now c.in-Ok.ensures.opens b
     c.in-Ok.ensures.readies.book (drill_line c.args.seed c.args.moments) c.in-Err-put_counts.ensures.cause

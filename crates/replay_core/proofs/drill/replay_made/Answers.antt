@@ -4,5 +4,5 @@ use Rattle.replay_core.proofs.drill.replay_made.Goals as goal
 
 pub returns : goal.returns
 returns c =
-    tallied (the_book c.args.loaded.now.book) c.run.new.pair c.args.seed c.args.moments c.requires.moments c.new-tally.result c.run.new.out c.new-tally.ensures.none
+    tallied (the_book c.args.loaded.book) c.run.new.pair c.args.seed c.args.moments c.requires.moments c.new-tally.result c.run.new.out c.new-tally.ensures.none
     _ _ c.new-maker.ensures.left c.run.result c.run.ensures.runs c.run.ensures.read c.run.ensures.write

@@ -6,7 +6,7 @@ use Rattle.replay_core.proofs.file.read_up_to.Given as goal
 abbrev pub invariant-loop-piece : goal.invariant-loop-piece
 invariant-loop-piece g l = record {
   came : Consumes (g.S.Source.left l.initial.source) (g.S.Source.left l.source) l.bytes.items;
-  few : length l.bytes.items ≤ 4194305;
+  few : length l.bytes.items ≤ l.most;
   is_open : g.S.Source.is_open l.source ≡ g.S.Source.is_open l.initial.source;
   files : g.S.Source.files l.source ≡ g.S.Source.files l.initial.source;
   opens : g.S.Source.opens l.source ≡ g.S.Source.opens l.initial.source;
@@ -14,4 +14,4 @@ invariant-loop-piece g l = record {
 }
 
 abbrev pub decreases-loop-piece : goal.decreases-loop-piece
-decreases-loop-piece g l = 4194305 - length l.bytes.items
+decreases-loop-piece g l = l.most - length l.bytes.items

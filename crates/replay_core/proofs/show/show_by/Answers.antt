@@ -5,7 +5,7 @@ use Rattle.replay_core.specs.Calls.{shelf_call, sink_call}
 use Rattle.replay_core.specs.declared.outcome.Outcome.TheVariants as outcomes
 use Rattle.record_views.specs.declared.show.RunError.TheVariants as runs
 use Rattle.replay_core.proofs.Causes.{shown-whole, shown-in-part, not-refused}
-use Rattle.replay_core.proofs.commands.show.Goals as goal
+use Rattle.replay_core.proofs.show.show_by.Goals as goal
 
 pub returns-in-Ok-clause-shows : goal.returns-in-Ok-clause-shows
 returns-in-Ok-clause-shows g c =
