@@ -2,6 +2,7 @@
 use Rattle.std.proofs.Common.{◌≡◌, ℕ, Result, IfOk, Bool, true, false, ◌||◌, List, [], ◌∷◌, refl, ap, sym, ◌∙◌, arith}
 use Rattle.std.specs.List.{list_any}
 use Rattle.std.proofs.lemmas.List.Folds.{list_any-append}
+use Rattle.std.proofs.lemmas.Bool.{or_parts}
 use Rattle.std.proofs.lemmas.Result.{IfOk-weaker}
 use Rattle.toml.specs.Data.{Data, Members, get_member}
 use Rattle.ecam_spec.specs.TermText.{Outcome, syntax_error, unknown, number_error, too_deep, too_large, means}
@@ -15,9 +16,10 @@ use Rattle.book_spec.specs.declared.schema.Rule.{Rule}
 use Rattle.book_spec.specs.declared.schema.Rule.TheVariants as rules
 use Rattle.book_spec.proofs.KeyFacts.{none_so}
 use Rattle.book_faults.specs.declared.rules.Asked.{Asked}
-use Rattle.book_faults.specs.declared.rules.Asked.TheVariants.{One, Every}
-use Rattle.book_faults.specs.Asked.{any_asked, every_rule, unread_rules, read_rules, keys_fail, list_fails, leaf_fails, inner_fails, shape_fails}
+use Rattle.book_faults.specs.declared.rules.Asked.TheVariants.{One, Every, Unread}
+use Rattle.book_faults.specs.Asked.{any_asked, every_rule, rules_but_read, unread_rules, read_rules, keys_fail, list_fails, leaf_fails, inner_fails, shape_fails}
 use Rattle.book_faults.specs.Refused.{refuses}
+use Rattle.book_faults.proofs.ReadRules.{never_any, ReadRule, spelled, found, small, measured, rule_of}
 
 -- ---- tests on the elements of lists
 
@@ -31,23 +33,24 @@ any_or : {X : Type 0} (p q : X → Bool) (xs : List X) → list_any (λ x. p x |
 any_or p q [] = refl
 any_or p q (x ∷ xs) = ap (λ b. (p x || q x) || b) (any_or p q xs) ∙ or_shuffle (p x) (q x) (list_any p xs) (list_any q xs)
 
-never : {X : Type 0} (xs : List X) → list_any (λ (x : X). false) xs ≡ false
-never [] = refl
-never (x ∷ xs) = never xs
-
 -- the elements of two lists may be gone through in either order
 either_order : {A X : Type 0} (q : A → X → Bool) (rs : List A) (xs : List X) → list_any (λ r. list_any (q r) xs) rs ≡ list_any (λ x. list_any (λ r. q r x) rs) xs
-either_order q [] xs = sym (never xs)
+either_order q [] xs = sym (never_any xs)
 either_order q (r ∷ rs) xs =
     ap (λ b. list_any (q r) xs || b) (either_order q rs xs) ∙ sym (any_or (q r) (λ x. list_any (λ s. q s x) rs) xs)
 
 -- ---- what is asked for
 
 -- what breaks a rule by itself, and what does among several
+each_or : {X : Type 0} (p : Rule → Bool) (q : Rule → X → Bool) (rs : List Rule) (xs : List X)
+    → list_any (λ rule. p rule || list_any (q rule) xs) rs ≡ (list_any p rs || list_any (λ x. list_any (λ rule. q rule x) rs) xs)
+each_or p q rs xs = any_or p (λ rule. list_any (q rule) xs) rs ∙ ap (λ b. list_any p rs || b) (either_order q rs xs)
+
 asked_or : {X : Type 0} (asked : Asked) (p : Rule → Bool) (q : Rule → X → Bool) (xs : List X)
     → any_asked asked (λ rule. p rule || list_any (q rule) xs) ≡ (any_asked asked p || list_any (λ x. any_asked asked (λ rule. q rule x)) xs)
 asked_or (One rule) p q xs = refl
-asked_or Every p q xs = any_or p (λ rule. list_any (q rule) xs) every_rule ∙ ap (λ b. list_any p every_rule || b) (either_order q every_rule xs)
+asked_or Every p q xs = each_or p q every_rule xs
+asked_or Unread p q xs = each_or p q rules_but_read xs
 
 -- the keys of a table, and what they hold
 pub keys_or_values : {S : Type 0} (asked : Asked) (breaks : Rule → S → Data → Bool) (keys : List (Key S)) (table : Members)
@@ -68,26 +71,43 @@ pub of_both : {E : Type 0} (result : Result Bool E) (both first second : Bool) �
     → IfOk result (λ b. b ≡ second) → IfOk result (λ b. b ≡ both)
 of_both result both first second is none = IfOk-weaker result (λ b. b ≡ second) (λ b. b ≡ both) (λ b h. h ∙ sym (is ∙ ap (λ u. u || second) none))
 
+-- where none of those is broken for which no condition is read, nor one of the others, none is
+module _ (is_so : Rule → Bool) (none : list_any is_so rules_but_read ≡ false) (read : (r : ReadRule) → is_so (rule_of r) ≡ false) where
+  pub not_any : (rule : Rule) → is_so rule ≡ false
+  not_any rules.Known = none_so is_so rules_but_read none 0 rules.Known (omega arith)
+  not_any rules.Needed = none_so is_so rules_but_read none 1 rules.Known (omega arith)
+  not_any rules.Typed = none_so is_so rules_but_read none 2 rules.Known (omega arith)
+  not_any rules.Named = none_so is_so rules_but_read none 3 rules.Known (omega arith)
+  not_any rules.Written = none_so is_so rules_but_read none 4 rules.Known (omega arith)
+  not_any rules.Ranged = none_so is_so rules_but_read none 5 rules.Known (omega arith)
+  not_any rules.Counted = none_so is_so rules_but_read none 6 rules.Known (omega arith)
+  not_any rules.Worded = none_so is_so rules_but_read none 7 rules.Known (omega arith)
+  not_any rules.Labelled = none_so is_so rules_but_read none 8 rules.Known (omega arith)
+  not_any rules.Paged = none_so is_so rules_but_read none 9 rules.Known (omega arith)
+  not_any rules.Grouped = none_so is_so rules_but_read none 10 rules.Known (omega arith)
+  not_any rules.Spelled = read spelled
+  not_any rules.Found = read found
+  not_any rules.Small = read small
+  not_any rules.Measured = read measured
+
+not_read : (is_so : Rule → Bool) → list_any is_so read_rules ≡ false → (r : ReadRule) → is_so (rule_of r) ≡ false
+not_read is_so none spelled = none_so is_so read_rules none 0 rules.Known (omega arith)
+not_read is_so none found = none_so is_so read_rules none 1 rules.Known (omega arith)
+not_read is_so none small = none_so is_so read_rules none 2 rules.Known (omega arith)
+not_read is_so none measured = none_so is_so read_rules none 3 rules.Known (omega arith)
+
 -- where no rule is broken, none of them is
-module _ (is_so : Rule → Bool) (none : list_any is_so every_rule ≡ false) where
-  pub not_one : (rule : Rule) → is_so rule ≡ false
-  not_one rules.Known = none_so is_so every_rule none 0 rules.Known (omega arith)
-  not_one rules.Needed = none_so is_so every_rule none 1 rules.Known (omega arith)
-  not_one rules.Typed = none_so is_so every_rule none 2 rules.Known (omega arith)
-  not_one rules.Named = none_so is_so every_rule none 3 rules.Known (omega arith)
-  not_one rules.Written = none_so is_so every_rule none 4 rules.Known (omega arith)
-  not_one rules.Ranged = none_so is_so every_rule none 5 rules.Known (omega arith)
-  not_one rules.Counted = none_so is_so every_rule none 6 rules.Known (omega arith)
-  not_one rules.Worded = none_so is_so every_rule none 7 rules.Known (omega arith)
-  not_one rules.Labelled = none_so is_so every_rule none 8 rules.Known (omega arith)
-  not_one rules.Paged = none_so is_so every_rule none 9 rules.Known (omega arith)
-  not_one rules.Grouped = none_so is_so every_rule none 10 rules.Known (omega arith)
-  not_one rules.Spelled = none_so is_so every_rule none 11 rules.Known (omega arith)
-  not_one rules.Found = none_so is_so every_rule none 12 rules.Known (omega arith)
-  not_one rules.Small = none_so is_so every_rule none 13 rules.Known (omega arith)
-  not_one rules.Measured = none_so is_so every_rule none 14 rules.Known (omega arith)
+pub not_one : (is_so : Rule → Bool) → list_any is_so every_rule ≡ false → (rule : Rule) → is_so rule ≡ false
+not_one is_so none rule =
+    let parts = or_parts (list_any is_so rules_but_read) (list_any is_so read_rules) (sym (list_any-append is_so rules_but_read read_rules) ∙ none) in
+    not_any is_so parts.0 (λ r. not_read is_so parts.1 r) rule
 
 -- ---- values without tables
+
+-- for none of those a condition is read
+pub unread_alone : (names : Names) (leaf : Leaf) (value : Data) → leaf_fails names Unread leaf value ≡ list_any (λ rule. leaf_breaks names rule leaf value) unread_rules
+unfolding leaf_breaks
+unread_alone names leaf value = refl
 
 -- such a value keeps the rules of keys, whatever it is
 pub unread_or_read : (names : Names) (leaf : Leaf) (value : Data) → leaf_fails names Every leaf value

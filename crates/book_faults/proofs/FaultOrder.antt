@@ -38,7 +38,7 @@ first_of-append (f ∷ fs) gs = ap (option_or f) (first_of-append fs gs) ∙ or_
 module _ (top : Members) where
   -- a rule with its code
   abbrev one : ℕ × Rule → Option BookFault
-  one r = asked_fault top r.0 (One r.1)
+  one r = asked_fault top r.0 (One r.1) (One r.1)
 
   -- the first fault is that of the top, or the first below it
   pub fault_parts : table_fault top ≡ option_or (top_fault top) (ordered_fault top)

@@ -1,4 +1,5 @@
--- A search asks for one rule, or for every rule at once: what breaks a rule that is asked for.
+-- A search asks for one rule, for every rule at once, or for those for which no condition is read: what breaks a rule that
+-- is asked for.
 use Rattle.std.specs.Prelude.{ℕ, Bool, List, [], ◌∷◌, ◌++◌, Option}
 use Rattle.std.specs.List.{list_any}
 use Rattle.std.specs.Option.{option_or}
@@ -14,7 +15,7 @@ use Rattle.book_spec.specs.declared.schema.Item.{Item}
 use Rattle.book_spec.specs.declared.schema.Rule.{Rule}
 use Rattle.book_spec.specs.declared.schema.Rule.TheVariants as rules
 use Rattle.book_faults.specs.declared.rules.Asked.{Asked}
-use Rattle.book_faults.specs.declared.rules.Asked.TheVariants.{One, Every}
+use Rattle.book_faults.specs.declared.rules.Asked.TheVariants.{One, Every, Unread}
 
 -- the rules of keys, those for which no condition is read, those for which one is, and all of them
 abbrev pub key_rules : List Rule
@@ -31,10 +32,14 @@ read_rules = rules.Spelled ∷ rules.Found ∷ rules.Small ∷ rules.Measured �
 abbrev pub every_rule : List Rule
 every_rule = key_rules ++ unread_rules ++ read_rules
 
+abbrev pub rules_but_read : List Rule
+rules_but_read = key_rules ++ unread_rules
+
 -- this is so of a rule that is asked for
 abbrev pub any_asked : Asked → (Rule → Bool) → Bool
 any_asked (One rule) is_so = is_so rule
 any_asked Every is_so = list_any is_so every_rule
+any_asked Unread is_so = list_any is_so rules_but_read
 
 module _ (asked : Asked) where
   -- the keys of a table break a rule that is asked for

@@ -1,7 +1,7 @@
 -- The parts of a document's first fault, as they are searched for.
 use Rattle.std.specs.Prelude.{ℕ, Bool, not, ◌||◌, is_none, List, [], ◌∷◌, map, codes, Option}
 use Rattle.std.specs.Option.{option_or}
-use Rattle.toml.specs.Data.{Members, get_member}
+use Rattle.toml.specs.Data.{Members}
 use Rattle.ecam_spec.specs.declared.limits.TheConstants.{SYSTEMS, SYSTEM_TEXT, PAGES, PARAMETERS, NAMED_TERMS, MEMOS}
 use Rattle.ecam_spec.specs.declared.kinds.Section.{Section}
 use Rattle.ecam_spec.specs.declared.kinds.Section.TheVariants as section
@@ -58,16 +58,16 @@ module _ (top : Members) where
   abbrev pub phase_fault : ℕ → Asked → Option BookFault
   phase_fault code asked = at_section top code section.Phase (codes "phase") (λ value. whole (item_fails (names_of top) asked items.Phase value))
 
-  -- the first section that does, and its first item
-  unfoldable pub asked_fault : ℕ → Asked → Option BookFault
-  asked_fault code asked = first_of (
+  -- the first section that does, and its first item; of those whose conditions are drafted other rules may be asked for
+  unfoldable pub asked_fault : ℕ → Asked → Asked → Option BookFault
+  asked_fault code asked drafted = first_of (
       system_fault code asked
       ∷ items_fault code asked section.Page (codes "page") PAGES items.Page
       ∷ items_fault code asked section.Param (codes "param") PARAMETERS items.Param
       ∷ items_fault code asked section.Term (codes "term") NAMED_TERMS items.Term
-      ∷ phase_fault code asked
-      ∷ alerts_fault code asked
-      ∷ items_fault code asked section.Memo (codes "memo") MEMOS items.Memo
+      ∷ phase_fault code drafted
+      ∷ alerts_fault code drafted
+      ∷ items_fault code drafted section.Memo (codes "memo") MEMOS items.Memo
       ∷ [])
 
   -- the first named condition whose name is taken
@@ -76,7 +76,7 @@ module _ (top : Members) where
 
   -- the first of these codes whose rule is broken
   abbrev pub rule_faults : List (ℕ × Rule) → Option BookFault
-  rule_faults coded = first_of (map (λ r. asked_fault r.0 (One r.1)) coded)
+  rule_faults coded = first_of (map (λ r. asked_fault r.0 (One r.1) (One r.1)) coded)
 
   -- the first fault below the top
   abbrev pub ordered_fault : Option BookFault

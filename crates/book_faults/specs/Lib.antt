@@ -1,4 +1,5 @@
 pub mod Keys
 pub mod Refused
+pub mod Readable
 pub mod Asked
 pub mod FaultParts

@@ -1,5 +1,5 @@
 // The first fault of a document's table.
-ghost use Rattle.std.specs.Prelude.{◌≡◌, ◌<◌, ◌^◌, length, codes, is_none, IfOk};
+ghost use Rattle.std.specs.Prelude.{◌≡◌, ◌<◌, ◌^◌, length, codes, true, None, is_none, IfOk};
 ghost use Rattle.toml.specs.View.{table_view};
 ghost use Rattle.ecam_spec.specs.Faults.{fault_at, whole};
 ghost use Rattle.book_spec.specs.Fields.{has_only};
@@ -7,7 +7,8 @@ ghost use Rattle.book_spec.specs.Document.{top_keys};
 ghost use Rattle.book_spec.specs.Rules.{list_in};
 ghost use Rattle.book_spec.specs.Document as spec;
 ghost use Rattle.book_tables.specs.Catalogue.{table_in, IsComplete};
-ghost use Rattle.book_faults.specs.declared.rules.Asked.TheVariants.{Every};
+ghost use Rattle.book_faults.specs.declared.rules.Asked.TheVariants.{Every, Unread};
+ghost use Rattle.book_faults.specs.Readable.{AreReadable};
 ghost use Rattle.book_faults.specs.FaultParts.{system_fault, listed_fault, alerts_fault, phase_fault, asked_fault, taken_fault, rule_faults, ordered_fault, top_fault};
 
 use crate::rules::Asked;
@@ -146,16 +147,18 @@ fn phase_fault(
     Ok(fault_at(code, Section::Phase, whole(breaks)))
 }
 
-/// The first section that breaks a rule that is asked for, and its first item.
+/// The first section that breaks a rule that is asked for, and its first item. Of the flight phase, alerts and memos,
+/// whose conditions are drafted, other rules may be asked for than of the sections before them.
 #[tactic(auto, unfolding(crate::specs::FaultParts::asked_fault))]
 fn rule_fault(
     alloc: Global,
     names: &Catalogue<'_>,
     code: u8,
     asked: Asked,
+    drafted: Asked,
 ) -> Result<Option<BookFault>, AllocError>
     requires { IsComplete names.now }
-    ensures { IfOk result (λ r. r ≡ asked_fault (table_in names.now) code asked) }
+    ensures { IfOk result (λ r. r ≡ asked_fault (table_in names.now) code asked drafted) }
 {
     let fault = system_fault(alloc, names, code, asked)?;
     if fault.is_some() {
@@ -173,15 +176,15 @@ fn rule_fault(
     if fault.is_some() {
         return Ok(fault);
     }
-    let fault = phase_fault(alloc, names, code, asked)?;
+    let fault = phase_fault(alloc, names, code, drafted)?;
     if fault.is_some() {
         return Ok(fault);
     }
-    let fault = alerts_fault(alloc, names, code, asked)?;
+    let fault = alerts_fault(alloc, names, code, drafted)?;
     if fault.is_some() {
         return Ok(fault);
     }
-    listed_fault(alloc, names, code, asked, &MEMOS)
+    listed_fault(alloc, names, code, drafted, &MEMOS)
 }
 
 fn first_rule_fault(
@@ -193,7 +196,7 @@ fn first_rule_fault(
     ensures { IfOk result (λ r. r ≡ rule_faults (table_in names.now) rules.now) }
 {
     for (code, rule) in rules {
-        let fault = rule_fault(alloc, names, *code, Asked::One(*rule))?;
+        let fault = rule_fault(alloc, names, *code, Asked::One(*rule), Asked::One(*rule))?;
         if fault.is_some() {
             return Ok(fault);
         }
@@ -307,13 +310,22 @@ fn top_fault(top: &Table) -> Option<BookFault>
     None
 }
 
-/// Whether a document breaks no rule. It is one pass through it, which ends where a rule is broken; which one it is
-/// doesn't count here, so that no code is told.
+/// Whether a document breaks no rule but by the text of a condition that is drafted. It is one pass through it, which
+/// ends where a rule is broken; which one it is doesn't count here, so that no code is told.
 fn keeps_rules(alloc: Global, names: &Catalogue<'_>) -> Result<bool, AllocError>
     requires { IsComplete names.now }
-    ensures { IfOk result (λ b. b ≡ is_none (asked_fault (table_in names.now) 0 Every)) }
+    ensures { IfOk result (λ b. b ≡ is_none (asked_fault (table_in names.now) 0 Every Unread)) }
 {
-    let fault = rule_fault(alloc, names, 0, Asked::Every)?;
+    let fault = rule_fault(alloc, names, 0, Asked::Every, Asked::Unread)?;
+    Ok(fault.is_none())
+}
+
+/// Whether no name stands twice where it may stand once.
+fn has_distinct_names(alloc: Global, names: &Catalogue<'_>) -> Result<bool, AllocError>
+    requires { IsComplete names.now }
+    ensures { IfOk result (λ b. b ≡ is_none (spec.repeated_fault (table_in names.now))) }
+{
+    let fault = repeated_fault(alloc, names)?;
     Ok(fault.is_none())
 }
 
@@ -333,10 +345,26 @@ fn ordered_fault(alloc: Global, names: &Catalogue<'_>) -> Result<Option<BookFaul
     first_rule_fault(alloc, names, &AFTER_NAMES)
 }
 
+/// Whether a document has no fault but such as the texts of the conditions that are drafted have, which aren't read here:
+/// then it has none if each of them means a condition. It is one pass through the document, and costs n log n for n
+/// names. An error is want of memory.
+pub fn is_faultless_if_readable(alloc: Global, names: &Catalogue<'_>) -> Result<bool, AllocError>
+    requires { IsComplete names.now }
+    ensures { IfOk result (λ b. b ≡ true → AreReadable (table_in names.now)
+        → spec.table_fault (table_in names.now) ≡ None) }
+{
+    if top_fault(names.places.top).is_some() {
+        return Ok(false);
+    }
+    if keeps_rules(alloc, names)? {
+        return has_distinct_names(alloc, names);
+    }
+    Ok(false)
+}
+
 /// The first fault that a document's table shows: the one with the least code, among these the one in the first
-/// section, and among these the one of the least item. A document that breaks no rule costs one pass, in which each
-/// condition is read once, and n log n for n names. In another each code up to that of its fault is a search. An error
-/// is want of memory.
+/// section, and among these the one of the least item. Each code up to that of the fault is a search. An error is want
+/// of memory.
 pub fn table_fault(alloc: Global, names: &Catalogue<'_>) -> Result<Option<BookFault>, AllocError>
     requires { IsComplete names.now }
     ensures { IfOk result (λ r. r ≡ spec.table_fault (table_in names.now)) }
@@ -344,9 +372,6 @@ pub fn table_fault(alloc: Global, names: &Catalogue<'_>) -> Result<Option<BookFa
     let fault = top_fault(names.places.top);
     if fault.is_some() {
         return Ok(fault);
-    }
-    if keeps_rules(alloc, names)? {
-        return repeated_fault(alloc, names);
     }
     ordered_fault(alloc, names)
 }

@@ -8,4 +8,4 @@ mod searches;
 mod sections;
 mod tables;
 
-pub use faults::table_fault;
+pub use faults::{is_faultless_if_readable, table_fault};

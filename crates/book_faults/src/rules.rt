@@ -23,11 +23,12 @@ use std::alloc::{AllocError, Global};
 use term_text::TermError;
 use toml::Value;
 
-/// The rules that are asked for: one, or every one.
+/// The rules that are asked for: one, every one, or those for which no condition is read.
 #[derive(Clone, Copy)]
 pub(crate) enum Asked {
     One(Rule),
     Every,
+    Unread,
 }
 
 fn is_string(value: &Value) -> bool
@@ -351,6 +352,7 @@ fn any_rule_breaks(
 
 /// Whether a value breaks a rule that is asked for. A condition is read at most once, and only where a rule is asked
 /// for that it can be refused by.
+#[tactic(auto, using(crate::proofs::EveryRule::unread_alone))]
 pub(crate) fn leaf_breaks(
     alloc: Global,
     asked: Asked,
@@ -363,5 +365,6 @@ pub(crate) fn leaf_breaks(
     match asked {
         Asked::One(rule) => one_rule_breaks(alloc, rule, names, leaf, value),
         Asked::Every => any_rule_breaks(alloc, names, leaf, value),
+        Asked::Unread => Ok(unread_breaks(names, leaf, value)),
     }
 }

@@ -70,7 +70,7 @@ fn keys_break<S>(asked: Asked, keys: &[Key<S>], table: &Table) -> bool
         Asked::One(Rule::Known) => !has_only(keys, table),
         Asked::One(Rule::Needed) => lacks_key(keys, table),
         Asked::One(_) => false,
-        Asked::Every => !has_only(keys, table) || lacks_key(keys, table),
+        Asked::Every | Asked::Unread => !has_only(keys, table) || lacks_key(keys, table),
     }
 }
 
@@ -224,7 +224,7 @@ fn is_no_table(asked: Asked, value: &Value) -> bool
     match asked {
         Asked::One(Rule::Typed) => value.as_table().is_none(),
         Asked::One(_) => false,
-        Asked::Every => value.as_table().is_none(),
+        Asked::Every | Asked::Unread => value.as_table().is_none(),
     }
 }
 
@@ -271,7 +271,9 @@ pub(crate) fn list_breaks(asked: Asked, low: usize, high: usize, value: &Value) 
         Asked::One(Rule::Typed) => value.as_array().is_none(),
         Asked::One(Rule::Counted) => has_wrong_count(low, high, value),
         Asked::One(_) => false,
-        Asked::Every => value.as_array().is_none() || has_wrong_count(low, high, value),
+        Asked::Every | Asked::Unread => {
+            value.as_array().is_none() || has_wrong_count(low, high, value)
+        }
     }
 }
 

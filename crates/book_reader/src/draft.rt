@@ -1,11 +1,13 @@
 // The draft that a document without a fault is.
-ghost use Rattle.std.specs.Prelude.{◌≡◌, map, codes, IfOk, All};
+ghost use Rattle.std.specs.Prelude.{◌≡◌, false, map, codes, IfOk, All};
+ghost use Rattle.std.specs.List.{list_any};
 ghost use Rattle.toml.specs.Data.{no_members};
 ghost use Rattle.toml.specs.View.{view, table_view};
 ghost use Rattle.book_model.specs.View.{bytes_of, phase_of, memo_of, draft_of};
 ghost use Rattle.book_spec.specs.DraftOf as spec;
 ghost use Rattle.book_tables.specs.Reading.{views};
 ghost use Rattle.book_tables.specs.Catalogue.{table_in, names_in, IsComplete};
+ghost use Rattle.book_faults.specs.Readable.{refused_in_phase, refused_in_memo, AreReadable};
 ghost use Rattle.book_reader.specs.Drafting.{phase_table};
 ghost use Rattle.book_reader.specs.Unplaced.{AreUnplacedPhases, IsUnplacedMemo, IsUnplaced};
 
@@ -20,6 +22,7 @@ use book_tables::{Catalogue, Scope};
 use ecam_kinds::Colour;
 use ecam_spec::limits;
 use std::alloc::{AllocError, Global};
+use term_text::TermError;
 use toml::{Table, Value};
 
 /// The most bytes of a system's text, and of a memo's.
@@ -58,9 +61,11 @@ fn phase_table_or<'a>(top: &'a Table, empty: &'a Table) -> &'a Table
 }
 
 #[tactic(auto, unfolding(book_spec::specs::DraftOf::phase_in))]
-fn phase_in(alloc: Global, names: &Scope<'_, '_>, table: &Table) -> Result<PhaseTerms, AllocError>
+fn phase_in(alloc: Global, names: &Scope<'_, '_>, table: &Table) -> Result<PhaseTerms, TermError>
     ensures value { IfOk result (λ p. phase_of p
         ≡ spec.phase_in (names_in names.now) (table_view table.now)) }
+    ensures read { IfOk result (λ _. refused_in_phase (names_in names.now) (table_view table.now)
+        ≡ false) }
     ensures unplaced { IfOk result AreUnplacedPhases }
 {
     Ok(PhaseTerms {
@@ -74,9 +79,10 @@ fn phase_in(alloc: Global, names: &Scope<'_, '_>, table: &Table) -> Result<Phase
 }
 
 #[tactic(auto, unfolding(book_spec::specs::DraftOf::memo_in))]
-fn memo_in(alloc: Global, names: &Scope<'_, '_>, value: &Value) -> Result<Memo, AllocError>
+fn memo_in(alloc: Global, names: &Scope<'_, '_>, value: &Value) -> Result<Memo, TermError>
     ensures value { IfOk result (λ m. memo_of m
         ≡ spec.memo_in (names_in names.now) (view value.now)) }
+    ensures read { IfOk result (λ _. refused_in_memo (names_in names.now) (view value.now) ≡ false) }
     ensures unplaced { IfOk result IsUnplacedMemo }
 {
     let empty = Table::new(alloc);
@@ -90,9 +96,11 @@ fn memo_in(alloc: Global, names: &Scope<'_, '_>, value: &Value) -> Result<Memo, 
     })
 }
 
-fn memos_in(alloc: Global, names: &Scope<'_, '_>, items: &[Value]) -> Result<Vec<Memo>, AllocError>
+fn memos_in(alloc: Global, names: &Scope<'_, '_>, items: &[Value]) -> Result<Vec<Memo>, TermError>
     ensures value { IfOk result (λ v. map memo_of v.items
         ≡ map (spec.memo_in (names_in names.now)) (views items.now)) }
+    ensures read { IfOk result (λ _. list_any (refused_in_memo (names_in names.now))
+        (views items.now) ≡ false) }
     ensures unplaced { IfOk result (λ v. All IsUnplacedMemo v.items) }
 {
     let mut memos = Vec::new(alloc);
@@ -104,16 +112,14 @@ fn memos_in(alloc: Global, names: &Scope<'_, '_>, items: &[Value]) -> Result<Vec
 
 /// The draft that a document is, in one pass, with a look-up by name for each name in it; its named conditions were
 /// read with the names. What is missing, or is no value that may stand there, is the empty text, the least number, the
-/// usual word or a constant condition; a document that has no fault lacks nothing that isn't optional.
+/// usual word or a constant condition; a document that has no fault lacks nothing that isn't optional. An error is what a
+/// condition's text is refused for, or want of memory.
 #[tactic(auto, unfolding(book_spec::specs::DraftOf::draft_of, book_model::specs::View::draft_of))]
-pub(crate) fn draft_of(
-    alloc: Global,
-    top: &Table,
-    names: Catalogue<'_>,
-) -> Result<Draft, AllocError>
+pub(crate) fn draft_of(alloc: Global, top: &Table, names: Catalogue<'_>) -> Result<Draft, TermError>
     requires table { table_in names ≡ table_view top.now }
     requires complete { IsComplete names }
     ensures value { IfOk result (λ d. draft_of d ≡ spec.draft_of (table_view top.now)) }
+    ensures read { IfOk result (λ _. AreReadable (table_view top.now)) }
     ensures unplaced { IfOk result IsUnplaced }
 {
     let empty = Table::new(alloc);

@@ -1,11 +1,13 @@
 // The alerts of a book, with the lines of their procedures and of the status page.
-ghost use Rattle.std.specs.Prelude.{◌≡◌, map, codes, unwrap_or, IfOk, All};
+ghost use Rattle.std.specs.Prelude.{◌≡◌, false, map, codes, unwrap_or, IfOk, All};
+ghost use Rattle.std.specs.List.{list_any};
 ghost use Rattle.toml.specs.View.{view, table_view};
 ghost use Rattle.book_model.specs.View.{bytes_of, line_of, status_of, alert_of};
 ghost use Rattle.book_spec.specs.Defaults as defaults;
 ghost use Rattle.book_spec.specs.DraftOf as spec;
 ghost use Rattle.book_tables.specs.Reading.{views};
 ghost use Rattle.book_tables.specs.Catalogue.{names_in};
+ghost use Rattle.book_faults.specs.Readable.{refused_in_line, refused_in_alert};
 ghost use Rattle.book_reader.specs.Drafting.{page_at, system_at};
 ghost use Rattle.book_reader.specs.Unplaced.{IsUnplacedLine, IsUnplacedAlert};
 
@@ -19,6 +21,7 @@ use book_tables::fields::{list_in, name_or_none, string_at, table_or};
 use ecam_kinds::{Colour, Level, Sound};
 use ecam_spec::limits;
 use std::alloc::{AllocError, Global};
+use term_text::TermError;
 use toml::{Table, Value};
 
 /// The most bytes of a line, and of a title.
@@ -27,9 +30,10 @@ const LINE: usize = limits::TEXT;
 const TITLE: usize = limits::TEXT;
 
 #[tactic(auto, unfolding(book_spec::specs::DraftOf::line_in))]
-fn line_in(alloc: Global, names: &Scope<'_, '_>, value: &Value) -> Result<Line, AllocError>
+fn line_in(alloc: Global, names: &Scope<'_, '_>, value: &Value) -> Result<Line, TermError>
     ensures value { IfOk result (λ l. line_of l
         ≡ spec.line_in (names_in names.now) (view value.now)) }
+    ensures read { IfOk result (λ _. refused_in_line (names_in names.now) (view value.now) ≡ false) }
     ensures unplaced { IfOk result IsUnplacedLine }
 {
     let empty = Table::new(alloc);
@@ -42,9 +46,11 @@ fn line_in(alloc: Global, names: &Scope<'_, '_>, value: &Value) -> Result<Line, 
     })
 }
 
-fn lines_in(alloc: Global, names: &Scope<'_, '_>, items: &[Value]) -> Result<Vec<Line>, AllocError>
+fn lines_in(alloc: Global, names: &Scope<'_, '_>, items: &[Value]) -> Result<Vec<Line>, TermError>
     ensures value { IfOk result (λ v. map line_of v.items
         ≡ map (spec.line_in (names_in names.now)) (views items.now)) }
+    ensures read { IfOk result (λ _. list_any (refused_in_line (names_in names.now))
+        (views items.now) ≡ false) }
     ensures unplaced { IfOk result (λ v. All IsUnplacedLine v.items) }
 {
     let mut lines = Vec::new(alloc);
@@ -141,9 +147,11 @@ fn known_page(names: &Scope<'_, '_>, table: &Table) -> Option<u32>
 }
 
 #[tactic(auto, unfolding(book_spec::specs::DraftOf::alert_in))]
-fn alert_in(alloc: Global, names: &Scope<'_, '_>, value: &Value) -> Result<Alert, AllocError>
+fn alert_in(alloc: Global, names: &Scope<'_, '_>, value: &Value) -> Result<Alert, TermError>
     ensures value { IfOk result (λ a. alert_of a
         ≡ spec.alert_in (names_in names.now) (view value.now)) }
+    ensures read { IfOk result (λ _. refused_in_alert (names_in names.now) (view value.now)
+        ≡ false) }
     ensures unplaced { IfOk result IsUnplacedAlert }
 {
     let empty = Table::new(alloc);
@@ -170,9 +178,11 @@ pub(crate) fn alerts_in(
     alloc: Global,
     names: &Scope<'_, '_>,
     items: &[Value],
-) -> Result<Vec<Alert>, AllocError>
+) -> Result<Vec<Alert>, TermError>
     ensures value { IfOk result (λ v. map alert_of v.items
         ≡ map (spec.alert_in (names_in names.now)) (views items.now)) }
+    ensures read { IfOk result (λ _. list_any (refused_in_alert (names_in names.now))
+        (views items.now) ≡ false) }
     ensures unplaced { IfOk result (λ v. All IsUnplacedAlert v.items) }
 {
     let mut alerts = Vec::new(alloc);

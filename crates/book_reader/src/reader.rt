@@ -13,12 +13,13 @@ ghost use Rattle.book_tables.specs.Places.{HasFewItems};
 ghost use Rattle.book_reader.specs.Unplaced.{IsUnplaced};
 
 use crate::draft::draft_of;
-use book_faults::table_fault;
+use book_faults::{is_faultless_if_readable, table_fault};
 use book_model::{BookFault, Draft, LoadError, Section};
 use book_tables::Catalogue;
 use book_tables::fields::list_in;
 use ecam_spec::limits;
-use std::alloc::Global;
+use std::alloc::{AllocError, Global};
+use term_text::TermError;
 use toml::Table;
 
 /// The most bytes of a book. A caller need read no more than one byte beyond them.
@@ -68,6 +69,25 @@ fn has_few_items(top: &Table) -> bool
         && has_few(top, "memo")
 }
 
+// The first fault of a document that has one; another is answered as want of memory is.
+fn fault_in(alloc: Global, top: &Table) -> LoadError
+    requires { HasFewItems (table_view top.now) }
+    ensures { (f : BookFault) → result ≡ Fault f → table_fault (table_view top.now) ≡ Some f }
+{
+    match first_fault(alloc, top) {
+        Ok(Some(fault)) => LoadError::Fault(fault),
+        _ => LoadError::Memory,
+    }
+}
+
+fn first_fault(alloc: Global, top: &Table) -> Result<Option<BookFault>, AllocError>
+    requires { HasFewItems (table_view top.now) }
+    ensures { IfOk result (λ f. f ≡ table_fault (table_view top.now)) }
+{
+    let names = Catalogue::new(alloc, top)?;
+    table_fault(alloc, &names)
+}
+
 fn draft_in(alloc: Global, top: &Table) -> Result<Draft, LoadError>
     ensures draft { IfOk result (λ d. draft_of d ≡ plain.draft_of (table_view top.now)) }
     ensures unplaced { IfOk result IsUnplaced }
@@ -80,15 +100,21 @@ fn draft_in(alloc: Global, top: &Table) -> Result<Draft, LoadError>
         return Err(LoadError::Memory);
     }
     let names = Catalogue::new(alloc, top)?;
-    match table_fault(alloc, &names)? {
-        Some(fault) => Err(LoadError::Fault(fault)),
-        None => Ok(draft_of(alloc, top, names)?),
+    if !is_faultless_if_readable(alloc, &names)? {
+        return Err(fault_in(alloc, top));
+    }
+    match draft_of(alloc, top, names) {
+        Ok(draft) => Ok(draft),
+        Err(TermError::Memory) => Err(LoadError::Memory),
+        Err(_) => Err(fault_in(alloc, top)),
     }
 }
 
 /// Reads a book: the draft that its document is, or the first of its faults with the codes 1 to 19, or
-/// `LoadError::Memory`, which tells that memory ran out and nothing of the book. Each code is one search through the
-/// document, and a look-up of a name costs a logarithm of the number of names.
+/// `LoadError::Memory`, which tells that memory ran out and nothing of the book. It costs two passes through the
+/// document, one that reads no condition but named ones and one that drafts it and reads each of the others once; a
+/// look-up of a name costs a logarithm of the number of names. Where there is a fault, each code up to its own is one
+/// more search.
 pub fn read_book(alloc: Global, bytes: &[u8]) -> Result<Draft, LoadError>
     ensures draft { IfOk result (λ d. spec.draft_of_bytes bytes.now ≡ Some (draft_of d)) }
     ensures sound { IfOk result (λ d. IsSound (draft_of d)) }

@@ -54,9 +54,9 @@ fn meaning_or(
     }
 }
 
-/// The condition at a key, or this constant where there is none or its text is refused.
+// The condition at a key, or this constant where there is none or its text is refused.
 #[tactic(auto, unfolding(book_spec::specs::Defaults::term_or, book_spec::specs::Rules::outcome_in))]
-pub fn condition_or(
+fn condition_or(
     alloc: Global,
     names: &Scope<'_, '_>,
     table: &Table,

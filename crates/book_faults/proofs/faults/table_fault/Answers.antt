@@ -1,12 +1,9 @@
-use Rattle.std.proofs.Common.{◌≡◌, true, false, is_some, Ok, Err, Result, sym, ◌∙◌, ap}
-use Rattle.std.specs.Prelude.{is_none}
+use Rattle.std.proofs.Common.{◌≡◌, false, is_some, Ok, Err, Result, sym, ◌∙◌, ap}
 use Rattle.std.specs.Result.{IfOk}
-use Rattle.book_spec.specs.Document.{repeated_fault, table_fault}
+use Rattle.book_spec.specs.Document.{table_fault}
 use Rattle.book_tables.specs.Catalogue.{table_in}
-use Rattle.book_faults.specs.FaultParts.{top_fault, ordered_fault, asked_fault}
-use Rattle.book_faults.specs.declared.rules.Asked.TheVariants.{Every}
+use Rattle.book_faults.specs.FaultParts.{top_fault, ordered_fault}
 use Rattle.book_faults.proofs.FaultOrder.{fault_parts, or_some, or_other}
-use Rattle.book_faults.proofs.NoFault.{names_alone}
 use Rattle.book_faults.proofs.faults.table_fault.Goals as goal
 
 pub returns-then-is_some : goal.returns-then-is_some
@@ -19,14 +16,6 @@ returns-then-is_some c =
 moved : {A E : Type 0} (result : Result A E) (x y : A) → x ≡ y → IfOk result (λ r. r ≡ x) → IfOk result (λ r. r ≡ y)
 moved (Ok r) x y same h = h ∙ same
 moved (Err e) x y same h = h
-
-pub returns-then-branch : goal.returns-then-branch
-returns-then-branch c =
-    let top = table_in c.args.names.now in
-    let none : is_some (top_fault top) ≡ false = ap is_some (sym c.top_fault-fault.ensures) ∙ sym c.is_some.ensures ∙ c.if-is_some.false in
-    let kept : is_none (asked_fault top 0 Every) ≡ true = sym c.in_ok-keeps_rules.ensures ∙ c.if-branch.true in
-    moved c.repeated_fault.result (repeated_fault top) (table_fault top)
-    (sym (fault_parts top ∙ or_other (top_fault top) (ordered_fault top) none ∙ names_alone top kept)) c.repeated_fault.ensures
 
 pub returns : goal.returns
 returns c =

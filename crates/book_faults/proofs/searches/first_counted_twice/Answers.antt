@@ -1,4 +1,4 @@
-use Rattle.std.proofs.Common.{◌≡◌, ℕ, Bool, true, false, get_or, [], List, Bor, ◌∙◌, sym, ap}
+use Rattle.std.proofs.Common.{◌≡◌, ℕ, Bool, true, false, get_or, [], List, Bor, ◌∙◌, sym}
 use Rattle.ecam_spec.specs.Book.{Text}
 use Rattle.ecam_spec.specs.KeepsLimits.{is_repeated}
 use Rattle.book_tables.specs.Reading.{texts_of}

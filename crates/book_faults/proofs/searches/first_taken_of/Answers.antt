@@ -1,4 +1,4 @@
-use Rattle.std.proofs.Common.{◌≡◌, ℕ, Bool, true, false, get_or, [], List, Bor, ◌∙◌, sym, ap}
+use Rattle.std.proofs.Common.{◌≡◌, ℕ, Bool, true, false, get_or, [], List, Bor, ◌∙◌, sym}
 use Rattle.ecam_spec.specs.Book.{Text}
 use Rattle.book_tables.specs.Catalogue.{names_in}
 use Rattle.book_faults.specs.FaultParts.{is_taken_among}

@@ -1,5 +1,4 @@
-use Rattle.std.proofs.Common.{◌≡◌, ℕ, ◌<◌, ◌≤◌, nat_lt, true, false, ◌∙◌, sym, ap, rules, arith}
-use Rattle.std.proofs.lemmas.Bool.Decides.{nat_tests}
+use Rattle.std.proofs.Common.{◌≡◌, nat_lt, ◌∙◌, ap}
 use Rattle.std.specs.List.{count_by}
 use Rattle.ecam_spec.specs.Bytes.{same_text}
 use Rattle.book_faults.proofs.searches.is_repeated.Goals as goal
