@@ -141,11 +141,41 @@ impl LineReader {
         ensures files { S.files source.new ≡ S.files source.old }
         ensures opens { S.opens source.new ≡ S.opens source.old }
     {
-        if let Some(answer) = self.settled() {
-            return answer;
-        }
         if let Some(event) = self.common() {
             return Ok(event);
+        }
+        match self.next_other(source) {
+            Ok(event) => Ok(event),
+            Err(error) => Err(error),
+        }
+    }
+
+    // The next event, where no line of the common forms lies whole in the piece. (It stands by itself, so that such a line
+    // needs none of the room that other answers take.)
+    #[inline(never)]
+    fn next_other<S: Source>(&mut self, source: &mut S) -> Result<Event, LineError>
+        ensures told { Takes (S.left source.old) (S.left source.new)
+            (λ more. Tells self.old self.new more result) }
+        ensures end { settled self.old ≡ None
+            → MeetsEnd (S.left source.old) (S.left source.new) result }
+        ensures again { IfSome (settled self.old)
+            (λ a. (result ≡ a) × (self.new ≡ self.old) × (source.new ≡ source.old)) }
+        ensures settled { settled self.new ≡ kept_answer result }
+        ensures fewer { room self.new + cost result ≤ room self.old }
+        ensures spared { reads_next self.old ≡ false → source.new ≡ source.old }
+        ensures asks { settled self.old ≡ None
+            → Makes S.reads source.old source.new (Asks (reads_next self.old) result) }
+        ensures event { IfOk result IsEvent }
+        ensures quiet { result ≢ Err LineError.Failed → S.faults source.new ≡ S.faults source.old }
+        ensures cause { result ≡ Err LineError.Failed
+            → Rose (S.faults source.old) (S.faults source.new) }
+        ensures faults { S.faults source.old ≤ S.faults source.new }
+        ensures is_open { S.is_open source.new ≡ S.is_open source.old }
+        ensures files { S.files source.new ≡ S.files source.old }
+        ensures opens { S.opens source.new ≡ S.opens source.old }
+    {
+        if let Some(answer) = self.settled() {
+            return answer;
         }
         'pieces: loop {
             if let Some(answer) = self.found() {

@@ -3,7 +3,7 @@ use Rattle.std.proofs.Common.{◌≡◌, ◌≤◌, None}
 use Rattle.record_lines.specs.Reader.{room, settled, wait}
 use Rattle.record_lines.specs.Reads.{Takes, Goes}
 use Rattle.record_lines.proofs.Asking.{Asking}
-use Rattle.record_lines.proofs.reader.LineReader.next.Given as goal
+use Rattle.record_lines.proofs.reader.LineReader.next_other.Given as goal
 
 abbrev pub invariant-pieces : goal.invariant-pieces
 invariant-pieces g l = record {
