@@ -170,6 +170,8 @@ impl Lane {
     /// condition and at the sources of the parameters that may have another value, two at each key, one visit of each node
     /// of the conditions that the moment wakes, and a few looks at each alert, line and memo; a zone of the picture is filled
     /// only where something that it shows turned.
+    // (It stands in its caller, so that a word goes to its sources at once.)
+    #[inline(always)]
     pub fn event(&mut self, book: &Book, event: &Event, one_up: bool, two_up: bool)
         requires fits { LaneFits (the_book book.now) self.old }
         requires event { IsEvent event.now }
