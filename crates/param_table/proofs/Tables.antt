@@ -1,5 +1,5 @@
 -- A table of a book as a whole, step by step.
-use Rattle.std.proofs.Common.{◌≡◌, ℕ, zero, suc, ◌+◌, ◌-◌, ◌/◌, ◌^◌, ◌<◌, ◌≤◌, true, List, [], ◌∷◌, false, length, map, get_or, slice_index, set, replicate, Option, Some, None, All, cond, refl, sym, ap, ◌∙◌, subst, arith, inl, inr}
+use Rattle.std.proofs.Common.{◌≡◌, ℕ, zero, suc, ◌+◌, ◌-◌, ◌*◌, ◌/◌, ◌^◌, ◌<◌, ◌≤◌, true, List, [], ◌∷◌, false, length, map, get_or, slice_index, set, replicate, Option, Some, None, All, cond, refl, sym, ap, ◌∙◌, subst, arith, inl, inr}
 use Rattle.std.specs.Prelude.{IfSome, MatchOption, is_some}
 use Rattle.std.specs.Option.{option_map_or}
 use Rattle.std.proofs.lemmas.Bool.{cases_Bool, and_parts, false≢true, cases_order}
@@ -7,7 +7,7 @@ use Rattle.std.proofs.lemmas.List.{get_or-set_same, get_or-set_other, length-map
 use Rattle.ecam_spec.specs.Book.{Source, Parameter, Book}
 use Rattle.ecam_spec.specs.Draft.{book_of}
 use Rattle.ecam_spec.specs.KeepsLimits.{IsSoundParameter}
-use Rattle.ecam_spec.specs.Word.{is_odd}
+use Rattle.ecam_spec.specs.Word.{label, is_odd}
 use Rattle.ecam_spec.specs.Value.{BusWord, takes, has_sdi, reading}
 use Rattle.ecam_spec.specs.History.{OneMore}
 use Rattle.book_model.specs.declared.draft.Draft.{Draft}
@@ -19,7 +19,7 @@ use Rattle.param_table.specs.declared.received.Received.{Received}
 use Rattle.param_table.specs.declared.rules.Rule.{Rule}
 use Rattle.param_table.specs.declared.held.Held.{Held}
 use Rattle.param_table.specs.declared.table.Params.{Params}
-use Rattle.param_table.specs.Places.{parameter_with, source_at, takes_at}
+use Rattle.param_table.specs.Places.{parameter_with, source_at, listens, takes_at, last_below}
 use Rattle.param_table.specs.Rules.{IsRule, AreRules}
 use Rattle.param_table.specs.HeldValues.{given, entry, is_ending, set_back}
 use Rattle.param_table.specs.HeldState.{AreDue, Renews, WillLook}
@@ -29,6 +29,7 @@ use Rattle.param_table.proofs.Entering.{none_replicate}
 use Rattle.param_table.proofs.Said.{start_stands, moment_stands, set_back_stands, word_stands, given_is, source_before-below}
 use Rattle.param_table.proofs.Told.{word_told, moment_told}
 use Rattle.param_table.proofs.Steps.{will_look_at, still_given}
+use Rattle.param_table.proofs.Visiting.{visited_none}
 
 -- the parameters of a book are sound
 pub book_sound : (d : Draft) → IsSealed d → All IsSoundParameter (the_book d).parameters
@@ -176,6 +177,14 @@ even_word b before after k w p on even stands =
       none_takes : (o : Option Source) → option_map_or (λ s. takes s w) o false ≡ false
       none_takes None = refl
       none_takes (Some s) = not_even s w even
+
+-- a word that no source listens to leaves the table as it is
+pub unheard_word : (b : Book) (before after : ℕ → List BusWord) (k : ℕ) (w : BusWord) (p : Params) → OneMore before after k w
+    → None ≡ last_below (listens b.parameters w.bus (label w.bits)) (3 * length b.parameters) → ParamsStand b before k p → ParamsStand b after k p
+unheard_word b before after k w p on none stands =
+    word b before after k w p p stands.fits on refl
+    (visited_none b.parameters w (λ q. entry p.clock w.bits (get_or p.rules.items.items q None)) p.held.received.items.items None none).places
+    (record { marks = λ q off. (off, refl); due = λ due. due }) (λ p none. refl) stands
 
 -- the places fit after one took a word
 pub entered_fits : (params : List Parameter) (place : ℕ) (r : Received) (old new : List (Option Received)) → new ≡ set old place (Some r) → place < length old

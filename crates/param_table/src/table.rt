@@ -84,8 +84,11 @@ impl Params {
         self.held.dues.copy_from(&other.held.dues);
     }
 
-    /// A word comes on a bus in the moment that hasn't ended. Its cost is one look-up by bus and label, and a
-    /// visit of each source that listens to them; a word of even parity is dropped at once.
+    /// A word comes on a bus in the moment that hasn't ended. Its cost is one look-up by bus and label, and, where the
+    /// parity is odd, a visit of each source that listens to them.
+    // (It stands in its caller, so that a word that no source listens to costs no call. The look-up comes before the
+    // parity, since which words a book listens to is easier to foresee.)
+    #[inline(always)]
     pub fn take(&mut self, book: &Book, bus: u8, bits: u32)
         requires { ParamsFit (the_book book.now) self.old }
         ensures fits { ParamsFit (the_book book.now) self.new }
@@ -95,6 +98,9 @@ impl Params {
             → ParamsStand (the_book book.now) new k self.new }
     {
         let word = Word::new(bits);
+        if self.index.last(bus, word.label()).is_none() {
+            return;
+        }
         if word.odd() {
             receive(
                 &mut self.held,

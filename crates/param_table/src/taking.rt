@@ -18,6 +18,7 @@ use arinc_words::Word;
 use book_model::Book;
 
 /// A word of odd parity comes: each source that listens to its bus and label, and names its SDI or none, takes it.
+#[inline(always)]
 pub fn receive(
     held: &mut Held,
     index: &Index,
@@ -50,7 +51,8 @@ pub fn receive(
     }
 }
 
-// A word comes to which the source at a place listens.
+// A word comes to which the source at a place listens. (It stands by itself, so that `receive` stays small.)
+#[inline(never)]
 fn visit(
     held: &mut Held,
     rules: &[Option<Rule>],
