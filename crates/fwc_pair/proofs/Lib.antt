@@ -5,3 +5,4 @@ pub mod Faces
 pub mod Pairs
 pub mod Stood
 pub mod VisitSteps
+pub mod HistoryVisits
