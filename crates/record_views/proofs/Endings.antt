@@ -1,5 +1,5 @@
 -- How a replay goes on from line to line, and how it ends.
-use Rattle.std.proofs.Common.{◌≡◌, ℕ, ◌+◌, ◌^◌, ◌<◌, ◌≤◌, Result, Ok, Err, true, false, List, [], ◌∷◌, ◌++◌, Option, Some, None, refl, sym, ap, ◌∙◌, subst, inl, inr, arith, length, drop, length-append, append_assoc, append-nil, cond}
+use Rattle.std.proofs.Common.{◌≡◌, ℕ, ◌+◌, ◌-◌, ◌^◌, min, ◌<◌, ◌≤◌, Result, Ok, Err, true, false, List, [], ◌∷◌, ◌++◌, Option, Some, None, refl, sym, ap, ◌∙◌, subst, inl, inr, arith, length, drop, length-append, append_assoc, append-nil, cond}
 use Rattle.std.specs.Prelude.{◌&&◌, is_none, OnOk, OnErr, IfOk, IfErr}
 use Rattle.std.proofs.lemmas.List.Sums.{count_by-le-length}
 use Rattle.std.specs.Io.KnownBytes.{Consumes, IsAtEnd}
@@ -16,12 +16,14 @@ use Rattle.ecam_spec.specs.Replay.{is_tick, tick_count}
 use Rattle.ecam_spec.proofs.HistoryLaws.{era_next, era_nil}
 use Rattle.ecam_spec.proofs.MomentSteps.{moments_kept, length_tick}
 use Rattle.fwc_pair.specs.PairState.{PairStands, moments_of}
+use Rattle.fwc_pair.specs.PairVisits.{NoVisits, event_visits, history_visits, HaveVisited}
 use Rattle.fwc_pair.specs.declared.pair.Pair.{Pair}
 use Rattle.record_lines.specs.Reader.{ReaderState, room, settled}
 use Rattle.record_lines.specs.Reads.{Reads, TellsEvent, TellsEnd, TellsFault, TellsFailure, IsFaulty, IsSpent, is_shown_at_end}
 use Rattle.record_lines.proofs.Went.{went, taken_is, BeginEvents-here}
 use Rattle.fwc_pair.specs.Views.{GoesOn}
 use Rattle.fwc_pair.specs.declared.view.View as view
+use Rattle.fwc_pair.proofs.HistoryVisits.{visited-none, visited-next}
 use Rattle.gathering.specs.Handed.{IsHanded}
 use Rattle.record_views.specs.Showing.{Showing, Grows, shown_by, output_of}
 use Rattle.record_views.specs.Runs.{HasRun, HasMetFault, HasStopped, HasBroken, HasSeen, HasFed, HasFedPart, Shows, IsAt}
@@ -90,12 +92,12 @@ more-moments : (h : List Event) (x : Event) → length (era h).moments ≤ lengt
 more-moments h x few =
     omega (arith, few, ap (λ (e : Era). length e.moments) (era_next h x), with-moments (begun h x) x, begun-moments h x, length-append h (x ∷ []))
 
-module _ (b : Book) (o : Showing) (grows : Grows o) {S : Type 0} (agrees : S → List ℕ → Type 0) (old : S) (limit : ℕ) (left : Option (List ℕ)) where
+module _ (b : Book) (o : Showing) (grows : Grows o) {S : Type 0} (agrees : S → List ℕ → Type 0) (old : S) (limit : ℕ) (left : Option (List ℕ)) (first : Pair) where
   -- before the first line
-  pub at-start : (viewed : List Event → Type 0) → viewed [] → (reader : ReaderState) (pair : Pair) → Reads limit [] [] reader → room reader ≡ limit → settled reader ≡ None → PairStands b [] pair
-      → IsAt b o agrees old old viewed [] limit left left reader pair 0
+  pub at-start : (viewed : List Event → Type 0) → viewed [] → (reader : ReaderState) → Reads limit [] [] reader → room reader ≡ limit → settled reader ≡ None → PairStands b [] first
+      → IsAt b o agrees old old viewed [] limit left left reader first first 0
   unfolding tick_count
-  at-start viewed seen reader pair reads whole unsettled stands = record {
+  at-start viewed seen reader reads whole unsettled stands = record {
     taken = [];
     answered = [];
     moved = Consumes-nil left;
@@ -105,6 +107,7 @@ module _ (b : Book) (o : Showing) (grows : Grows o) {S : Type 0} (agrees : S →
     ticks_are = refl;
     seen = seen;
     handed = subst (λ all. IsHanded agrees old old all []) (sym grows.begins_empty) (handed-none agrees old []);
+    visits = visited-none b first first stands.fits (refl, refl);
     moments = omega (arith, ap (λ (e : Era). length e.moments) era_nil);
     few = omega arith;
   }
@@ -136,9 +139,9 @@ module _ (b : Book) (o : Showing) (grows : Grows o) {S : Type 0} (agrees : S →
         });
       }
 
-  module _ (mid : S) (viewed : List Event → Type 0) (gathered : Text) (rest : Option (List ℕ)) (reader : ReaderState) (pair : Pair) (ticks : ℕ) (at : IsAt b o agrees old mid viewed gathered limit left rest reader pair ticks) where
+  module _ (mid : S) (viewed : List Event → Type 0) (gathered : Text) (rest : Option (List ℕ)) (reader : ReaderState) (pair : Pair) (ticks : ℕ) (at : IsAt b o agrees old mid viewed gathered limit left rest reader first pair ticks) where
     -- what was gathered was handed over
-    pub at-handed : (new : S) (after : Text) → IsHanded agrees mid new gathered after → IsAt b o agrees old new viewed after limit left rest reader pair ticks
+    pub at-handed : (new : S) (after : Text) → IsHanded agrees mid new gathered after → IsAt b o agrees old new viewed after limit left rest reader first pair ticks
     at-handed new after handed = record {
       taken = at.taken;
       answered = at.answered;
@@ -149,6 +152,7 @@ module _ (b : Book) (o : Showing) (grows : Grows o) {S : Type 0} (agrees : S →
       seen = at.seen;
       ticks_are = at.ticks_are;
       handed = handed-on agrees old mid new (o.text at.answered) gathered at.handed after handed;
+      visits = at.visits;
       moments = at.moments;
       few = at.few;
     }
@@ -156,8 +160,9 @@ module _ (b : Book) (o : Showing) (grows : Grows o) {S : Type 0} (agrees : S →
     -- after one more line
     pub at-next : (new : S) (now-viewed : List Event → Type 0) (after : Text) (later : Option (List ℕ)) (next : ReaderState) (fed : Pair) (now : ℕ) (e : Event) (more : List ℕ)
         → Consumes rest later more → TellsEvent limit (at.taken ++ more) (at.answered ++ e ∷ []) next → settled next ≡ None → room next + 2 ≤ room reader
-        → HasFed b o agrees mid new now-viewed gathered after at.answered e fed → now ≡ tick_count (at.answered ++ e ∷ []) → IsAt b o agrees old new now-viewed after limit left later next fed now
-    at-next new now-viewed after later next fed now e more moved tells unsettled cost has count = record {
+        → HasFed b o agrees mid new now-viewed gathered after at.answered e fed → HaveVisited (event_visits b at.answered e) pair fed
+        → now ≡ tick_count (at.answered ++ e ∷ []) → IsAt b o agrees old new now-viewed after limit left later next first fed now
+    at-next new now-viewed after later next fed now e more moved tells unsettled cost has visits count = record {
       taken = at.taken ++ more;
       answered = at.answered ++ e ∷ [];
       moved = Consumes-trans left rest later at.taken more at.moved moved;
@@ -168,6 +173,7 @@ module _ (b : Book) (o : Showing) (grows : Grows o) {S : Type 0} (agrees : S →
       ticks_are = count;
       handed = subst (λ all. IsHanded agrees old new all after) (sym has.joined)
           (handed-then agrees old mid new (o.text at.answered) gathered at.handed has.more after has.handed);
+      visits = visited-next b at.answered e first pair fed at.visits visits;
       moments = more-moments at.answered e at.moments;
       few = omega (arith, at.few, length-append at.answered (e ∷ []));
     }
@@ -188,18 +194,36 @@ module _ (b : Book) (o : Showing) (grows : Grows o) {S : Type 0} (agrees : S →
         (tells.faulty where_it_is.0
         (λ shown. some_is where_it_is.0 [] (sym where_it_is.1 ∙ ended rest later rest_is.0 rest_is.1 where_it_is.0 where_it_is.1 (spent shown))))
 
-    -- the record's end was met, and the last line is written
+    -- the record's end was met: these are all its events, and nothing is left
+    whole-here : (later : Option (List ℕ)) (next : ReaderState) (more : List ℕ)
+        → Consumes rest later more → TellsEnd limit (at.taken ++ more) at.answered next → IsSpent rest later
+        → (text : Text) → left ≡ Some text → (events text limit ≡ at.answered) × (fault text limit ≡ None) × (later ≡ Some [])
+    whole-here later next more moved tells spent text is =
+        let where_it_is = here text is later more moved in
+        let rest_is = told text left rest at.taken is at.moved in
+        let nothing : later ≡ Some [] = ended rest later rest_is.0 rest_is.1 where_it_is.0 where_it_is.1 spent in
+        let whole : text ≡ at.taken ++ more = where_it_is.2 ∙ ap (λ l. (at.taken ++ more) ++ l) (some_is where_it_is.0 [] (sym where_it_is.1 ∙ nothing)) ∙ append-nil (at.taken ++ more) in
+        (ap (λ t. events t limit) whole ∙ tells.whole.events, ap (λ t. fault t limit) whole ∙ tells.whole.fault, nothing)
+
+    -- so the computers visited what the record costs, from a pair on that has visited as many as the first
+    pub at-end-visited : (from : Pair) → NoVisits from first → (later : Option (List ℕ)) (next : ReaderState) (more : List ℕ)
+        → Consumes rest later more → TellsEnd limit (at.taken ++ more) at.answered next → IsSpent rest later
+        → (text : Text) → left ≡ Some text → HaveVisited (history_visits b (events text limit)) from pair
+    at-end-visited from unvisited later next more moved tells spent text is =
+        let all : HaveVisited (history_visits b (events text limit)) first pair =
+        subst (λ es. HaveVisited (history_visits b es) first pair) (sym (whole-here later next more moved tells spent text is).0) at.visits in
+        record {
+          one = all.one ∙ ap (λ v. min (v + history_visits b (events text limit) (λ f. f.one)) (2 ^ 64 - 1)) unvisited.0;
+          two = all.two ∙ ap (λ v. min (v + history_visits b (events text limit) (λ f. f.two)) (2 ^ 64 - 1)) unvisited.1;
+        }
+
+    -- the last line is written
     pub at-end : (new : S) (later : Option (List ℕ)) (next : ReaderState) (more : List ℕ) (n : ℕ)
         → Consumes rest later more → TellsEnd limit (at.taken ++ more) at.answered next → IsSpent rest later
         → n ≡ tick_count at.answered → Appended agrees mid new (gathered ++ o.closing at.answered)
         → (text : Text) → left ≡ Some text → HasRun b o agrees old new pair limit text later n
     at-end new later next more n moved tells spent count written text is =
-        let where_it_is = here text is later more moved in
-        let rest_is = told text left rest at.taken is at.moved in
-        let nothing : later ≡ Some [] = ended rest later rest_is.0 rest_is.1 where_it_is.0 where_it_is.1 spent in
-        let whole : text ≡ at.taken ++ more = where_it_is.2 ∙ ap (λ l. (at.taken ++ more) ++ l) (some_is where_it_is.0 [] (sym where_it_is.1 ∙ nothing)) ∙ append-nil (at.taken ++ more) in
-        let events_are : events text limit ≡ at.answered = ap (λ t. events t limit) whole ∙ tells.whole.events in
-        let fault_is : fault text limit ≡ None = ap (λ t. fault t limit) whole ∙ tells.whole.fault in
+        let (events_are, fault_is, nothing) = whole-here later next more moved tells spent text is in
         record {
           faultless = fault_is;
           ticks_are = count ∙ ap tick_count (sym events_are);
@@ -217,12 +241,7 @@ module _ (b : Book) (o : Showing) (grows : Grows o) {S : Type 0} (agrees : S →
         → AppendedPrefix agrees mid new (gathered ++ o.closing at.answered)
         → (text : Text) → left ≡ Some text → HasStopped b o agrees old new limit text later
     at-end-unwritten new later next more moved tells spent part text is =
-        let where_it_is = here text is later more moved in
-        let rest_is = told text left rest at.taken is at.moved in
-        let nothing : later ≡ Some [] = ended rest later rest_is.0 rest_is.1 where_it_is.0 where_it_is.1 spent in
-        let whole : text ≡ at.taken ++ more = where_it_is.2 ∙ ap (λ l. (at.taken ++ more) ++ l) (some_is where_it_is.0 [] (sym where_it_is.1 ∙ nothing)) ∙ append-nil (at.taken ++ more) in
-        let events_are : events text limit ≡ at.answered = ap (λ t. events t limit) whole ∙ tells.whole.events in
-        let fault_is : fault text limit ≡ None = ap (λ t. fault t limit) whole ∙ tells.whole.fault in
+        let (events_are, fault_is, nothing) = whole-here later next more moved tells spent text is in
         record {
           written = subst (AppendedPrefix agrees old new)
               (sym (ap (λ f. o.text (events text limit) ++ cond (is_none f) (o.closing (events text limit)) []) fault_is

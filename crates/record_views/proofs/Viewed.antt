@@ -115,3 +115,8 @@ module _ {S : Type 0} (agrees : S → List ℕ → Type 0) where
 pub on-err : {A E : Type 0} (P : Type 0) (result : Result A E) → P → OnErr result P
 on-err P (Ok value) so = tt
 on-err P (Err error) so = so
+
+-- what is so is so where a call succeeded
+pub on-ok : {A E : Type 0} (P : Type 0) (result : Result A E) → P → OnOk result P
+on-ok P (Ok value) so = so
+on-ok P (Err error) so = tt

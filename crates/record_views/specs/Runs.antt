@@ -11,6 +11,7 @@ use Rattle.ecam_spec.specs.Record.{fault, events}
 use Rattle.ecam_spec.specs.Replay.{tick_count}
 use Rattle.gathering.specs.Handed.{IsHanded}
 use Rattle.fwc_pair.specs.PairState.{PairStands}
+use Rattle.fwc_pair.specs.PairVisits.{history_visits, HaveVisited}
 use Rattle.fwc_pair.specs.declared.pair.Pair.{Pair}
 use Rattle.record_lines.specs.Reader.{ReaderState, room, settled}
 use Rattle.record_lines.specs.Reads.{Reads, IsNear, piece_call, GivesBytes, last_call}
@@ -128,10 +129,10 @@ module _ (b : Book) (o : Showing) {S : Type 0} (agrees : S → List ℕ → Type
     pub joined : o.text (h ++ e ∷ []) ≡ o.text h ++ more
     pub part : AppendedPrefix agrees old new (before ++ more)
 
-  -- where a showing is between two lines: these bytes came, these events were taken, and what is
-  -- shown of them is written or gathered
+  -- where a showing is between two lines: these bytes came, these events were taken, what is shown
+  -- of them is written or gathered, and from the pair at first on the computers visited what they cost
   pub record IsAt (viewed : List Event → Type 0) (gathered : Text) (limit : ℕ)
-      (left rest : Option (List ℕ)) (reader : ReaderState) (pair : Pair) (ticks : ℕ) : Type 0 where
+      (left rest : Option (List ℕ)) (reader : ReaderState) (first pair : Pair) (ticks : ℕ) : Type 0 where
     pub taken : List ℕ
     pub answered : List Event
     pub moved : Consumes left rest taken
@@ -141,6 +142,7 @@ module _ (b : Book) (o : Showing) {S : Type 0} (agrees : S → List ℕ → Type
     pub seen : viewed answered
     pub ticks_are : ticks ≡ tick_count answered
     pub handed : IsHanded agrees old new (o.text answered) gathered
+    pub visits : HaveVisited (history_visits b answered) first pair
     pub moments : length (era answered).moments ≤ length answered
     pub few : 2 * length answered + room reader ≤ limit
 

@@ -1,13 +1,15 @@
 // A whole record shown: line by line it is taken by the pair and by a view.
-ghost use Rattle.std.specs.Prelude.{◌≡◌, ◌≢◌, ℕ, ◌<◌, ◌≤◌, ◌&&◌, ◌^◌, ◌++◌, ◌∷◌, [], List, true, false, OnOk, OnErr, IfOk, IfErr, Ok, Err};
+ghost use Rattle.std.specs.Prelude.{◌≡◌, ◌≢◌, ℕ, ◌<◌, ◌≤◌, ◌&&◌, ◌^◌, ◌++◌, ◌∷◌, [], List, true, false, OnOk, OnErr, IfOk, IfErr, Some, Ok, Err};
 ghost use Rattle.ecam_io.specs.Outside.{Rose, Appended, AppendedPrefix};
 ghost use Rattle.ecam_spec.specs.declared.kinds.Event.{Event};
 ghost use Rattle.ecam_spec.specs.History.{comes_up, none_up};
 ghost use Rattle.ecam_spec.specs.Keys.{IsEvent};
+ghost use Rattle.ecam_spec.specs.Record.{events};
 ghost use Rattle.ecam_spec.specs.RecordLine.{is_end_event};
 ghost use Rattle.ecam_spec.specs.Replay.{is_tick, tick_count};
 ghost use Rattle.book_model.specs.Sealed.{the_book};
 ghost use Rattle.fwc_pair.specs.PairState.{flags_of, moments_of, PairFits, PairStands};
+ghost use Rattle.fwc_pair.specs.PairVisits.{event_visits, history_visits, HaveVisited};
 ghost use Rattle.record_lines.specs.Reads.{Makes};
 ghost use Rattle.record_lines.specs.Reader.{reads_next};
 ghost use Rattle.gathering.specs.Handed.{IsHanded};
@@ -55,6 +57,9 @@ pub fn run_view<V: View, S: Source, O: Sink>(
     ensures shows { Shows (the_book book.now)
         (shown_by V.View (V.settings view.old) (the_book book.now))
         O.agrees out.old out.new pair.new limit (S.left source.old) (S.left source.new) result }
+    // Each computer visits, of the conditions' nodes, what the Ticks have to visit at which it is up.
+    ensures visits { OnOk result ((text : List ℕ) → S.left source.old ≡ Some text
+        → HaveVisited (history_visits (the_book book.now) (events text limit)) pair.old pair.new) }
 
     ensures read { result ≡ Err RunError.Read → Rose (S.faults source.old) (S.faults source.new) }
     ensures write { result ≡ Err RunError.Write → Rose (O.faults out.old) (O.faults out.new) }
@@ -90,6 +95,8 @@ fn show_lines<V: View, S: Source, O: Sink>(
         (shown_by V.View (V.settings view.old) (the_book book.now))
         O.agrees out.old.out.now out.new.out.now pair.new limit
         (S.left source.old) (S.left source.new) result }
+    ensures visits { OnOk result ((text : List ℕ) → S.left source.old ≡ Some text
+        → HaveVisited (history_visits (the_book book.now) (events text limit)) pair.old pair.new) }
 
     ensures read { result ≡ Err RunError.Read → Rose (S.faults source.old) (S.faults source.new) }
     ensures write { result ≡ Err RunError.Write
@@ -219,6 +226,8 @@ fn feed<V: View, O: Sink>(
         → OnErr result (HasFedPart (the_book book.now)
         (shown_by V.View (V.settings view.old) (the_book book.now))
         O.agrees out.old.out.now out.new.out.now out.old.bytes.items h event.now) }
+    ensures visits { (h : List Event) → PairStands (the_book book.now) h pair.old
+        → HaveVisited (event_visits (the_book book.now) h event.now) pair.old pair.new }
     ensures cause { OnErr result (Rose (O.faults out.old.out.now) (O.faults out.new.out.now)) }
     ensures faults { O.faults out.old.out.now ≤ O.faults out.new.out.now }
     ensures quiet { OnOk result (O.faults out.new.out.now ≡ O.faults out.old.out.now) }

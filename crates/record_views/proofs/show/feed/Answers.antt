@@ -2,6 +2,7 @@ use Rattle.std.proofs.Common.{◌∙◌, ◌∷◌, ◌++◌, ◌&&◌, [], ap}
 use Rattle.ecam_spec.specs.History.{comes_up, none_up}
 use Rattle.book_model.specs.Sealed.{the_book}
 use Rattle.fwc_pair.specs.Views.{IsNext}
+use Rattle.fwc_pair.proofs.HistoryVisits.{visited-event}
 use Rattle.record_views.specs.Showing.{shown_by}
 use Rattle.record_views.proofs.Viewed.{same-event, fed, fed-part}
 use Rattle.record_views.proofs.show.feed.Goals as goal
@@ -60,3 +61,8 @@ returns-clause-part g c = λ h seen.
     }) in
     fed-part g.O.Sink.agrees c.args.out.now c.event-2.new.out (the_book c.args.book.now) (shown_by g.V.View (g.V.View.settings c.args.view.now) (the_book c.args.book.now)) h c.args.event.now c.event-2.result
     (c.event-2.ensures.part h seen.seen next)
+
+pub returns-clause-visits : goal.returns-clause-visits
+returns-clause-visits g c = λ h st.
+    visited-event (the_book c.args.book.now) h c.args.event.now c.args.pair.now c.event.new.self c.requires.pair st.flags
+    (c.event.ensures.visits h st) c.event.ensures.unvisited

@@ -11,14 +11,15 @@ use Rattle.record_views.specs.Runs.{HasMetFault, HasFed, HasFedPart, IsAt}
 use Rattle.record_lines.specs.declared.outcome.LineError.TheVariants as line_errors
 use Rattle.record_views.specs.declared.show.RunError.TheVariants as RunError
 use Rattle.record_views.proofs.Asked.{asked-none, asked-more, asked-last, asked-spared, unneeded, finished-last, fault-last}
-use Rattle.record_views.proofs.Endings.{at-start, at-handed, at-next, at-broken, at-broken-unwritten, at-fault, at-fault-unwritten, at-few, at-few-moments, at-seen, growing, at-unhanded, at-unwritten, at-finished}
+use Rattle.record_views.proofs.Endings.{at-start, at-handed, at-next, at-broken, at-broken-unwritten, at-fault, at-fault-unwritten, at-few, at-few-moments, at-seen, growing, at-unhanded, at-unwritten, at-finished, at-end-visited}
+use Rattle.record_views.proofs.Viewed.{on-ok}
 use Rattle.record_views.proofs.show.show_lines.Goals as goal
 
 pub lines-init : goal.lines-init
 lines-init g c = record {
-  at = subst (λ gathered. IsAt (the_book c.args.book.now) (shown_by g.V.View (g.V.View.settings c.args.view.now) (the_book c.args.book.now)) g.O.Sink.agrees c.args.out.now.out.now c.args.out.now.out.now (g.V.View.stands c.args.view.now (the_book c.args.book.now)) gathered c.args.limit (g.S.Source.left c.args.source.now) (g.S.Source.left c.args.source.now) c.new-reader.result c.restart.new.self 0)
+  at = subst (λ gathered. IsAt (the_book c.args.book.now) (shown_by g.V.View (g.V.View.settings c.args.view.now) (the_book c.args.book.now)) g.O.Sink.agrees c.args.out.now.out.now c.args.out.now.out.now (g.V.View.stands c.args.view.now (the_book c.args.book.now)) gathered c.args.limit (g.S.Source.left c.args.source.now) (g.S.Source.left c.args.source.now) c.new-reader.result c.restart.new.self c.restart.new.self 0)
       (sym c.requires.empty)
-      (at-start (the_book c.args.book.now) (shown_by g.V.View (g.V.View.settings c.args.view.now) (the_book c.args.book.now)) (growing (the_book c.args.book.now) g.V.View (g.V.View.settings c.args.view.now) (g.met.V.View.begins_empty (g.V.View.settings c.args.view.now) (the_book c.args.book.now)) (g.met.V.View.goes_on (g.V.View.settings c.args.view.now) (the_book c.args.book.now))) g.O.Sink.agrees c.args.out.now.out.now c.args.limit (g.S.Source.left c.args.source.now) (g.V.View.stands c.args.view.now (the_book c.args.book.now)) c.requires.new c.new-reader.result c.restart.new.self
+      (at-start (the_book c.args.book.now) (shown_by g.V.View (g.V.View.settings c.args.view.now) (the_book c.args.book.now)) (growing (the_book c.args.book.now) g.V.View (g.V.View.settings c.args.view.now) (g.met.V.View.begins_empty (g.V.View.settings c.args.view.now) (the_book c.args.book.now)) (g.met.V.View.goes_on (g.V.View.settings c.args.view.now) (the_book c.args.book.now))) g.O.Sink.agrees c.args.out.now.out.now c.args.limit (g.S.Source.left c.args.source.now) c.restart.new.self (g.V.View.stands c.args.view.now (the_book c.args.book.now)) c.requires.new c.new-reader.result
       c.new-reader.ensures.reads c.new-reader.ensures.room c.new-reader.ensures.settled c.restart.ensures.stands);
   fits = c.restart.ensures.fits;
   settings = refl;
@@ -33,18 +34,18 @@ lines-init g c = record {
 
 pub feed-requires-clause-moments : goal.feed-requires-clause-moments
 feed-requires-clause-moments g c =
-    at-few-moments (the_book c.args.book.now) (shown_by g.V.View (g.V.View.settings c.args.view.now) (the_book c.args.book.now)) (growing (the_book c.args.book.now) g.V.View (g.V.View.settings c.args.view.now) (g.met.V.View.begins_empty (g.V.View.settings c.args.view.now) (the_book c.args.book.now)) (g.met.V.View.goes_on (g.V.View.settings c.args.view.now) (the_book c.args.book.now))) g.O.Sink.agrees c.args.out.now.out.now c.args.limit (g.S.Source.left c.args.source.now)
+    at-few-moments (the_book c.args.book.now) (shown_by g.V.View (g.V.View.settings c.args.view.now) (the_book c.args.book.now)) (growing (the_book c.args.book.now) g.V.View (g.V.View.settings c.args.view.now) (g.met.V.View.begins_empty (g.V.View.settings c.args.view.now) (the_book c.args.book.now)) (g.met.V.View.goes_on (g.V.View.settings c.args.view.now) (the_book c.args.book.now))) g.O.Sink.agrees c.args.out.now.out.now c.args.limit (g.S.Source.left c.args.source.now) c.restart.new.self
     c.lines.out.out.now (g.V.View.stands c.lines.view (the_book c.args.book.now)) c.lines.out.bytes.items (g.S.Source.left c.lines.source) c.lines.reader c.lines.pair c.lines.ticks c.lines.invariant.at c.ranges.limit.fits
 
 pub ticks_with-ticks-requires : goal.ticks_with-ticks-requires
 ticks_with-ticks-requires g c =
-    at-few (the_book c.args.book.now) (shown_by g.V.View (g.V.View.settings c.args.view.now) (the_book c.args.book.now)) (growing (the_book c.args.book.now) g.V.View (g.V.View.settings c.args.view.now) (g.met.V.View.begins_empty (g.V.View.settings c.args.view.now) (the_book c.args.book.now)) (g.met.V.View.goes_on (g.V.View.settings c.args.view.now) (the_book c.args.book.now))) g.O.Sink.agrees c.args.out.now.out.now c.args.limit (g.S.Source.left c.args.source.now)
+    at-few (the_book c.args.book.now) (shown_by g.V.View (g.V.View.settings c.args.view.now) (the_book c.args.book.now)) (growing (the_book c.args.book.now) g.V.View (g.V.View.settings c.args.view.now) (g.met.V.View.begins_empty (g.V.View.settings c.args.view.now) (the_book c.args.book.now)) (g.met.V.View.goes_on (g.V.View.settings c.args.view.now) (the_book c.args.book.now))) g.O.Sink.agrees c.args.out.now.out.now c.args.limit (g.S.Source.left c.args.source.now) c.restart.new.self
     c.lines.out.out.now (g.V.View.stands c.lines.view (the_book c.args.book.now)) c.lines.out.bytes.items (g.S.Source.left c.lines.source) c.lines.reader c.lines.pair c.lines.ticks c.lines.invariant.at c.ranges.limit.fits
 
 pub feed-requires-clause-seen : goal.feed-requires-clause-seen
 feed-requires-clause-seen g c = (
   c.lines.invariant.at.answered,
-  at-seen (the_book c.args.book.now) (shown_by g.V.View (g.V.View.settings c.args.view.now) (the_book c.args.book.now)) (growing (the_book c.args.book.now) g.V.View (g.V.View.settings c.args.view.now) (g.met.V.View.begins_empty (g.V.View.settings c.args.view.now) (the_book c.args.book.now)) (g.met.V.View.goes_on (g.V.View.settings c.args.view.now) (the_book c.args.book.now))) g.O.Sink.agrees c.args.out.now.out.now c.args.limit (g.S.Source.left c.args.source.now)
+  at-seen (the_book c.args.book.now) (shown_by g.V.View (g.V.View.settings c.args.view.now) (the_book c.args.book.now)) (growing (the_book c.args.book.now) g.V.View (g.V.View.settings c.args.view.now) (g.met.V.View.begins_empty (g.V.View.settings c.args.view.now) (the_book c.args.book.now)) (g.met.V.View.goes_on (g.V.View.settings c.args.view.now) (the_book c.args.book.now))) g.O.Sink.agrees c.args.out.now.out.now c.args.limit (g.S.Source.left c.args.source.now) c.restart.new.self
       c.lines.out.out.now (g.V.View.stands c.lines.view (the_book c.args.book.now)) c.lines.out.bytes.items (g.S.Source.left c.lines.source) c.lines.reader c.lines.pair c.lines.ticks c.lines.invariant.at c.ranges.limit.fits,
 )
 
@@ -54,7 +55,7 @@ finish-requires-clause-ended g c =
 
 pub lines-preserved : goal.lines-preserved
 lines-preserved g c =
-    let at = at-handed (the_book c.args.book.now) (shown_by g.V.View (g.V.View.settings c.args.view.now) (the_book c.args.book.now)) (growing (the_book c.args.book.now) g.V.View (g.V.View.settings c.args.view.now) (g.met.V.View.begins_empty (g.V.View.settings c.args.view.now) (the_book c.args.book.now)) (g.met.V.View.goes_on (g.V.View.settings c.args.view.now) (the_book c.args.book.now))) g.O.Sink.agrees c.args.out.now.out.now c.args.limit (g.S.Source.left c.args.source.now)
+    let at = at-handed (the_book c.args.book.now) (shown_by g.V.View (g.V.View.settings c.args.view.now) (the_book c.args.book.now)) (growing (the_book c.args.book.now) g.V.View (g.V.View.settings c.args.view.now) (g.met.V.View.begins_empty (g.V.View.settings c.args.view.now) (the_book c.args.book.now)) (g.met.V.View.goes_on (g.V.View.settings c.args.view.now) (the_book c.args.book.now))) g.O.Sink.agrees c.args.out.now.out.now c.args.limit (g.S.Source.left c.args.source.now) c.restart.new.self
     c.lines.out.out.now (g.V.View.stands c.lines.view (the_book c.args.book.now)) c.lines.out.bytes.items (g.S.Source.left c.lines.source) c.lines.reader c.lines.pair c.lines.ticks c.lines.invariant.at
     c.hand_over_before_read.new.out.out.now c.hand_over_before_read.new.out.bytes.items c.in-Ok.ensures.handed in
     let other : is_end_event c.in-Ok-next.event ≡ false = sym c.is_end.ensures ∙ c.if-is_end.false in
@@ -62,15 +63,16 @@ lines-preserved g c =
     let tells = subst (λ e. MatchBool e (TellsEnd c.args.limit (at.taken ++ told.more) at.answered c.next.new.self) (TellsEvent c.args.limit (at.taken ++ told.more) (at.answered ++ c.in-Ok-next.event ∷ []) c.next.new.self))
     other (told.tells c.args.limit at.taken at.answered at.reads) in
     record {
-      at = at-next (the_book c.args.book.now) (shown_by g.V.View (g.V.View.settings c.args.view.now) (the_book c.args.book.now)) (growing (the_book c.args.book.now) g.V.View (g.V.View.settings c.args.view.now) (g.met.V.View.begins_empty (g.V.View.settings c.args.view.now) (the_book c.args.book.now)) (g.met.V.View.goes_on (g.V.View.settings c.args.view.now) (the_book c.args.book.now))) g.O.Sink.agrees c.args.out.now.out.now c.args.limit (g.S.Source.left c.args.source.now)
+      at = at-next (the_book c.args.book.now) (shown_by g.V.View (g.V.View.settings c.args.view.now) (the_book c.args.book.now)) (growing (the_book c.args.book.now) g.V.View (g.V.View.settings c.args.view.now) (g.met.V.View.begins_empty (g.V.View.settings c.args.view.now) (the_book c.args.book.now)) (g.met.V.View.goes_on (g.V.View.settings c.args.view.now) (the_book c.args.book.now))) g.O.Sink.agrees c.args.out.now.out.now c.args.limit (g.S.Source.left c.args.source.now) c.restart.new.self
           c.hand_over_before_read.new.out.out.now (g.V.View.stands c.lines.view (the_book c.args.book.now)) c.hand_over_before_read.new.out.bytes.items (g.S.Source.left c.lines.source) c.lines.reader c.lines.pair c.lines.ticks at
           c.feed.new.out.out.now (g.V.View.stands c.feed.new.view (the_book c.args.book.now)) c.feed.new.out.bytes.items (g.S.Source.left c.next.new.source) c.next.new.self c.feed.new.pair c.ticks_with-ticks.result c.in-Ok-next.event told.more told.moved tells
           (c.in-Ok-next.ensures.settled ∙ ap (λ e. cond e (Some (Ok c.in-Ok-next.event)) None) other)
           (subst (λ e. room c.next.new.self + cond e 0 2 ≤ room c.lines.reader) other c.in-Ok-next.ensures.fewer)
           (subst (λ s. HasFed (the_book c.args.book.now) (shown_by g.V.View s (the_book c.args.book.now)) g.O.Sink.agrees c.hand_over_before_read.new.out.out.now c.feed.new.out.out.now (g.V.View.stands c.feed.new.view (the_book c.args.book.now)) c.hand_over_before_read.new.out.bytes.items c.feed.new.out.bytes.items at.answered c.in-Ok-next.event c.feed.new.pair)
           c.lines.invariant.settings
-          (c.in-Ok-feed.ensures.fed at.answered (at-seen (the_book c.args.book.now) (shown_by g.V.View (g.V.View.settings c.args.view.now) (the_book c.args.book.now)) (growing (the_book c.args.book.now) g.V.View (g.V.View.settings c.args.view.now) (g.met.V.View.begins_empty (g.V.View.settings c.args.view.now) (the_book c.args.book.now)) (g.met.V.View.goes_on (g.V.View.settings c.args.view.now) (the_book c.args.book.now))) g.O.Sink.agrees c.args.out.now.out.now c.args.limit (g.S.Source.left c.args.source.now)
+          (c.in-Ok-feed.ensures.fed at.answered (at-seen (the_book c.args.book.now) (shown_by g.V.View (g.V.View.settings c.args.view.now) (the_book c.args.book.now)) (growing (the_book c.args.book.now) g.V.View (g.V.View.settings c.args.view.now) (g.met.V.View.begins_empty (g.V.View.settings c.args.view.now) (the_book c.args.book.now)) (g.met.V.View.goes_on (g.V.View.settings c.args.view.now) (the_book c.args.book.now))) g.O.Sink.agrees c.args.out.now.out.now c.args.limit (g.S.Source.left c.args.source.now) c.restart.new.self
           c.hand_over_before_read.new.out.out.now (g.V.View.stands c.lines.view (the_book c.args.book.now)) c.hand_over_before_read.new.out.bytes.items (g.S.Source.left c.lines.source) c.lines.reader c.lines.pair c.lines.ticks at c.ranges.limit.fits)))
+          (c.in-Ok-feed.ensures.visits at.answered at.stands)
           (c.ticks_with-ticks.ensures at.answered at.ticks_are);
       fits = c.in-Ok-feed.ensures.pair;
       settings = c.in-Ok-feed.ensures.settings ∙ c.lines.invariant.settings;
@@ -88,68 +90,68 @@ lines-preserved g c =
 
 pub returns-in-Err-clause-shows : goal.returns-in-Err-clause-shows
 returns-in-Err-clause-shows g c =
-    at-unhanded (the_book c.args.book.now) (shown_by g.V.View (g.V.View.settings c.args.view.now) (the_book c.args.book.now)) (growing (the_book c.args.book.now) g.V.View (g.V.View.settings c.args.view.now) (g.met.V.View.begins_empty (g.V.View.settings c.args.view.now) (the_book c.args.book.now)) (g.met.V.View.goes_on (g.V.View.settings c.args.view.now) (the_book c.args.book.now))) g.O.Sink.agrees c.args.out.now.out.now c.args.limit (g.S.Source.left c.args.source.now)
+    at-unhanded (the_book c.args.book.now) (shown_by g.V.View (g.V.View.settings c.args.view.now) (the_book c.args.book.now)) (growing (the_book c.args.book.now) g.V.View (g.V.View.settings c.args.view.now) (g.met.V.View.begins_empty (g.V.View.settings c.args.view.now) (the_book c.args.book.now)) (g.met.V.View.goes_on (g.V.View.settings c.args.view.now) (the_book c.args.book.now))) g.O.Sink.agrees c.args.out.now.out.now c.args.limit (g.S.Source.left c.args.source.now) c.restart.new.self
     c.lines.out.out.now (g.V.View.stands c.lines.view (the_book c.args.book.now)) c.lines.out.bytes.items (g.S.Source.left c.lines.source) c.lines.reader c.lines.pair c.lines.ticks c.lines.invariant.at
     c.hand_over_before_read.new.out.out.now (handed-prefix g.O.Sink.agrees c.lines.out.out.now c.hand_over_before_read.new.out.out.now c.lines.out.bytes.items c.hand_over_before_read.new.out.bytes.items c.in-Err.ensures.handed)
 
 pub returns-in-Ok-hand_over-clause-shows : goal.returns-in-Ok-hand_over-clause-shows
 returns-in-Ok-hand_over-clause-shows g c =
-    let at = at-handed (the_book c.args.book.now) (shown_by g.V.View (g.V.View.settings c.args.view.now) (the_book c.args.book.now)) (growing (the_book c.args.book.now) g.V.View (g.V.View.settings c.args.view.now) (g.met.V.View.begins_empty (g.V.View.settings c.args.view.now) (the_book c.args.book.now)) (g.met.V.View.goes_on (g.V.View.settings c.args.view.now) (the_book c.args.book.now))) g.O.Sink.agrees c.args.out.now.out.now c.args.limit (g.S.Source.left c.args.source.now)
+    let at = at-handed (the_book c.args.book.now) (shown_by g.V.View (g.V.View.settings c.args.view.now) (the_book c.args.book.now)) (growing (the_book c.args.book.now) g.V.View (g.V.View.settings c.args.view.now) (g.met.V.View.begins_empty (g.V.View.settings c.args.view.now) (the_book c.args.book.now)) (g.met.V.View.goes_on (g.V.View.settings c.args.view.now) (the_book c.args.book.now))) g.O.Sink.agrees c.args.out.now.out.now c.args.limit (g.S.Source.left c.args.source.now) c.restart.new.self
     c.lines.out.out.now (g.V.View.stands c.lines.view (the_book c.args.book.now)) c.lines.out.bytes.items (g.S.Source.left c.lines.source) c.lines.reader c.lines.pair c.lines.ticks c.lines.invariant.at
     c.hand_over_before_read.new.out.out.now c.hand_over_before_read.new.out.bytes.items c.in-Ok.ensures.handed in
     let told = c.in-Err-Failed.ensures.told in
     let tells = subst (λ e. TellsAfter c.args.limit (at.taken ++ told.more) at.answered (Err e) c.next.new.self) c.in-Err-Failed.field-0-is (told.tells c.args.limit at.taken at.answered at.reads) in
-    at-broken (the_book c.args.book.now) (shown_by g.V.View (g.V.View.settings c.args.view.now) (the_book c.args.book.now)) (growing (the_book c.args.book.now) g.V.View (g.V.View.settings c.args.view.now) (g.met.V.View.begins_empty (g.V.View.settings c.args.view.now) (the_book c.args.book.now)) (g.met.V.View.goes_on (g.V.View.settings c.args.view.now) (the_book c.args.book.now))) g.O.Sink.agrees c.args.out.now.out.now c.args.limit (g.S.Source.left c.args.source.now)
+    at-broken (the_book c.args.book.now) (shown_by g.V.View (g.V.View.settings c.args.view.now) (the_book c.args.book.now)) (growing (the_book c.args.book.now) g.V.View (g.V.View.settings c.args.view.now) (g.met.V.View.begins_empty (g.V.View.settings c.args.view.now) (the_book c.args.book.now)) (g.met.V.View.goes_on (g.V.View.settings c.args.view.now) (the_book c.args.book.now))) g.O.Sink.agrees c.args.out.now.out.now c.args.limit (g.S.Source.left c.args.source.now) c.restart.new.self
     c.hand_over_before_read.new.out.out.now (g.V.View.stands c.lines.view (the_book c.args.book.now)) c.hand_over_before_read.new.out.bytes.items (g.S.Source.left c.lines.source) c.lines.reader c.lines.pair c.lines.ticks at
     c.hand_over.new.self.out.now (g.S.Source.left c.next.new.source) c.next.new.self told.more (handed-whole g.O.Sink.agrees c.hand_over_before_read.new.out.out.now c.hand_over.new.self.out.now c.hand_over_before_read.new.out.bytes.items c.hand_over.new.self.bytes.items c.in-Ok-hand_over.ensures.handed c.in-Ok-hand_over.ensures.empty) told.moved tells
 
 pub returns-in-Err-hand_over-clause-shows : goal.returns-in-Err-hand_over-clause-shows
 returns-in-Err-hand_over-clause-shows g c =
-    let at = at-handed (the_book c.args.book.now) (shown_by g.V.View (g.V.View.settings c.args.view.now) (the_book c.args.book.now)) (growing (the_book c.args.book.now) g.V.View (g.V.View.settings c.args.view.now) (g.met.V.View.begins_empty (g.V.View.settings c.args.view.now) (the_book c.args.book.now)) (g.met.V.View.goes_on (g.V.View.settings c.args.view.now) (the_book c.args.book.now))) g.O.Sink.agrees c.args.out.now.out.now c.args.limit (g.S.Source.left c.args.source.now)
+    let at = at-handed (the_book c.args.book.now) (shown_by g.V.View (g.V.View.settings c.args.view.now) (the_book c.args.book.now)) (growing (the_book c.args.book.now) g.V.View (g.V.View.settings c.args.view.now) (g.met.V.View.begins_empty (g.V.View.settings c.args.view.now) (the_book c.args.book.now)) (g.met.V.View.goes_on (g.V.View.settings c.args.view.now) (the_book c.args.book.now))) g.O.Sink.agrees c.args.out.now.out.now c.args.limit (g.S.Source.left c.args.source.now) c.restart.new.self
     c.lines.out.out.now (g.V.View.stands c.lines.view (the_book c.args.book.now)) c.lines.out.bytes.items (g.S.Source.left c.lines.source) c.lines.reader c.lines.pair c.lines.ticks c.lines.invariant.at
     c.hand_over_before_read.new.out.out.now c.hand_over_before_read.new.out.bytes.items c.in-Ok.ensures.handed in
     let told = c.in-Err-Failed.ensures.told in
     let tells = subst (λ e. TellsAfter c.args.limit (at.taken ++ told.more) at.answered (Err e) c.next.new.self) c.in-Err-Failed.field-0-is (told.tells c.args.limit at.taken at.answered at.reads) in
-    at-broken-unwritten (the_book c.args.book.now) (shown_by g.V.View (g.V.View.settings c.args.view.now) (the_book c.args.book.now)) (growing (the_book c.args.book.now) g.V.View (g.V.View.settings c.args.view.now) (g.met.V.View.begins_empty (g.V.View.settings c.args.view.now) (the_book c.args.book.now)) (g.met.V.View.goes_on (g.V.View.settings c.args.view.now) (the_book c.args.book.now))) g.O.Sink.agrees c.args.out.now.out.now c.args.limit (g.S.Source.left c.args.source.now)
+    at-broken-unwritten (the_book c.args.book.now) (shown_by g.V.View (g.V.View.settings c.args.view.now) (the_book c.args.book.now)) (growing (the_book c.args.book.now) g.V.View (g.V.View.settings c.args.view.now) (g.met.V.View.begins_empty (g.V.View.settings c.args.view.now) (the_book c.args.book.now)) (g.met.V.View.goes_on (g.V.View.settings c.args.view.now) (the_book c.args.book.now))) g.O.Sink.agrees c.args.out.now.out.now c.args.limit (g.S.Source.left c.args.source.now) c.restart.new.self
     c.hand_over_before_read.new.out.out.now (g.V.View.stands c.lines.view (the_book c.args.book.now)) c.hand_over_before_read.new.out.bytes.items (g.S.Source.left c.lines.source) c.lines.reader c.lines.pair c.lines.ticks at
     c.hand_over.new.self.out.now (handed-prefix g.O.Sink.agrees c.hand_over_before_read.new.out.out.now c.hand_over.new.self.out.now c.hand_over_before_read.new.out.bytes.items c.hand_over.new.self.bytes.items c.in-Err-hand_over.ensures.handed) (g.S.Source.left c.next.new.source) c.next.new.self told.more told.moved tells
     (subst (λ e. settled c.next.new.self ≡ kept_answer (Err e)) c.in-Err-Failed.field-0-is c.in-Err-Failed.ensures.settled)
 
 pub returns-in-Ok-hand_over-2-clause-shows : goal.returns-in-Ok-hand_over-2-clause-shows
 returns-in-Ok-hand_over-2-clause-shows g c =
-    let at = at-handed (the_book c.args.book.now) (shown_by g.V.View (g.V.View.settings c.args.view.now) (the_book c.args.book.now)) (growing (the_book c.args.book.now) g.V.View (g.V.View.settings c.args.view.now) (g.met.V.View.begins_empty (g.V.View.settings c.args.view.now) (the_book c.args.book.now)) (g.met.V.View.goes_on (g.V.View.settings c.args.view.now) (the_book c.args.book.now))) g.O.Sink.agrees c.args.out.now.out.now c.args.limit (g.S.Source.left c.args.source.now)
+    let at = at-handed (the_book c.args.book.now) (shown_by g.V.View (g.V.View.settings c.args.view.now) (the_book c.args.book.now)) (growing (the_book c.args.book.now) g.V.View (g.V.View.settings c.args.view.now) (g.met.V.View.begins_empty (g.V.View.settings c.args.view.now) (the_book c.args.book.now)) (g.met.V.View.goes_on (g.V.View.settings c.args.view.now) (the_book c.args.book.now))) g.O.Sink.agrees c.args.out.now.out.now c.args.limit (g.S.Source.left c.args.source.now) c.restart.new.self
     c.lines.out.out.now (g.V.View.stands c.lines.view (the_book c.args.book.now)) c.lines.out.bytes.items (g.S.Source.left c.lines.source) c.lines.reader c.lines.pair c.lines.ticks c.lines.invariant.at
     c.hand_over_before_read.new.out.out.now c.hand_over_before_read.new.out.bytes.items c.in-Ok.ensures.handed in
     let told = c.in-Err-Record.ensures.told in
     let tells = subst (λ e. TellsAfter c.args.limit (at.taken ++ told.more) at.answered (Err e) c.next.new.self) c.in-Err-Record.field-0-is (told.tells c.args.limit at.taken at.answered at.reads) in
     subst (λ f. (text : List ℕ) → g.S.Source.left c.args.source.now ≡ Some text → HasMetFault (the_book c.args.book.now) (shown_by g.V.View (g.V.View.settings c.args.view.now) (the_book c.args.book.now)) g.O.Sink.agrees c.args.out.now.out.now c.hand_over-in-Err-Record.new.self.out.now c.args.limit text (g.S.Source.left c.next.new.source) f) (sym c.in-Err-Record.fault-is)
-    (at-fault (the_book c.args.book.now) (shown_by g.V.View (g.V.View.settings c.args.view.now) (the_book c.args.book.now)) (growing (the_book c.args.book.now) g.V.View (g.V.View.settings c.args.view.now) (g.met.V.View.begins_empty (g.V.View.settings c.args.view.now) (the_book c.args.book.now)) (g.met.V.View.goes_on (g.V.View.settings c.args.view.now) (the_book c.args.book.now))) g.O.Sink.agrees c.args.out.now.out.now c.args.limit (g.S.Source.left c.args.source.now)
+    (at-fault (the_book c.args.book.now) (shown_by g.V.View (g.V.View.settings c.args.view.now) (the_book c.args.book.now)) (growing (the_book c.args.book.now) g.V.View (g.V.View.settings c.args.view.now) (g.met.V.View.begins_empty (g.V.View.settings c.args.view.now) (the_book c.args.book.now)) (g.met.V.View.goes_on (g.V.View.settings c.args.view.now) (the_book c.args.book.now))) g.O.Sink.agrees c.args.out.now.out.now c.args.limit (g.S.Source.left c.args.source.now) c.restart.new.self
     c.hand_over_before_read.new.out.out.now (g.V.View.stands c.lines.view (the_book c.args.book.now)) c.hand_over_before_read.new.out.bytes.items (g.S.Source.left c.lines.source) c.lines.reader c.lines.pair c.lines.ticks at
     c.hand_over-in-Err-Record.new.self.out.now (g.S.Source.left c.next.new.source) c.next.new.self told.more c.in-Err-Record.fault (handed-whole g.O.Sink.agrees c.hand_over_before_read.new.out.out.now c.hand_over-in-Err-Record.new.self.out.now c.hand_over_before_read.new.out.bytes.items c.hand_over-in-Err-Record.new.self.bytes.items c.in-Ok-hand_over-2.ensures.handed c.in-Ok-hand_over-2.ensures.empty) told.moved tells
     (subst (λ e. MeetsEnd (g.S.Source.left c.lines.source) (g.S.Source.left c.next.new.source) (Err e)) c.in-Err-Record.field-0-is (c.in-Err-Record.ensures.end at.unsettled)))
 
 pub returns-in-Err-hand_over-2-clause-shows : goal.returns-in-Err-hand_over-2-clause-shows
 returns-in-Err-hand_over-2-clause-shows g c =
-    let at = at-handed (the_book c.args.book.now) (shown_by g.V.View (g.V.View.settings c.args.view.now) (the_book c.args.book.now)) (growing (the_book c.args.book.now) g.V.View (g.V.View.settings c.args.view.now) (g.met.V.View.begins_empty (g.V.View.settings c.args.view.now) (the_book c.args.book.now)) (g.met.V.View.goes_on (g.V.View.settings c.args.view.now) (the_book c.args.book.now))) g.O.Sink.agrees c.args.out.now.out.now c.args.limit (g.S.Source.left c.args.source.now)
+    let at = at-handed (the_book c.args.book.now) (shown_by g.V.View (g.V.View.settings c.args.view.now) (the_book c.args.book.now)) (growing (the_book c.args.book.now) g.V.View (g.V.View.settings c.args.view.now) (g.met.V.View.begins_empty (g.V.View.settings c.args.view.now) (the_book c.args.book.now)) (g.met.V.View.goes_on (g.V.View.settings c.args.view.now) (the_book c.args.book.now))) g.O.Sink.agrees c.args.out.now.out.now c.args.limit (g.S.Source.left c.args.source.now) c.restart.new.self
     c.lines.out.out.now (g.V.View.stands c.lines.view (the_book c.args.book.now)) c.lines.out.bytes.items (g.S.Source.left c.lines.source) c.lines.reader c.lines.pair c.lines.ticks c.lines.invariant.at
     c.hand_over_before_read.new.out.out.now c.hand_over_before_read.new.out.bytes.items c.in-Ok.ensures.handed in
     let told = c.in-Err-Record.ensures.told in
     let tells = subst (λ e. TellsAfter c.args.limit (at.taken ++ told.more) at.answered (Err e) c.next.new.self) c.in-Err-Record.field-0-is (told.tells c.args.limit at.taken at.answered at.reads) in
-    at-fault-unwritten (the_book c.args.book.now) (shown_by g.V.View (g.V.View.settings c.args.view.now) (the_book c.args.book.now)) (growing (the_book c.args.book.now) g.V.View (g.V.View.settings c.args.view.now) (g.met.V.View.begins_empty (g.V.View.settings c.args.view.now) (the_book c.args.book.now)) (g.met.V.View.goes_on (g.V.View.settings c.args.view.now) (the_book c.args.book.now))) g.O.Sink.agrees c.args.out.now.out.now c.args.limit (g.S.Source.left c.args.source.now)
+    at-fault-unwritten (the_book c.args.book.now) (shown_by g.V.View (g.V.View.settings c.args.view.now) (the_book c.args.book.now)) (growing (the_book c.args.book.now) g.V.View (g.V.View.settings c.args.view.now) (g.met.V.View.begins_empty (g.V.View.settings c.args.view.now) (the_book c.args.book.now)) (g.met.V.View.goes_on (g.V.View.settings c.args.view.now) (the_book c.args.book.now))) g.O.Sink.agrees c.args.out.now.out.now c.args.limit (g.S.Source.left c.args.source.now) c.restart.new.self
     c.hand_over_before_read.new.out.out.now (g.V.View.stands c.lines.view (the_book c.args.book.now)) c.hand_over_before_read.new.out.bytes.items (g.S.Source.left c.lines.source) c.lines.reader c.lines.pair c.lines.ticks at
     c.hand_over-in-Err-Record.new.self.out.now (g.S.Source.left c.next.new.source) c.next.new.self told.more c.in-Err-Record.fault (handed-prefix g.O.Sink.agrees c.hand_over_before_read.new.out.out.now c.hand_over-in-Err-Record.new.self.out.now c.hand_over_before_read.new.out.bytes.items c.hand_over-in-Err-Record.new.self.bytes.items c.in-Err-hand_over-2.ensures.handed) told.moved tells
     (subst (λ e. MeetsEnd (g.S.Source.left c.lines.source) (g.S.Source.left c.next.new.source) (Err e)) c.in-Err-Record.field-0-is (c.in-Err-Record.ensures.end at.unsettled))
 
 pub returns-then-is_end-clause-shows : goal.returns-then-is_end-clause-shows
 returns-then-is_end-clause-shows g c =
-    let at = at-handed (the_book c.args.book.now) (shown_by g.V.View (g.V.View.settings c.args.view.now) (the_book c.args.book.now)) (growing (the_book c.args.book.now) g.V.View (g.V.View.settings c.args.view.now) (g.met.V.View.begins_empty (g.V.View.settings c.args.view.now) (the_book c.args.book.now)) (g.met.V.View.goes_on (g.V.View.settings c.args.view.now) (the_book c.args.book.now))) g.O.Sink.agrees c.args.out.now.out.now c.args.limit (g.S.Source.left c.args.source.now)
+    let at = at-handed (the_book c.args.book.now) (shown_by g.V.View (g.V.View.settings c.args.view.now) (the_book c.args.book.now)) (growing (the_book c.args.book.now) g.V.View (g.V.View.settings c.args.view.now) (g.met.V.View.begins_empty (g.V.View.settings c.args.view.now) (the_book c.args.book.now)) (g.met.V.View.goes_on (g.V.View.settings c.args.view.now) (the_book c.args.book.now))) g.O.Sink.agrees c.args.out.now.out.now c.args.limit (g.S.Source.left c.args.source.now) c.restart.new.self
     c.lines.out.out.now (g.V.View.stands c.lines.view (the_book c.args.book.now)) c.lines.out.bytes.items (g.S.Source.left c.lines.source) c.lines.reader c.lines.pair c.lines.ticks c.lines.invariant.at
     c.hand_over_before_read.new.out.out.now c.hand_over_before_read.new.out.bytes.items c.in-Ok.ensures.handed in
     let over : is_end_event c.in-Ok-next.event ≡ true = sym c.is_end.ensures ∙ c.if-is_end.true in
     let told = c.in-Ok-next.ensures.told in
     let tells = subst (λ e. MatchBool e (TellsEnd c.args.limit (at.taken ++ told.more) at.answered c.next.new.self) (TellsEvent c.args.limit (at.taken ++ told.more) (at.answered ++ c.in-Ok-next.event ∷ []) c.next.new.self))
     over (told.tells c.args.limit at.taken at.answered at.reads) in
-    at-finished (the_book c.args.book.now) (shown_by g.V.View (g.V.View.settings c.args.view.now) (the_book c.args.book.now)) (growing (the_book c.args.book.now) g.V.View (g.V.View.settings c.args.view.now) (g.met.V.View.begins_empty (g.V.View.settings c.args.view.now) (the_book c.args.book.now)) (g.met.V.View.goes_on (g.V.View.settings c.args.view.now) (the_book c.args.book.now))) g.O.Sink.agrees c.args.out.now.out.now c.args.limit (g.S.Source.left c.args.source.now)
+    at-finished (the_book c.args.book.now) (shown_by g.V.View (g.V.View.settings c.args.view.now) (the_book c.args.book.now)) (growing (the_book c.args.book.now) g.V.View (g.V.View.settings c.args.view.now) (g.met.V.View.begins_empty (g.V.View.settings c.args.view.now) (the_book c.args.book.now)) (g.met.V.View.goes_on (g.V.View.settings c.args.view.now) (the_book c.args.book.now))) g.O.Sink.agrees c.args.out.now.out.now c.args.limit (g.S.Source.left c.args.source.now) c.restart.new.self
     c.hand_over_before_read.new.out.out.now (g.V.View.stands c.lines.view (the_book c.args.book.now)) c.hand_over_before_read.new.out.bytes.items (g.S.Source.left c.lines.source) c.lines.reader c.lines.pair c.lines.ticks at
     c.finish.new.out.out.now (g.S.Source.left c.next.new.source) c.next.new.self told.more c.finish.result told.moved tells
     (c.in-Ok-next.ensures.end at.unsettled over) c.finish.ensures.ticks
@@ -161,21 +163,35 @@ returns-then-is_end-clause-shows g c =
 
 pub returns-in-Err-feed-clause-shows : goal.returns-in-Err-feed-clause-shows
 returns-in-Err-feed-clause-shows g c =
-    let at = at-handed (the_book c.args.book.now) (shown_by g.V.View (g.V.View.settings c.args.view.now) (the_book c.args.book.now)) (growing (the_book c.args.book.now) g.V.View (g.V.View.settings c.args.view.now) (g.met.V.View.begins_empty (g.V.View.settings c.args.view.now) (the_book c.args.book.now)) (g.met.V.View.goes_on (g.V.View.settings c.args.view.now) (the_book c.args.book.now))) g.O.Sink.agrees c.args.out.now.out.now c.args.limit (g.S.Source.left c.args.source.now)
+    let at = at-handed (the_book c.args.book.now) (shown_by g.V.View (g.V.View.settings c.args.view.now) (the_book c.args.book.now)) (growing (the_book c.args.book.now) g.V.View (g.V.View.settings c.args.view.now) (g.met.V.View.begins_empty (g.V.View.settings c.args.view.now) (the_book c.args.book.now)) (g.met.V.View.goes_on (g.V.View.settings c.args.view.now) (the_book c.args.book.now))) g.O.Sink.agrees c.args.out.now.out.now c.args.limit (g.S.Source.left c.args.source.now) c.restart.new.self
     c.lines.out.out.now (g.V.View.stands c.lines.view (the_book c.args.book.now)) c.lines.out.bytes.items (g.S.Source.left c.lines.source) c.lines.reader c.lines.pair c.lines.ticks c.lines.invariant.at
     c.hand_over_before_read.new.out.out.now c.hand_over_before_read.new.out.bytes.items c.in-Ok.ensures.handed in
     let other : is_end_event c.in-Ok-next.event ≡ false = sym c.is_end.ensures ∙ c.if-is_end.false in
     let told = c.in-Ok-next.ensures.told in
     let tells = subst (λ e. MatchBool e (TellsEnd c.args.limit (at.taken ++ told.more) at.answered c.next.new.self) (TellsEvent c.args.limit (at.taken ++ told.more) (at.answered ++ c.in-Ok-next.event ∷ []) c.next.new.self))
     other (told.tells c.args.limit at.taken at.answered at.reads) in
-    at-unwritten (the_book c.args.book.now) (shown_by g.V.View (g.V.View.settings c.args.view.now) (the_book c.args.book.now)) (growing (the_book c.args.book.now) g.V.View (g.V.View.settings c.args.view.now) (g.met.V.View.begins_empty (g.V.View.settings c.args.view.now) (the_book c.args.book.now)) (g.met.V.View.goes_on (g.V.View.settings c.args.view.now) (the_book c.args.book.now))) g.O.Sink.agrees c.args.out.now.out.now c.args.limit (g.S.Source.left c.args.source.now)
+    at-unwritten (the_book c.args.book.now) (shown_by g.V.View (g.V.View.settings c.args.view.now) (the_book c.args.book.now)) (growing (the_book c.args.book.now) g.V.View (g.V.View.settings c.args.view.now) (g.met.V.View.begins_empty (g.V.View.settings c.args.view.now) (the_book c.args.book.now)) (g.met.V.View.goes_on (g.V.View.settings c.args.view.now) (the_book c.args.book.now))) g.O.Sink.agrees c.args.out.now.out.now c.args.limit (g.S.Source.left c.args.source.now) c.restart.new.self
     c.hand_over_before_read.new.out.out.now (g.V.View.stands c.lines.view (the_book c.args.book.now)) c.hand_over_before_read.new.out.bytes.items (g.S.Source.left c.lines.source) c.lines.reader c.lines.pair c.lines.ticks at
     c.feed.new.out.out.now (g.S.Source.left c.next.new.source) c.next.new.self c.in-Ok-next.event told.more
     (subst (λ s. HasFedPart (the_book c.args.book.now) (shown_by g.V.View s (the_book c.args.book.now)) g.O.Sink.agrees c.hand_over_before_read.new.out.out.now c.feed.new.out.out.now c.hand_over_before_read.new.out.bytes.items at.answered c.in-Ok-next.event)
-    c.lines.invariant.settings (c.in-Err-feed.ensures.part at.answered (at-seen (the_book c.args.book.now) (shown_by g.V.View (g.V.View.settings c.args.view.now) (the_book c.args.book.now)) (growing (the_book c.args.book.now) g.V.View (g.V.View.settings c.args.view.now) (g.met.V.View.begins_empty (g.V.View.settings c.args.view.now) (the_book c.args.book.now)) (g.met.V.View.goes_on (g.V.View.settings c.args.view.now) (the_book c.args.book.now))) g.O.Sink.agrees c.args.out.now.out.now c.args.limit (g.S.Source.left c.args.source.now)
+    c.lines.invariant.settings (c.in-Err-feed.ensures.part at.answered (at-seen (the_book c.args.book.now) (shown_by g.V.View (g.V.View.settings c.args.view.now) (the_book c.args.book.now)) (growing (the_book c.args.book.now) g.V.View (g.V.View.settings c.args.view.now) (g.met.V.View.begins_empty (g.V.View.settings c.args.view.now) (the_book c.args.book.now)) (g.met.V.View.goes_on (g.V.View.settings c.args.view.now) (the_book c.args.book.now))) g.O.Sink.agrees c.args.out.now.out.now c.args.limit (g.S.Source.left c.args.source.now) c.restart.new.self
     c.hand_over_before_read.new.out.out.now (g.V.View.stands c.lines.view (the_book c.args.book.now)) c.hand_over_before_read.new.out.bytes.items (g.S.Source.left c.lines.source) c.lines.reader c.lines.pair c.lines.ticks at c.ranges.limit.fits)))
     told.moved tells
     (c.in-Ok-next.ensures.settled ∙ ap (λ e. cond e (Some (Ok c.in-Ok-next.event)) None) other)
+
+-- ---- what was visited
+
+pub returns-then-is_end-clause-visits : goal.returns-then-is_end-clause-visits
+returns-then-is_end-clause-visits g c =
+    let at = c.lines.invariant.at in
+    let over : is_end_event c.in-Ok-next.event ≡ true = sym c.is_end.ensures ∙ c.if-is_end.true in
+    let told = c.in-Ok-next.ensures.told in
+    let tells = subst (λ e. MatchBool e (TellsEnd c.args.limit (at.taken ++ told.more) at.answered c.next.new.self) (TellsEvent c.args.limit (at.taken ++ told.more) (at.answered ++ c.in-Ok-next.event ∷ []) c.next.new.self))
+    over (told.tells c.args.limit at.taken at.answered at.reads) in
+    on-ok _ c.finish.result
+    (at-end-visited (the_book c.args.book.now) (shown_by g.V.View (g.V.View.settings c.args.view.now) (the_book c.args.book.now)) (growing (the_book c.args.book.now) g.V.View (g.V.View.settings c.args.view.now) (g.met.V.View.begins_empty (g.V.View.settings c.args.view.now) (the_book c.args.book.now)) (g.met.V.View.goes_on (g.V.View.settings c.args.view.now) (the_book c.args.book.now))) g.O.Sink.agrees c.args.out.now.out.now c.args.limit (g.S.Source.left c.args.source.now) c.restart.new.self
+    c.lines.out.out.now (g.V.View.stands c.lines.view (the_book c.args.book.now)) c.lines.out.bytes.items (g.S.Source.left c.lines.source) c.lines.reader c.lines.pair c.lines.ticks at
+    c.args.pair.now c.restart.ensures.unvisited (g.S.Source.left c.next.new.source) c.next.new.self told.more told.moved tells (c.in-Ok-next.ensures.end at.unsettled over))
 
 -- ---- the calls of `read`
 

@@ -10,7 +10,7 @@ use Rattle.record_views.proofs.show.show_lines.Given as goal
 
 abbrev pub invariant-lines : goal.invariant-lines
 invariant-lines g l = record {
-  at : IsAt (the_book l.book) (shown_by g.V.View (g.V.View.settings l.initial.view) (the_book l.book)) g.O.Sink.agrees l.initial.out.out.now l.out.out.now (g.V.View.stands l.view (the_book l.book)) l.out.bytes.items l.limit (g.S.Source.left l.initial.source) (g.S.Source.left l.source) l.reader l.pair l.ticks;
+  at : IsAt (the_book l.book) (shown_by g.V.View (g.V.View.settings l.initial.view) (the_book l.book)) g.O.Sink.agrees l.initial.out.out.now l.out.out.now (g.V.View.stands l.view (the_book l.book)) l.out.bytes.items l.limit (g.S.Source.left l.initial.source) (g.S.Source.left l.source) l.reader l.initial.pair l.pair l.ticks;
   fits : PairFits (the_book l.book) l.pair;
   settings : g.V.View.settings l.view ≡ g.V.View.settings l.initial.view;
   same_sink : l.out.out.ghost_name ≡ l.initial.out.out.ghost_name;
