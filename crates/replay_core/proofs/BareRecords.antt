@@ -4,6 +4,7 @@ use Rattle.std.proofs.lemmas.Bool.{and_parts, leb-true}
 use Rattle.std.specs.List.{list_all, cons_option}
 use Rattle.std.specs.Prelude.{filter_map, flat_map, codes}
 use Rattle.ecam_spec.specs.declared.kinds.Event.{Event}
+use Rattle.ecam_spec.specs.declared.limits.TheConstants.{RECORD_LINE}
 use Rattle.ecam_spec.specs.declared.kinds.Event.TheVariants.{End}
 use Rattle.ecam_spec.specs.Book.{Text}
 use Rattle.ecam_spec.specs.Computers.{without_failures}
@@ -81,10 +82,10 @@ module _ (limit : ℕ) where
       subst (λ t. Holds limit t false (h ++ [])) (sym (append-nil text)) (subst (Holds limit text false) (sym (append-nil h)) holds)
   holds-lines (l ∷ lines) text h holds all within =
       let parts = and_parts (is_line l) (list_all is_line lines) all in
-      let own = and_parts (says_event (event_of l)) (leb (length l) 32 && list_all (λ b. not (b == 10)) l) parts.0 in
-      let form = and_parts (leb (length l) 32) (list_all (λ b. not (b == 10)) l) own.1 in
+      let own = and_parts (says_event (event_of l)) (leb (length l) RECORD_LINE && list_all (λ b. not (b == 10)) l) parts.0 in
+      let form = and_parts (leb (length l) RECORD_LINE) (list_all (λ b. not (b == 10)) l) own.1 in
       let size = length-append (line l) (flat_map line lines) in
-      let first = holds-event text l h (event_of l) holds refl own.0 (leb-true (length l) 32 form.0) (feedless l form.1) (omega arith) in
+      let first = holds-event text l h (event_of l) holds refl own.0 (leb-true (length l) RECORD_LINE form.0) (feedless l form.1) (omega arith) in
       let rest = holds-lines lines (text ++ line l) (h ++ cons_option (event_of l) []) first parts.1 (omega (arith, length-append text (line l))) in
       subst (λ t. Holds limit t false (h ++ cons_option (event_of l) (filter_map event_of lines))) (append_assoc text (line l) (flat_map line lines))
       (subst (Holds limit ((text ++ line l) ++ flat_map line lines) false) (snoc (event_of l) h (filter_map event_of lines)) rest)

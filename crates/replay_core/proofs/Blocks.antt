@@ -5,6 +5,7 @@ use Rattle.std.specs.List.{list_any}
 use Rattle.std.proofs.lemmas.Bool.{leb-true}
 use Rattle.std.proofs.lemmas.List.Folds.{list_all_at}
 use Rattle.std.proofs.Math.ListN.{drop_of_length-le}
+use Rattle.ecam_spec.specs.declared.limits.TheConstants.{PICTURE_ROWS}
 use Rattle.ecam_spec.specs.Book.{Text}
 use Rattle.ecam_spec.specs.Picture.{Row, same_row, same_picture}
 use Rattle.ecam_spec.specs.Output.{row_names, row_line, changed_lines, block, line}
@@ -14,7 +15,7 @@ use Rattle.fwc_lane.specs.ChangedRows.{row_differs}
 use Rattle.replay_core.specs.Flagged.{flagged_lines, NamesRows}
 
 -- no row's name is longer than three bytes
-pub short_names : (i : ℕ) → i < 36 → length (get_or row_names i []) ≤ 3
+pub short_names : (i : ℕ) → i < PICTURE_ROWS → length (get_or row_names i []) ≤ 3
 unfolding row_names
 short_names i h = by (leb (length (get_or row_names i [])) 3) refl where
   by : (b : Bool) → leb (length (get_or row_names i [])) 3 ≡ b → length (get_or row_names i []) ≤ 3
@@ -35,7 +36,7 @@ module _ (flags : List Bool) (rows : List code.Row) (i : ℕ) where
   unfolding flagged_lines
   lines_all h = ap (λ names. flagged_lines names (drop i flags) (rows_of (drop i rows))) (drop_of_length-le row_names h)
 
-pub names_length : length row_names ≡ 36
+pub names_length : length row_names ≡ PICTURE_ROWS
 unfolding row_names
 names_length = refl
 
@@ -60,7 +61,7 @@ record Names (old new : List Row) (flags : List Bool) : Type 0 where
   flags_long : length flags ≡ length new
   each : (i : ℕ) → i < length new → get_or flags i false ≡ row_differs old new i
 
-whole-names : (old new : List Row) (flags : List Bool) → length flags ≡ 36 → NamesRows old new flags → Names old new flags
+whole-names : (old new : List Row) (flags : List Bool) → length flags ≡ PICTURE_ROWS → NamesRows old new flags → Names old new flags
 whole-names old new flags long names = record {
   old_long = names.old_whole ∙ sym names.new_whole;
   flags_long = long ∙ sym names.new_whole;
@@ -108,7 +109,7 @@ any-changed [] [] (f ∷ flags) names = absurd (let w : ⊥ = omega (arith, name
 any-changed (o ∷ old) (n ∷ new) [] names = absurd (let w : ⊥ = omega (arith, names.flags_long) in w)
 
 -- without a flag a Tick writes nothing
-pub block-none : (t : ℕ) (old new : List Row) (flags : List Bool) → length flags ≡ 36 → NamesRows old new flags → list_any (λ f. f) flags ≡ false → block t old new ≡ []
+pub block-none : (t : ℕ) (old new : List Row) (flags : List Bool) → length flags ≡ PICTURE_ROWS → NamesRows old new flags → list_any (λ f. f) flags ≡ false → block t old new ≡ []
 unfolding block
 block-none t old new flags long tells none =
     ap (λ b. cond b [] (line (64 ∷ decimal t) ++ changed_lines row_names old new)) (same (same_picture old new) (sym (any-changed old new flags (whole-names old new flags long tells)) ∙ none)) where
@@ -116,7 +117,7 @@ block-none t old new flags long tells none =
       same true e = refl
       same false e = absurd (let w : ⊥ = cc in w)
 
-pub block-some : (t : ℕ) (old new : List Row) (flags : List Bool) → length flags ≡ 36 → NamesRows old new flags → list_any (λ f. f) flags ≡ true
+pub block-some : (t : ℕ) (old new : List Row) (flags : List Bool) → length flags ≡ PICTURE_ROWS → NamesRows old new flags → list_any (λ f. f) flags ≡ true
     → block t old new ≡ line (64 ∷ decimal t) ++ flagged_lines row_names flags new
 unfolding block
 block-some t old new flags long tells some =

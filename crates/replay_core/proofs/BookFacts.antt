@@ -4,6 +4,7 @@ use Rattle.std.specs.Prelude.{is_none, if◌then◌else◌, IfOk, IfErr}
 use Rattle.std.proofs.lemmas.Bool.{lt-leb}
 use Rattle.std.proofs.lemmas.Bool.Decides.{leb_tells}
 use Rattle.ecam_spec.specs.declared.kinds.BookFault.{BookFault}
+use Rattle.ecam_spec.specs.declared.limits.TheConstants.{BOOK_BYTES}
 use Rattle.ecam_spec.specs.Book.{Text, Book}
 use Rattle.ecam_spec.specs.Draft.{Draft, book_of}
 use Rattle.ecam_spec.specs.DraftFaults.{draft_fault}
@@ -14,39 +15,40 @@ use Rattle.book_model.specs.Sealed.{the_book}
 use Rattle.book_model.specs.declared.draft.Draft as code
 use Rattle.book_model.specs.declared.error.LoadError.{LoadError}
 use Rattle.book_model.specs.declared.error.LoadError.TheVariants.{Fault, Memory}
+use Rattle.replay_core.specs.Loading.{past_book}
 use Rattle.replay_core.proofs.Files.{front-same}
 
 -- ---- a book that is too long is told by its first bytes
 
-long-fault : (bytes : Text) → 4194305 ≤ length bytes → text_fault bytes ≡ Some (top_fault 1)
+long-fault : (bytes : Text) → past_book ≤ length bytes → text_fault bytes ≡ Some (top_fault 1)
 unfolding text_fault
-long-fault bytes long = rw (lt-leb (length bytes) 4194304 (omega (arith, long))) refl
+long-fault bytes long = rw (lt-leb (length bytes) BOOK_BYTES (omega (arith, long))) refl
 
-long-draft : (bytes : Text) → 4194305 ≤ length bytes → draft_of_bytes bytes ≡ None
+long-draft : (bytes : Text) → past_book ≤ length bytes → draft_of_bytes bytes ≡ None
 unfolding draft_of_bytes
-long-draft bytes long = rw (lt-leb (length bytes) 4194304 (omega (arith, long))) refl
+long-draft bytes long = rw (lt-leb (length bytes) BOOK_BYTES (omega (arith, long))) refl
 
-long-book : (bytes : Text) → 4194305 ≤ length bytes → book bytes ≡ None
+long-book : (bytes : Text) → past_book ≤ length bytes → book bytes ≡ None
 unfolding book
 long-book bytes long = ap sealed (long-draft bytes long)
 
-long-refused : (bytes : Text) → 4194305 ≤ length bytes → book_fault bytes ≡ Some (top_fault 1)
+long-refused : (bytes : Text) → past_book ≤ length bytes → book_fault bytes ≡ Some (top_fault 1)
 unfolding book_fault
 long-refused bytes long = ap (λ d. fault_after d (text_fault bytes)) (long-draft bytes long) ∙ long-fault bytes long
 
 -- a book is as short as it may be
-pub book-short : (bytes : Text) (b : Book) → book bytes ≡ Some b → length bytes < 4194305
+pub book-short : (bytes : Text) (b : Book) → book bytes ≡ Some b → length bytes < past_book
 book-short bytes b is =
-    elim (leb_tells 4194305 (length bytes)) [
+    elim (leb_tells past_book (length bytes)) [
       | inl (_, long) ↦ let none = long-book bytes long in absurd (let w : ⊥ = cc in w)
       | inr (_, short) ↦ short
     ]
 
-pub book-front : (bytes : Text) → book (take 4194305 bytes) ≡ book bytes
-book-front = front-same 4194305 book None long-book
+pub book-front : (bytes : Text) → book (take past_book bytes) ≡ book bytes
+book-front = front-same past_book book None long-book
 
-pub book_fault-front : (bytes : Text) → book_fault (take 4194305 bytes) ≡ book_fault bytes
-book_fault-front = front-same 4194305 book_fault (Some (top_fault 1)) long-refused
+pub book_fault-front : (bytes : Text) → book_fault (take past_book bytes) ≡ book_fault bytes
+book_fault-front = front-same past_book book_fault (Some (top_fault 1)) long-refused
 
 -- ---- what is read and sealed
 
@@ -58,7 +60,7 @@ no-table (Some table) f is = ap (λ o. cond (is_none o) (Some (draft_of table)) 
 no-draft : (bytes : Text) (f : BookFault) → text_fault bytes ≡ Some f → draft_of_bytes bytes ≡ None
 unfolding text_fault draft_of_bytes
 no-draft bytes f is =
-    (elim (leb (length bytes) 4194304) as (λ b. (if b then document_fault (table_of_text bytes) else Some (top_fault 1)) ≡ Some f → (if b then draft_in (table_of_text bytes) else None) ≡ None) [
+    (elim (leb (length bytes) BOOK_BYTES) as (λ b. (if b then document_fault (table_of_text bytes) else Some (top_fault 1)) ≡ Some f → (if b then draft_in (table_of_text bytes) else None) ≡ None) [
       | true ↦ λ is. no-table (table_of_text bytes) f is
       | false ↦ λ is. refl
     ])

@@ -5,6 +5,7 @@ use Rattle.ecam_io.specs.Outside.{Rose}
 use Rattle.ecam_io.specs.Tally.{IsTallyOf}
 use Rattle.ecam_io.specs.declared.tally.Tally.{Tally}
 use Rattle.ecam_spec.specs.Book.{Text, Book}
+use Rattle.ecam_spec.specs.Command.{no_limit}
 use Rattle.ecam_spec.specs.Replay.{reply}
 use Rattle.fwc_pair.specs.declared.pair.Pair.{Pair}
 use Rattle.record_maker.specs.Record.{made}
@@ -19,15 +20,15 @@ pub never-rose : Rose 0 0 → ⊥
 never-rose rose = let less = rose (λ e. let w : ⊥ = omega (arith, e) in w) in let w : ⊥ = omega (arith, less) in w
 
 module _ (b : Book) (pair : Pair) (seed moments : ℕ) (few : moments ≤ 1000000) (old new : Tally) (none : IsTallyOf old []) (left rest : Option (List ℕ)) (is : left ≡ Some (made seed moments)) where
-  pub tallied : (result : Result ℕ RunError) → Runs b IsTallyOf old new pair 4294967295 left rest result → (result ≡ Err Read → Rose 0 0) → (result ≡ Err Write → Rose 0 0)
-      → IsTallyOf new (reply b (made seed moments) 4294967295)
+  pub tallied : (result : Result ℕ RunError) → Runs b IsTallyOf old new pair no_limit left rest result → (result ≡ Err Read → Rose 0 0) → (result ≡ Err Write → Rose 0 0)
+      → IsTallyOf new (reply b (made seed moments) no_limit)
   unfolding reply
   tallied (Ok n) runs read write = (runs (made seed moments) is).written [] none
   tallied (Err Read) runs read write = absurd (never-rose (read refl))
   tallied (Err Write) runs read write = absurd (never-rose (write refl))
   tallied (Err (Record f)) runs read write =
       let faulty = (runs (made seed moments) is).fault_is in
-      let sound = made_sound seed moments 4294967295 (omega (arith, few)) in
+      let sound = made_sound seed moments no_limit (omega (arith, few)) in
       absurd (let w : ⊥ = cc in w)
 
 -- the line that was put together from these numbers

@@ -9,23 +9,25 @@ use Rattle.limits_spec.specs.Document.{table_fault}
 use Rattle.limits_spec.specs.LimitsOf.{limits_of}
 use Rattle.limits_spec.specs.LimitsBytes.{top_fault, document_fault, limits_fault, document_limits, limits}
 use Rattle.limits_spec.specs.declared.form.LimitsFault.{LimitsFault}
+use Rattle.limits_spec.specs.declared.form.TheConstants.{LIMITS_BYTES}
+use Rattle.replay_core.specs.Loading.{past_limits}
 use Rattle.replay_core.proofs.Files.{front-same}
 
 module _ (b : Book) where
   -- limits that are too long are told by their first bytes
-  long-fault : (bytes : Text) → 65537 ≤ length bytes → limits_fault b bytes ≡ Some (top_fault 1)
+  long-fault : (bytes : Text) → past_limits ≤ length bytes → limits_fault b bytes ≡ Some (top_fault 1)
   unfolding limits_fault
-  long-fault bytes long = rw (lt-leb (length bytes) 65536 (omega (arith, long))) refl
+  long-fault bytes long = rw (lt-leb (length bytes) LIMITS_BYTES (omega (arith, long))) refl
 
-  long-limits : (bytes : Text) → 65537 ≤ length bytes → limits b bytes ≡ None
+  long-limits : (bytes : Text) → past_limits ≤ length bytes → limits b bytes ≡ None
   unfolding limits
-  long-limits bytes long = rw (lt-leb (length bytes) 65536 (omega (arith, long))) refl
+  long-limits bytes long = rw (lt-leb (length bytes) LIMITS_BYTES (omega (arith, long))) refl
 
-  pub limits_fault-front : (bytes : Text) → limits_fault b (take 65537 bytes) ≡ limits_fault b bytes
-  limits_fault-front = front-same 65537 (limits_fault b) (Some (top_fault 1)) long-fault
+  pub limits_fault-front : (bytes : Text) → limits_fault b (take past_limits bytes) ≡ limits_fault b bytes
+  limits_fault-front = front-same past_limits (limits_fault b) (Some (top_fault 1)) long-fault
 
-  pub limits-front : (bytes : Text) → limits b (take 65537 bytes) ≡ limits b bytes
-  limits-front = front-same 65537 (limits b) None long-limits
+  pub limits-front : (bytes : Text) → limits b (take past_limits bytes) ≡ limits b bytes
+  limits-front = front-same past_limits (limits b) None long-limits
 
   -- limits have no fault
   faultless-in : (o : _) (ls : List Advisory) → document_limits b o ≡ Some ls → document_fault b o ≡ None
@@ -38,7 +40,7 @@ module _ (b : Book) where
   pub limits-faultless : (bytes : Text) (ls : List Advisory) → limits b bytes ≡ Some ls → limits_fault b bytes ≡ None
   unfolding limits limits_fault
   limits-faultless bytes ls is =
-      (elim (leb (length bytes) 65536) as (λ c. (if c then document_limits b (table_of_text bytes) else None) ≡ Some ls
+      (elim (leb (length bytes) LIMITS_BYTES) as (λ c. (if c then document_limits b (table_of_text bytes) else None) ≡ Some ls
       → (if c then document_fault b (table_of_text bytes) else Some (top_fault 1)) ≡ None) [
         | true ↦ λ is. faultless-in (table_of_text bytes) ls is
         | false ↦ λ is. absurd (let w : ⊥ = cc in w)

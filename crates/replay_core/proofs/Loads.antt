@@ -11,7 +11,7 @@ use Rattle.view_spec.specs.Advisories.{Advisory}
 use Rattle.limits_spec.specs.LimitsBytes.{limits_fault, limits}
 use Rattle.limits_spec.specs.declared.form.LimitsFault.{LimitsFault}
 use Rattle.replay_core.specs.Calls.{Files, ShelfCall}
-use Rattle.replay_core.specs.Loading.{BookHas, IsFront, HasFault, IsBookFile}
+use Rattle.replay_core.specs.Loading.{BookHas, IsFront, HasFault, IsBookFile, past_book, past_limits}
 use Rattle.replay_core.specs.LimitsLoading.{LimitsHave, HasLimitsFault}
 use Rattle.replay_core.specs.Migrations.{IsMigrated, HasMigrated}
 use Rattle.replay_core.specs.declared.load.BookFile.{BookFile}
@@ -21,19 +21,19 @@ use Rattle.replay_core.proofs.Files.{front-is, front-took, front-all, front-spen
 
 -- ---- a book's file is read as far as a book may go, and that tells what the whole file is
 
-module _ (s : ShelfCall) (name v : Text) (read : FileHas s.files name (λ bytes. IsFront 4194305 bytes v s.left)) where
+module _ (s : ShelfCall) (name v : Text) (read : FileHas s.files name (λ bytes. IsFront past_book bytes v s.left)) where
   pub file-refused : (f : BookFault) → book_fault v ≡ Some f → FileHas s.files name (λ bytes. HasFault bytes f s.left)
-  file-refused f is = FileHas-weaker s.files name (λ bytes. IsFront 4194305 bytes v s.left) (λ bytes. HasFault bytes f s.left)
-      (λ bytes front. record { fault_is = sym (ap book_fault (front-is 4194305 bytes v s.left front) ∙ book_fault-front bytes) ∙ is; took = front-took 4194305 bytes v s.left front }) read
+  file-refused f is = FileHas-weaker s.files name (λ bytes. IsFront past_book bytes v s.left) (λ bytes. HasFault bytes f s.left)
+      (λ bytes front. record { fault_is = sym (ap book_fault (front-is past_book bytes v s.left front) ∙ book_fault-front bytes) ∙ is; took = front-took past_book bytes v s.left front }) read
 
   pub file-read : (f : BookFile) → v ≡ f.bytes.items → book v ≡ Some (the_book f.book) → FileHas s.files name (IsBookFile s name f)
   file-read f held is =
       let short = book-short v (the_book f.book) is in
-      FileHas-weaker s.files name (λ bytes. IsFront 4194305 bytes v s.left) (IsBookFile s name f)
+      FileHas-weaker s.files name (λ bytes. IsFront past_book bytes v s.left) (IsBookFile s name f)
       (λ bytes front. record {
-        bytes_are = front-all 4194305 bytes v s.left front short ∙ held;
-        book_is = ap book (front-all 4194305 bytes v s.left front short) ∙ is;
-        spent = front-spent 4194305 bytes v s.left front short;
+        bytes_are = front-all past_book bytes v s.left front short ∙ held;
+        book_is = ap book (front-all past_book bytes v s.left front short) ∙ is;
+        spent = front-spent past_book bytes v s.left front short;
       }) read
 
 -- ---- what is known of a file that is a book
@@ -59,14 +59,14 @@ file-written files name text left P has so = FileHas-weaker files name (IsMigrat
 
 -- ---- a limits file is read as far as it may go, too
 
-module _ (files : Files) (name v : Text) (left : Option Text) (read : FileHas files name (λ bytes. IsFront 65537 bytes v left)) (b : Book) where
+module _ (files : Files) (name v : Text) (left : Option Text) (read : FileHas files name (λ bytes. IsFront past_limits bytes v left)) (b : Book) where
   pub limits-refused : (f : LimitsFault) → limits_fault b v ≡ Some f → FileHas files name (HasLimitsFault b f left)
-  limits-refused f is = FileHas-weaker files name (λ bytes. IsFront 65537 bytes v left) (HasLimitsFault b f left)
+  limits-refused f is = FileHas-weaker files name (λ bytes. IsFront past_limits bytes v left) (HasLimitsFault b f left)
       (λ bytes front. record {
-        fault_is = sym (ap (limits_fault b) (front-is 65537 bytes v left front) ∙ limits_fault-front b bytes) ∙ is;
-        took = front-took 65537 bytes v left front;
+        fault_is = sym (ap (limits_fault b) (front-is past_limits bytes v left front) ∙ limits_fault-front b bytes) ∙ is;
+        took = front-took past_limits bytes v left front;
       }) read
 
   pub limits-read : (ls : List Advisory) → limits b v ≡ Some ls → LimitsHave files name b (λ x. x ≡ ls)
-  limits-read ls is = FileHas-weaker files name (λ bytes. IsFront 65537 bytes v left) (λ bytes. IsSomeAnd (limits b bytes) (λ x. x ≡ ls))
-      (λ bytes front. subst (λ o. IsSomeAnd o (λ x. x ≡ ls)) (sym is ∙ ap (limits b) (front-is 65537 bytes v left front) ∙ limits-front b bytes) refl) read
+  limits-read ls is = FileHas-weaker files name (λ bytes. IsFront past_limits bytes v left) (λ bytes. IsSomeAnd (limits b bytes) (λ x. x ≡ ls))
+      (λ bytes front. subst (λ o. IsSomeAnd o (λ x. x ≡ ls)) (sym is ∙ ap (limits b) (front-is past_limits bytes v left front) ∙ limits-front b bytes) refl) read

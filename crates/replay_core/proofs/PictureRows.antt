@@ -1,6 +1,7 @@
 -- Each picture has 36 rows.
 use Rattle.std.proofs.Common.{◌≡◌, ℕ, zero, suc, ◌+◌, ◌-◌, true, false, List, [], ◌∷◌, ◌++◌, length, cond, Option, Some, None, refl, arith, length-append, length-take, replicate}
 use Rattle.std.proofs.lemmas.List.{length-replicate}
+use Rattle.ecam_spec.specs.declared.limits.TheConstants.{PICTURE_ROWS}
 use Rattle.ecam_spec.specs.declared.kinds.Event.{Event}
 use Rattle.ecam_spec.specs.declared.kinds.Choice.{Choice}
 use Rattle.ecam_spec.specs.declared.kinds.Choice.TheVariants.{Auto, Page, Status}
@@ -40,7 +41,7 @@ display-long d (Status q) = status-long q _
 
 module _ (b : Book) where
   joined-long : (left right display lamps : List Row) (flags : Row) → length left ≡ 7 → length right ≡ 7 → length display ≡ 18 → length lamps ≡ 3
-      → length (left ++ right ++ flags ∷ [] ++ display ++ lamps) ≡ 36
+      → length (left ++ right ++ flags ∷ [] ++ display ++ lamps) ≡ PICTURE_ROWS
   joined-long left right display lamps flags l r d m =
       omega (
         arith,
@@ -54,24 +55,24 @@ module _ (b : Book) where
         m,
       )
 
-  moment-long : (m : ℕ → Moment) (k : ℕ) → length (picture_in b m k) ≡ 36
+  moment-long : (m : ℕ → Moment) (k : ℕ) → length (picture_in b m k) ≡ PICTURE_ROWS
   unfolding picture_in left_zone right_zone lamp_rows
   moment-long m k =
       joined-long _ _ _ _ _ (zone-long 7 _) (zone-long 7 _) (display-long (display b m k) (choice (panel b m) k)) refl
 
-  at-long : (h : List Event) → length (picture_at b h) ≡ 36
+  at-long : (h : List Event) → length (picture_at b h) ≡ PICTURE_ROWS
   unfolding picture_at dead
   at-long h =
-      elim (none_up (flags_after h)) as (λ c. length (cond c dead (picture_in b (moment_of (era h)) (length (era h).moments - 1))) ≡ 36) [
-        | true ↦ zone-long 36 _
+      elim (none_up (flags_after h)) as (λ c. length (cond c dead (picture_in b (moment_of (era h)) (length (era h).moments - 1))) ≡ PICTURE_ROWS) [
+        | true ↦ zone-long PICTURE_ROWS _
         | false ↦ moment-long (moment_of (era h)) (length (era h).moments - 1)
       ]
 
-  before-long : (p : ℕ → Picture) (n : ℕ) → ((t : ℕ) → length (p t) ≡ 36) → length (picture_before p n) ≡ 36
+  before-long : (p : ℕ → Picture) (n : ℕ) → ((t : ℕ) → length (p t) ≡ PICTURE_ROWS) → length (picture_before p n) ≡ PICTURE_ROWS
   unfolding blank
-  before-long p zero each = length-replicate 36 blank_row
+  before-long p zero each = length-replicate PICTURE_ROWS blank_row
   before-long p (suc n) each = each n
 
-  pub last-long : (h : List Event) → length (last_picture b h) ≡ 36
+  pub last-long : (h : List Event) → length (last_picture b h) ≡ PICTURE_ROWS
   unfolding last_picture picture
   last-long h = before-long (picture b h) (tick_count h) (λ t. at-long (through (t + 1) h))

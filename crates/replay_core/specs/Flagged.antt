@@ -1,6 +1,7 @@
 -- The rows of a picture that are told as changed.
 use Rattle.std.specs.Prelude.{◌≡◌, ℕ, ◌<◌, Bool, false, List, [], ◌∷◌, ◌++◌, length, get_or}
 use Rattle.std.specs.Prelude.{if◌then◌else◌}
+use Rattle.ecam_spec.specs.declared.limits.TheConstants.{PICTURE_ROWS}
 use Rattle.ecam_spec.specs.Book.{Text}
 use Rattle.ecam_spec.specs.Picture.{Picture}
 use Rattle.ecam_spec.specs.Output.{row_line}
@@ -14,6 +15,6 @@ flagged_lines _ _ _ = []
 
 -- the flags name exactly the rows in which a picture differs from the old one
 pub record NamesRows (old new : Picture) (flags : List Bool) : Type 0 where
-  pub old_whole : length old ≡ 36
-  pub new_whole : length new ≡ 36
-  pub each : (i : ℕ) → i < 36 → get_or flags i false ≡ row_differs old new i
+  pub old_whole : length old ≡ PICTURE_ROWS
+  pub new_whole : length new ≡ PICTURE_ROWS
+  pub each : (i : ℕ) → i < PICTURE_ROWS → get_or flags i false ≡ row_differs old new i

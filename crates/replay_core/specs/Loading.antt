@@ -1,10 +1,12 @@
 -- How loading a book ends, each ending with its cause.
-use Rattle.std.specs.Prelude.{◌≡◌, ◌⊎◌, ℕ, ◌≤◌, ◌<◌, ◌++◌, length, true, false, [], Option, Some, None}
+use Rattle.std.specs.Prelude.{◌≡◌, ◌⊎◌, ℕ, ◌≤◌, ◌<◌, ◌+◌, ◌++◌, length, true, false, [], Option, Some, None}
 use Rattle.std.specs.Prelude.{Result, Ok, Err, IsSomeAnd}
 use Rattle.ecam_io.specs.Outside.{FileHas, MayRefuse, IsClosed}
 use Rattle.ecam_spec.specs.declared.kinds.BookFault.{BookFault}
+use Rattle.ecam_spec.specs.declared.limits.TheConstants.{BOOK_BYTES}
 use Rattle.ecam_spec.specs.Book.{Text, Book}
 use Rattle.book_spec.specs.BookBytes.{book_fault, book}
+use Rattle.limits_spec.specs.declared.form.TheConstants.{LIMITS_BYTES}
 use Rattle.book_model.specs.Sealed.{the_book}
 use Rattle.book_model.specs.declared.draft.Draft.{Draft}
 use Rattle.fwc_pair.specs.PairState.{PairFits}
@@ -20,10 +22,10 @@ BookHas files name P = FileHas files name (λ bytes. IsSomeAnd (book bytes) P)
 
 -- a book of this many bytes is too large, whatever follows, and so are limits of that many
 abbrev pub past_book : ℕ
-past_book = 4194305
+past_book = BOOK_BYTES + 1
 
 abbrev pub past_limits : ℕ
-past_limits = 65537
+past_limits = LIMITS_BYTES + 1
 
 -- the first bytes of a file, up to so many, and what is left behind them; fewer come only where
 -- nothing is

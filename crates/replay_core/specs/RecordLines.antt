@@ -3,6 +3,7 @@ use Rattle.std.specs.Prelude.{Bool, false, not, ◌&&◌, ◌==◌, nat_le, List
 use Rattle.std.specs.Prelude.{filter, Option, Some, None, codes}
 use Rattle.std.specs.List.{list_all}
 use Rattle.ecam_spec.specs.declared.kinds.Event.{Event}
+use Rattle.ecam_spec.specs.declared.limits.TheConstants.{RECORD_LINE}
 use Rattle.ecam_spec.specs.Book.{Text}
 use Rattle.ecam_spec.specs.History.{changes_computers}
 use Rattle.ecam_spec.specs.Output.{line}
@@ -16,7 +17,8 @@ says_event None = false
 -- a line of a record without its line feed: at most 32 bytes, which say an event
 unfoldable pub is_line : Text → Bool
 is_line bytes =
-    says_event (event_of bytes) && (nat_le (length bytes) 32 && list_all (λ b. not (b == 10)) bytes)
+    says_event (event_of bytes)
+    && (nat_le (length bytes) RECORD_LINE && list_all (λ b. not (b == 10)) bytes)
 
 -- a computer fails or comes up
 abbrev pub is_failure : Option Event → Bool

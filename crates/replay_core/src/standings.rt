@@ -2,6 +2,7 @@
 ghost use Rattle.std.specs.Prelude.{◌≡◌, ◌≤◌, ◌<◌, ◌+◌, ◌++◌, ◌∷◌, List, length, OnOk, OnErr};
 ghost use Rattle.ecam_io.specs.Outside.{Rose, Appended, AppendedPrefix};
 ghost use Rattle.ecam_spec.specs.declared.kinds.Event.{Event};
+ghost use Rattle.ecam_spec.specs.declared.limits.TheConstants.{NAME};
 ghost use Rattle.ecam_spec.specs.Output as output;
 ghost use Rattle.ecam_spec.specs.Replay as replay;
 ghost use Rattle.ecam_spec.specs.Situation.{alert_at};
@@ -22,9 +23,9 @@ type Line = ArrayVec<u8, 160>;
 
 // Appends the name of an alert by its place in the book; past the last alert there is none.
 fn put_name(line: &mut Line, book: &Book, alert: usize)
-    requires { length line.old.items + 24 ≤ 160 }
+    requires { length line.old.items + NAME ≤ 160 }
     ensures name { line.new.items ≡ line.old.items ++ (alert_at (the_book book.now) alert).name }
-    ensures short { length line.new.items ≤ length line.old.items + 24 }
+    ensures short { length line.new.items ≤ length line.old.items + NAME }
 {
     let alerts = book.alerts();
     if alert < alerts.len() {

@@ -3,6 +3,7 @@ use Rattle.std.specs.Prelude.{ℕ, ◌==◌, ◌++◌, map, Option, Some, if◌t
 use Rattle.ecam_spec.specs.declared.kinds.FaultKind.{FaultKind}
 use Rattle.ecam_spec.specs.declared.kinds.RecordFault.{RecordFault}
 use Rattle.ecam_spec.specs.Book.{Text, Book}
+use Rattle.ecam_spec.specs.Command.{no_limit}
 use Rattle.ecam_spec.specs.Record.{fault, events}
 use Rattle.ecam_spec.specs.Replay.{reply, standing_lines}
 use Rattle.view_spec.specs.OutputWords.{words_text, words_end}
@@ -10,10 +11,6 @@ use Rattle.view_spec.specs.OutputWords.{words_text, words_end}
 -- a text whose lines end with `/`
 abbrev pub lines : Text → Text
 lines t = map (λ c. if c == 47 then 10 else c) t
-
--- the largest limit on a record's bytes, which holds where none is given
-abbrev pub no_limit : ℕ
-no_limit = 4294967295
 
 -- what `replay` writes of a record
 abbrev pub written : Book → Text → Text

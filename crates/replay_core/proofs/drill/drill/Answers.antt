@@ -1,3 +1,4 @@
+use Rattle.ecam_spec.specs.Command.{no_limit}
 use Rattle.ecam_spec.specs.Replay.{reply}
 use Rattle.book_model.specs.Sealed.{the_book}
 use Rattle.record_maker.specs.Record.{made}
@@ -11,7 +12,7 @@ unfolding drill_line
 returns-in-Ok-put_counts-clause-drills g c =
     let b = the_book c.in-Ok.loaded.book in
     book-told (shelf_call g.F.Source c.args.files.now c.load.new.files) (sink_call g.O.Sink c.args.out.now c.put_counts.new.out) c.args.book_name.now c.in-Ok.ensures.opens b
-    c.in-Ok.ensures.readies.book (drill_line c.args.seed c.args.moments) (c.in-Ok-put_counts.ensures.all (reply b (made c.args.seed c.args.moments) 4294967295) c.replay_made-tally.ensures)
+    c.in-Ok.ensures.readies.book (drill_line c.args.seed c.args.moments) (c.in-Ok-put_counts.ensures.all (reply b (made c.args.seed c.args.moments) no_limit) c.replay_made-tally.ensures)
 
 pub returns-in-Err-put_counts-clause-drills : goal.returns-in-Err-put_counts-clause-drills
 unfolding drill_line
@@ -19,4 +20,4 @@ returns-in-Err-put_counts-clause-drills g c =
     let b = the_book c.in-Ok.loaded.book in
     book-untold (shelf_call g.F.Source c.args.files.now c.load.new.files) (sink_call g.O.Sink c.args.out.now c.put_counts.new.out) c.args.book_name.now c.in-Ok.ensures.opens b
     c.in-Ok.ensures.readies.book (drill_line c.args.seed c.args.moments) c.in-Err-put_counts.ensures.cause
-    (c.in-Err-put_counts.ensures.prefix (reply b (made c.args.seed c.args.moments) 4294967295) c.replay_made-tally.ensures)
+    (c.in-Err-put_counts.ensures.prefix (reply b (made c.args.seed c.args.moments) no_limit) c.replay_made-tally.ensures)
