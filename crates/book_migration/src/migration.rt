@@ -39,7 +39,7 @@ pub(crate) fn set_version(table: &mut Table)
 
 fn printed(alloc: Global, table: &Table) -> Result<String, AllocError>
     requires { table_fault (table_view table.now) ≡ None }
-    ensures { IfOk result (λ text. table_of_text (string_bytes text) ≡ Some (table_view table.now)) }
+    ensures { IfOk result (λ t. table_of_text (string_bytes t) ≡ Some (table_view table.now)) }
 {
     go_through_table(table);
     match toml::table_to_string(alloc, table) {

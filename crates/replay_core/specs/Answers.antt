@@ -122,14 +122,16 @@ module _ {S : Type 0} (f : ShelfCall) (out : SinkCall S) (Opened : Type 0) (book
   ByReading e outcomes.Usage = ⊥
   ByReading e (outcomes.BookRefused g) = BookFaulty f out book g
   ByReading e (outcomes.RecordRefused g) = Reached (e.refused g)
-  ByReading e outcomes.ReadFault = BookUnread f out book ⊎ (RecordUnopened e.accepts ⊎ RecordUnread e.broken)
+  ByReading e outcomes.ReadFault =
+      BookUnread f out book ⊎ (RecordUnopened e.accepts ⊎ RecordUnread e.broken)
   ByReading e outcomes.WriteFault = NotWritten e.stopped
   ByReading e outcomes.NoMemory = TooLittle f out book
   ByReading e outcomes.NoSuch = ⊥
   ByReading e (outcomes.LimitsRefused g) = ⊥
 
 -- that opens the book and the record
-abbrev pub ByRecord : {S : Type 0} → ShelfCall → SinkCall S → Text → Text → Endings → Outcome → Type 0
+abbrev pub ByRecord : {S : Type 0} → ShelfCall → SinkCall S → Text → Text → Endings → Outcome
+    → Type 0
 ByRecord f out book record' = ByReading f out (OpenedBoth f) book record'
 
 -- ---- one that goes by a number parameter besides
@@ -178,7 +180,8 @@ module _ {S : Type 0} (f : ShelfCall) (out : SinkCall S) where
   abbrev pub Ends : Option Command → Outcome → Type 0
   Ends None = Refuses
   Ends (Some (check book)) = ByBook f out book summary
-  Ends (Some (replay book record' limit)) = ByRecord f out book record' (showing out blocks_of limit)
+  Ends (Some (replay book record' limit)) =
+      ByRecord f out book record' (showing out blocks_of limit)
   Ends (Some (why book record')) = ByRecord f out book record' (explaining out)
   Ends (Some (drill book seed moments)) = ByBook f out book (drill_line seed moments)
   Ends (Some (migrate book)) = ByMigration f out book

@@ -85,7 +85,8 @@ pub record Decides (words : List Text) (files : List (Text × Text)) (result : S
       → book_fault bytes ≡ None → (b : Book) → book bytes ≡ Some b
       → (name : Text) → limits_asked c ≡ Some name
       → (text : Text) → file_named files name ≡ Some text
-      → (f : LimitsFault) → limits_fault b text ≡ Some f → IsButForMemory statuses.LimitsRefused result
+      → (f : LimitsFault) → limits_fault b text ≡ Some f
+      → IsButForMemory statuses.LimitsRefused result
   pub record_refused : (c : Command) → command_of words ≡ Some c
       → (bytes : Text) → file_named files (book_asked c) ≡ Some bytes
       → book_fault bytes ≡ None → Serves files c bytes

@@ -23,7 +23,8 @@ abbrev pub LimitsHave : Files → Text → Book → (List Advisory → Type 0) �
 LimitsHave files name b P = FileHas files name (λ bytes. IsSomeAnd (limits b bytes) P)
 
 -- by the book the bytes of a limits file have this fault, and it was read no further than one byte more than it may have
-pub record HasLimitsFault (b : Book) (f : LimitsFault) (left : Option Text) (bytes : Text) : Type 0 where
+pub record HasLimitsFault (b : Book) (f : LimitsFault) (left : Option Text) (bytes : Text)
+    : Type 0 where
   pub fault_is : limits_fault b bytes ≡ Some f
   pub took : TookAtMost past_limits bytes left
 
@@ -45,7 +46,8 @@ module _ (s : ShelfCall) (name file : Text) where
   pub record HasPrepared (p : Prepared) : Type 0 where
     pub count : OpenedBoth s
     pub book : BookHas s.files name (λ b. b ≡ the_book p.loaded.book)
-    pub limits_are : LimitsHave s.files file (the_book p.loaded.book) (λ ls. ls ≡ settings_of p.view)
+    pub limits_are : LimitsHave s.files file (the_book p.loaded.book)
+        (λ ls. ls ≡ settings_of p.view)
     pub pair : PairFits (the_book p.loaded.book) p.loaded.pair
     pub fit : Fit (the_book p.loaded.book) (settings_of p.view)
     pub begins : StandAfter (the_book p.loaded.book) [] p.view
