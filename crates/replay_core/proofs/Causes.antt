@@ -1,6 +1,6 @@
 -- How the commands end, from how their steps do.
-use Rattle.std.proofs.Common.{◌≡◌, Result, Ok, Err, ℕ, ◌≤◌, List, [], Option, Some, None, IsSomeAnd, refl, sym, ap, ◌∙◌, subst, inl, inr}
-use Rattle.std.specs.Prelude.{is_some}
+use Rattle.std.proofs.Common.{◌≡◌, Result, Ok, Err, ℕ, ◌≤◌, List, [], Option, Some, None, IsSomeAnd, sym, ap, ◌∙◌, subst, inl, inr}
+use Rattle.std.specs.Prelude.{is_some, IsErrAnd}
 use Rattle.ecam_io.specs.Outside.{raised, Rose, file_named, FileHas, MayRefuse, IsClosed}
 use Rattle.ecam_io.proofs.Calls.{Rose-earlier, FileHas-weaker}
 use Rattle.ecam_spec.specs.Book.{Text, Book}
@@ -17,10 +17,10 @@ use Rattle.replay_core.specs.Calls.{Files, ShelfCall, OpenedOne, OpenedBoth, Sin
 use Rattle.record_views.specs.Runs.{HasStopped}
 use Rattle.replay_core.specs.Loading.{BookHas, IsUnopened, Unloaded, HasLoaded, Loads, Readies}
 use Rattle.view_spec.specs.Places.{number_place}
-use Rattle.replay_core.specs.Play.{ShowsInPart, Plays, Shown}
+use Rattle.replay_core.specs.Play.{ShowsInPart, Plays, uncounted, Shown}
 use Rattle.replay_core.specs.Answers.{ByBookAlone, ByBook, ByReading, ByRecord, ByNumber, LacksNumber, BookTold, BookUntold}
 use Rattle.replay_core.specs.ReadEndings.{Endings, ShowsWhole, ShowsUpTo, showing, HasNumber, ExplainsInPart, ExplainsNothing, BreaksOff, explaining}
-use Rattle.replay_core.specs.Outcomes.{outcome_of, refusal_of, ended}
+use Rattle.replay_core.specs.Outcomes.{outcome_of, refusal_of}
 use Rattle.replay_core.specs.declared.load.Loaded.{Loaded}
 use Rattle.replay_core.specs.declared.load.Unready.{Unready}
 use Rattle.replay_core.specs.declared.load.Unready.TheVariants.{Refused, Unread, NoMemory}
@@ -80,13 +80,10 @@ module _ {S : Type 0} (f : ShelfCall) (out : SinkCall S) (name : Text) (once : O
 
 -- ---- a record was shown
 
-module _ {S : Type 0} (f : ShelfCall) (out : SinkCall S) (b : Book) (o : Showing) (pair : Pair) (record' : Text) (limit : ℕ) where
-  pub shown-whole : (n : ℕ) → Plays f out b o pair record' limit (Ok n) → Shown f out b o record' limit outcomes.Done
-  shown-whole n plays = record { played = Ok n; outcome_is = refl; pair = pair; plays = plays }
-
-  pub shown-in-part : (e : RunError) → Plays f out b o pair record' limit (Err e) → (outcome : Outcome) → outcome ≡ refusal_of e
-      → Shown f out b o record' limit outcome
-  shown-in-part e plays outcome is = record { played = Err e; outcome_is = is; pair = pair; plays = plays }
+-- how the program ends then
+abbrev pub run-ending : Result (Unit {0}) RunError → Outcome
+run-ending (Ok done) = outcomes.Done
+run-ending (Err e) = refusal_of e
 
 -- ---- two calls of a shelf, the first of which loaded a book
 
@@ -146,7 +143,7 @@ module _ (a c : ShelfCall) (name record' : Text) (b : Book) (on : Follows a c na
   -- the record was shown
   module _ (o : Book → Showing) (limit : ℕ) (pair : Pair) where
     ended-so : (played : Result ℕ RunError) → Plays c out b (o b) pair record' limit played
-        → ByReading (joined a c) out Opened name record' (showing out o limit) (ended played)
+        → ByReading (joined a c) out Opened name record' (showing out o limit) (run-ending (uncounted played))
     ended-so (Ok n) plays = record {
       count = count;
       both = of-both a c name record' b on _ (ShowsWhole out o limit) (λ text h. record { faultless = h.faultless; written = h.written; spent = h.spent }) plays;
@@ -168,10 +165,10 @@ module _ (a c : ShelfCall) (name record' : Text) (b : Book) (on : Follows a c na
       both = of-both a c name record' b on _ (ShowsUpTo out o limit g) (λ text h. record { fault_is = h.fault_is; written = h.written; took = h.took }) plays;
     }
 
-  pub shown-so : (o : Book → Showing) (limit : ℕ) (outcome : Outcome) → Shown c out b (o b) record' limit outcome
-      → ByReading (joined a c) out Opened name record' (showing out o limit) outcome
-  shown-so o limit outcome shown =
-      subst (ByReading (joined a c) out Opened name record' (showing out o limit)) (sym shown.outcome_is)
+  pub shown-so : (o : Book → Showing) (limit : ℕ) (result : Result (Unit {0}) RunError) → Shown c out b (o b) record' limit result
+      → ByReading (joined a c) out Opened name record' (showing out o limit) (run-ending result)
+  shown-so o limit result shown =
+      subst (λ r. ByReading (joined a c) out Opened name record' (showing out o limit) (run-ending r)) (sym shown.result_is)
       (ended-so o limit shown.pair shown.played shown.plays)
 
   -- the replay went into a sink that never fails, and nothing was written elsewhere
@@ -199,6 +196,15 @@ module _ (a c : ShelfCall) (name record' : Text) (b : Book) (on : Follows a c na
       cause = cause;
       both = of-both a c name record' b on _ (ExplainsInPart out) (λ text h. record { faultless = h.faultless; written = part (events text no_limit) h.stands; spent = h.spent }) plays;
     }
+
+-- the book was loaded in the first, and the record shown in the second
+pub shown-after-loading : (a c : ShelfCall) (name record' : Text) (l : Loaded) → c.files ≡ a.files → c.faults ≡ a.faults_now → c.opens ≡ a.opens_now
+    → a.faults ≤ a.faults_now → OpenedOne a → HasLoaded a name l → {S : Type 0} (out : SinkCall S) (o : Book → Showing) (limit : ℕ) (result : Result (Unit {0}) RunError)
+    → OpenedOne c → Shown c out (the_book l.book) (o (the_book l.book)) record' limit result → ByRecord (joined a c) out name record' (showing out o limit) (run-ending result)
+shown-after-loading a c name record' l same faults opens less once has out o limit result again shown =
+    let b = the_book l.book in
+    let on = after-loading a c name b same faults less has.book in
+    shown-so a c name record' b on out (OpenedBoth (joined a c)) (again ∙ ap raised opens ∙ ap raised once) o limit result shown
 
 -- ---- a command that goes by a number parameter besides
 
@@ -263,12 +269,18 @@ unready-number f out name record' number e once kept (Refused g) faulty = record
 unready-number f out name record' number e once kept Unread unread = inl (record { count = once; unread = unread; kept = kept })
 unready-number f out name record' number e once kept NoMemory took = record { count = once; took = took; kept = kept }
 
+-- ---- what the exit of a `?` tells
+
+pub told-error : {E : Type 0} (ending : Result (Unit {0}) E → Outcome) (r : Result (Unit {0}) E) (e : E) → IsErrAnd r (λ x. x ≡ e) → ending r ≡ ending (Err e)
+told-error ending (Ok done) e is = absurd is
+told-error ending (Err x) e is = ap (λ x. ending (Err x)) is
+
 -- ---- what isn't told as a fault counts none
 
-same-error : (e f : RunError) → ◌≡◌ {A = Result ℕ RunError} (Err e) (Err f) → e ≡ f
+same-error : {T : Type 0} (e f : RunError) → ◌≡◌ {A = Result T RunError} (Err e) (Err f) → e ≡ f
 same-error e f is = cc
 
-pub not-refused : (e f : RunError) (o p : Outcome) → o ≡ refusal_of e → refusal_of f ≡ p → (o ≡ p → ⊥) → ◌≡◌ {A = Result ℕ RunError} (Err e) (Err f) → ⊥
+pub not-refused : {T : Type 0} (e f : RunError) (o p : Outcome) → o ≡ refusal_of e → refusal_of f ≡ p → (o ≡ p → ⊥) → ◌≡◌ {A = Result T RunError} (Err e) (Err f) → ⊥
 not-refused e f o p is told other same = other (is ∙ ap refusal_of (same-error e f same) ∙ told)
 
 pub not-unready : (l : Loaded) (e : Unready) → ◌≡◌ {A = Result Loaded Unready} (Ok l) (Err e) → ⊥

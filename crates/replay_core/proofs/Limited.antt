@@ -1,6 +1,6 @@
 -- How a command ends that goes by the limits of a file, from how its steps do.
-use Rattle.std.proofs.Common.{◌≡◌, List, [], Option, Some, None, IsSomeAnd, Result, Ok, Err, sym, ◌∙◌, subst, inl, inr}
-use Rattle.ecam_io.specs.Outside.{FileHas}
+use Rattle.std.proofs.Common.{◌≡◌, ℕ, ◌≤◌, List, [], Option, Some, None, IsSomeAnd, Result, Ok, Err, sym, ◌∙◌, ap, subst, inl, inr}
+use Rattle.ecam_io.specs.Outside.{raised, FileHas}
 use Rattle.ecam_io.proofs.Calls.{FileHas-weaker}
 use Rattle.ecam_spec.specs.Book.{Text, Book}
 use Rattle.book_model.specs.Sealed.{the_book}
@@ -11,10 +11,13 @@ use Rattle.advisories.specs.State.{settings_of, StandAfter}
 use Rattle.advisories.specs.View.{limits_of}
 use Rattle.advisories.specs.declared.limits.Limits.{Limits}
 use Rattle.replay_core.specs.Calls.{Files, ShelfCall, OpenedOne, OpenedBoth, OpenedThree, SinkCall, WritesNothing}
-use Rattle.replay_core.specs.Loading.{BookHas, Taken, IsUnread, past_limits, Unloaded}
+use Rattle.replay_core.specs.Loading.{BookHas, Taken, past_limits, Unloaded}
 use Rattle.replay_core.specs.LimitsLoading.{LimitsHave, HasLimitsFault, LoadsLimits, Unset, HasPrepared}
 use Rattle.replay_core.specs.Answers.{ByReading, ByLimits}
-use Rattle.replay_core.specs.ReadEndings.{Endings, under}
+use Rattle.record_views.specs.Showing.{Showing}
+use Rattle.record_views.specs.declared.show.RunError.{RunError}
+use Rattle.replay_core.specs.Play.{Shown}
+use Rattle.replay_core.specs.ReadEndings.{Endings, showing}
 use Rattle.replay_core.specs.Outcomes.{outcome_of, limits_outcome_of}
 use Rattle.replay_core.specs.declared.advise.Prepared.{Prepared}
 use Rattle.replay_core.specs.declared.load.Unready.{Unready}
@@ -23,7 +26,7 @@ use Rattle.replay_core.specs.declared.load_limits.UnreadyLimits.{UnreadyLimits}
 use Rattle.replay_core.specs.declared.load_limits.UnreadyLimits.TheVariants.{Refused, Unread, NoMemory}
 use Rattle.replay_core.specs.declared.outcome.Outcome.{Outcome}
 use Rattle.replay_core.specs.declared.outcome.Outcome.TheVariants as outcomes
-use Rattle.replay_core.proofs.Causes.{BookHas-weaker, book-and, joined, Follows, loaded, unopened, rose}
+use Rattle.replay_core.proofs.Causes.{BookHas-weaker, book-and, joined, Follows, loaded, unopened, rose, run-ending, shown-so}
 
 -- what follows from the limits that a file has
 pub LimitsHave-weaker : (files : Files) (name : Text) (b : Book) (P Q : List Advisory → Type 0) → ((ls : List Advisory) → P ls → Q ls)
@@ -110,3 +113,14 @@ pub prepared-limits : (f : ShelfCall) (name file : Text) (p : Prepared) → HasP
 prepared-limits f name file p has =
     BookHas-weaker f.files name (λ b. b ≡ the_book p.loaded.book) (λ b. LimitsHave f.files file b (λ x. x ≡ settings_of p.view))
     (λ b is. subst (λ b. LimitsHave f.files file b (λ x. x ≡ settings_of p.view)) (sym is) has.limits_are) has.book
+
+-- they were made ready in a first call of the shelf, and the record shown in a second
+pub shown-after-preparing : (a c : ShelfCall) (name record' file : Text) (p : Prepared) → c.files ≡ a.files → c.faults ≡ a.faults_now → c.opens ≡ a.opens_now
+    → a.faults ≤ a.faults_now → HasPrepared a name file p → {S : Type 0} (out : SinkCall S) (o : List Advisory → Book → Showing) (limit : ℕ) (result : Result (Unit {0}) RunError)
+    → OpenedOne c → Shown c out (the_book p.loaded.book) (o (settings_of p.view) (the_book p.loaded.book)) record' limit result
+    → ByLimits (joined a c) out name record' file (λ ls. showing out (o ls) limit) (run-ending result)
+shown-after-preparing a c name record' file p same faults opens less has out o limit result again shown =
+    let b = the_book p.loaded.book in
+    let on : Follows a c name b = record { same = same; faults = faults; less = less; has = has.book } in
+    by-its-limits (joined a c) out name record' file (λ ls. showing out (o ls) limit) (settings_of p.view) (prepared-limits a name file p has) (run-ending result)
+    (shown-so a c name record' b on out (OpenedThree (joined a c)) (again ∙ ap raised opens ∙ ap raised has.count) (o (settings_of p.view)) limit result shown)

@@ -10,6 +10,16 @@ use Rattle.replay_core.specs.declared.load.Unready.{Unready}
 use Rattle.replay_core.specs.declared.load.Unready.TheVariants.{Refused, Unread, NoMemory}
 use Rattle.replay_core.specs.declared.load_limits.UnreadyLimits.{UnreadyLimits}
 use Rattle.replay_core.specs.declared.load_limits.UnreadyLimits.TheVariants as unready
+use Rattle.replay_core.specs.declared.advise.Unprepared.{Unprepared}
+use Rattle.replay_core.specs.declared.advise.Unprepared.TheVariants as unprepared
+use Rattle.replay_core.specs.declared.error.BookError.{BookError}
+use Rattle.replay_core.specs.declared.error.BookError.TheVariants as of_book
+use Rattle.replay_core.specs.declared.error.RecordError.{RecordError}
+use Rattle.replay_core.specs.declared.error.RecordError.TheVariants as of_record
+use Rattle.replay_core.specs.declared.error.NumberError.{NumberError}
+use Rattle.replay_core.specs.declared.error.NumberError.TheVariants as of_number
+use Rattle.replay_core.specs.declared.error.LimitsError.{LimitsError}
+use Rattle.replay_core.specs.declared.error.LimitsError.TheVariants as of_limits
 use Rattle.record_views.specs.declared.show.RunError.{RunError}
 use Rattle.record_views.specs.declared.show.RunError.TheVariants as runs
 use Rattle.replay_core.specs.declared.outcome.Status.{Status}
@@ -71,10 +81,31 @@ refusal_of runs.Read = outcomes.ReadFault
 refusal_of runs.Write = outcomes.WriteFault
 refusal_of (runs.Record f) = outcomes.RecordRefused f
 
--- how it ends with a replay
-abbrev pub ended : Result ℕ RunError → Outcome
-ended (Ok ticks) = outcomes.Done
-ended (Err e) = refusal_of e
+-- how a command ends that reads a book alone
+abbrev pub book_ending : Result (Unit {0}) BookError → Outcome
+book_ending (Ok done) = outcomes.Done
+book_ending (Err (of_book.Unready e)) = outcome_of e
+book_ending (Err of_book.Write) = outcomes.WriteFault
+
+-- one that reads a record by a book
+abbrev pub record_ending : Result (Unit {0}) RecordError → Outcome
+record_ending (Ok done) = outcomes.Done
+record_ending (Err (of_record.Unready e)) = outcome_of e
+record_ending (Err (of_record.Run e)) = refusal_of e
+
+-- one that goes by a number parameter besides
+abbrev pub number_ending : Result (Unit {0}) NumberError → Outcome
+number_ending (Ok done) = outcomes.Done
+number_ending (Err (of_number.Unready e)) = outcome_of e
+number_ending (Err of_number.NoSuch) = outcomes.NoSuch
+number_ending (Err (of_number.Run e)) = refusal_of e
+
+-- and one that goes by the limits of a file
+abbrev pub limits_ending : Result (Unit {0}) LimitsError → Outcome
+limits_ending (Ok done) = outcomes.Done
+limits_ending (Err (of_limits.Unprepared (unprepared.Book e))) = outcome_of e
+limits_ending (Err (of_limits.Unprepared (unprepared.Limits e))) = limits_outcome_of e
+limits_ending (Err (of_limits.Run e)) = refusal_of e
 
 -- the line was written and no fault was counted, or writing failed and a prefix of it was
 abbrev pub Complains : {S : Type 0} → SinkCall S → Outcome → Type 0

@@ -7,8 +7,6 @@ use Rattle.fwc_pair.specs.declared.pair.Pair.{Pair}
 use Rattle.replay_core.specs.Calls.{ShelfCall, HasFailed, SinkCall, Writes}
 use Rattle.replay_core.specs.Calls.{WritesNothing, HasFailedToWrite}
 use Rattle.replay_core.specs.Loading.{IsUnopened}
-use Rattle.replay_core.specs.Outcomes.{ended}
-use Rattle.replay_core.specs.declared.outcome.Outcome.{Outcome}
 use Rattle.record_views.specs.Showing.{Showing}
 use Rattle.record_views.specs.Runs.{HasRun, HasMetFault, HasStopped}
 use Rattle.record_views.specs.declared.show.RunError.{RunError}
@@ -39,14 +37,21 @@ module _ {S : Type 0} (f : ShelfCall) (out : SinkCall S)
   Plays (Err Read) = (IsUnopened f record' × WritesNothing out) ⊎ IsBroken f out o record' limit
   Plays (Err Write) =
       HasFailedToWrite out
-      × FileHas f.files record' (λ text. HasStopped b o out.agrees out.old out.new limit text f.left)
+      × FileHas f.files record'
+      (λ text. HasStopped b o out.agrees out.old out.new limit text f.left)
   Plays (Err (Record g)) =
-      FileHas f.files record' (λ text. HasMetFault b o out.agrees out.old out.new limit text f.left g)
+      FileHas f.files record'
+      (λ text. HasMetFault b o out.agrees out.old out.new limit text f.left g)
 
--- the outcome of a command that showed a record so
+-- how it ended, without the number of its Ticks
+abbrev pub uncounted : Result ℕ RunError → Result (Unit {0}) RunError
+uncounted (Ok ticks) = Ok tt
+uncounted (Err e) = Err e
+
+-- how showing a record ends so
 pub record Shown {S : Type 0} (f : ShelfCall) (out : SinkCall S) (b : Book) (o : Showing)
-    (record' : Text) (limit : ℕ) (outcome : Outcome) : Type 0 where
+    (record' : Text) (limit : ℕ) (result : Result (Unit {0}) RunError) : Type 0 where
   pub played : Result ℕ RunError
-  pub outcome_is : outcome ≡ ended played
+  pub result_is : result ≡ uncounted played
   pub pair : Pair
   pub plays : Plays f out b o pair record' limit played

@@ -8,12 +8,14 @@ ghost use Rattle.advisories.specs.State.{settings_of, StandAfter};
 ghost use Rattle.replay_core.specs.Answers.{ByLimits};
 ghost use Rattle.replay_core.specs.Calls.{shelf_call, sink_call};
 ghost use Rattle.replay_core.specs.LimitsLoading.{Prepares};
+ghost use Rattle.replay_core.specs.Outcomes.{limits_ending};
 ghost use Rattle.replay_core.specs.ReadEndings.{showing};
 ghost use Rattle.replay_core.specs.Showings.{advised};
+ghost use Rattle.replay_core.specs.declared.outcome.Outcome.{Outcome};
 
+use crate::error::LimitsError;
 use crate::load::{Loaded, Unready, load_book};
 use crate::load_limits::{UnreadyLimits, load_limits};
-use crate::outcome::Outcome;
 use crate::show::show;
 use advisories::{Advisories, Limits};
 use book_model::Book;
@@ -87,27 +89,28 @@ pub(crate) fn advise<F: Shelf, O: Sink>(
     limits_name: &str,
     files: &mut F,
     out: &mut O,
-) -> Outcome
+) -> Result<(), LimitsError>
     ensures advises { ByLimits (shelf_call F.Source files.old files.new)
         (sink_call O.Sink out.old out.new)
         book_name.now record_name.now limits_name.now
-        (λ limits. showing (sink_call O.Sink out.old out.new) (advised limits) no_limit) result }
+        (λ limits. showing (sink_call O.Sink out.old out.new) (advised limits) no_limit)
+        (limits_ending result) }
     ensures files { F.files files.new ≡ F.files files.old }
     ensures faults { F.faults files.old ≤ F.faults files.new }
-    ensures quiet { result ≢ Outcome.ReadFault → F.faults files.new ≡ F.faults files.old }
+    ensures quiet { limits_ending result ≢ Outcome.ReadFault
+        → F.faults files.new ≡ F.faults files.old }
     ensures out_faults { O.faults out.old ≤ O.faults out.new }
-    ensures out_quiet { result ≢ Outcome.WriteFault → O.faults out.new ≡ O.faults out.old }
+    ensures out_quiet { limits_ending result ≢ Outcome.WriteFault
+        → O.faults out.new ≡ O.faults out.old }
 {
-    match prepare(alloc, book_name, limits_name, files) {
-        Ok(mut prepared) => show(
-            prepared.loaded,
-            &mut prepared.view,
-            record_name,
-            u32::MAX,
-            files,
-            out,
-        ),
-        Err(Unprepared::Book(unready)) => unready.outcome(),
-        Err(Unprepared::Limits(unready)) => unready.outcome(),
-    }
+    let prepared = prepare(alloc, book_name, limits_name, files)?;
+    show(
+        prepared.loaded,
+        prepared.view,
+        record_name,
+        u32::MAX,
+        files,
+        out,
+    )?;
+    Ok(())
 }

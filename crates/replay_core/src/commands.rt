@@ -13,17 +13,18 @@ ghost use Rattle.replay_core.specs.Calls.{shelf_call, sink_call, HasFailed, HasF
 ghost use Rattle.ecam_spec.specs.Command.{command_of, no_limit};
 ghost use Rattle.replay_core.specs.Decides.{Decides, DecidesUsage};
 ghost use Rattle.replay_core.specs.Headline.{Replays, all_changes};
-ghost use Rattle.replay_core.specs.Outcomes.{status_of, Complains};
+ghost use Rattle.replay_core.specs.Outcomes.{status_of, book_ending, record_ending, number_ending, Complains};
 ghost use Rattle.replay_core.specs.declared.outcome.Outcome.{Outcome as Ending};
 
 use crate::advise::advise;
 use crate::changes::Changes;
 use crate::drill::drill;
-use crate::load::{give_up, load, load_book};
+use crate::error::{BookError, NumberError, RecordError};
+use crate::load::{Unready, give_up, load, load_book};
 use crate::migrate::migrate;
 use crate::outcome::{Outcome, Status};
 use crate::play::play;
-use crate::show::{refusal, show};
+use crate::show::show;
 use crate::silent::Silent;
 use crate::standings::put_standings;
 use crate::summary::summary;
@@ -97,61 +98,70 @@ fn answer<F: Shelf, O: Sink>(alloc: Global, words: &[String], files: &mut F, out
     ensures out_quiet { result ≢ Outcome.WriteFault → O.faults out.new ≡ O.faults out.old }
 {
     match parse(words) {
-        Some(Command::Check { book }) => check_file(alloc, book, files, out),
+        Some(Command::Check { book }) => Outcome::from(check_file(alloc, book, files, out)),
         Some(
             Command::Replay {
                 book,
                 record,
                 limit,
             },
-        ) => replay_files(alloc, book, record, limit, files, out),
-        Some(Command::Why { book, record }) => explain_files(alloc, book, record, files, out),
+        ) => Outcome::from(replay_files(alloc, book, record, limit, files, out)),
+        Some(Command::Why { book, record }) => Outcome::from(explain_files(
+            alloc, book, record, files, out,
+        )),
         Some(
             Command::Drill {
                 book,
                 seed,
                 moments,
             },
-        ) => drill(alloc, book, seed, moments, files, out),
-        Some(Command::Migrate { book }) => migrate(alloc, book, files, out),
+        ) => Outcome::from(drill(alloc, book, seed, moments, files, out)),
+        Some(Command::Migrate { book }) => Outcome::from(migrate(alloc, book, files, out)),
         Some(
             Command::Callouts {
                 book,
                 record,
                 parameter,
             },
-        ) => call_out_files(alloc, book, record, parameter, files, out),
+        ) => Outcome::from(call_out_files(alloc, book, record, parameter, files, out)),
         Some(
             Command::Advise {
                 book,
                 record,
                 limits,
             },
-        ) => advise(alloc, book, record, limits, files, out),
-        Some(Command::Report { book, record }) => report_files(alloc, book, record, files, out),
-        Some(Command::Words { book, record }) => tell_words(alloc, book, record, files, out),
+        ) => Outcome::from(advise(alloc, book, record, limits, files, out)),
+        Some(Command::Report { book, record }) => Outcome::from(report_files(
+            alloc, book, record, files, out,
+        )),
+        Some(Command::Words { book, record }) => Outcome::from(tell_words(
+            alloc, book, record, files, out,
+        )),
         None => Outcome::Usage,
     }
 }
 
 // Checks the book of a file, and writes how much it has.
-fn check_file<F: Shelf, O: Sink>(alloc: Global, name: &str, files: &mut F, out: &mut O) -> Outcome
+fn check_file<F: Shelf, O: Sink>(
+    alloc: Global,
+    name: &str,
+    files: &mut F,
+    out: &mut O,
+) -> Result<(), BookError>
     ensures checks { ByBook (shelf_call F.Source files.old files.new)
         (sink_call O.Sink out.old out.new)
-        name.now spec.summary result }
+        name.now spec.summary (book_ending result) }
     ensures files { F.files files.new ≡ F.files files.old }
     ensures faults { F.faults files.old ≤ F.faults files.new }
-    ensures quiet { result ≢ Outcome.ReadFault → F.faults files.new ≡ F.faults files.old }
+    ensures quiet { book_ending result ≢ Outcome.ReadFault
+        → F.faults files.new ≡ F.faults files.old }
     ensures out_faults { O.faults out.old ≤ O.faults out.new }
-    ensures out_quiet { result ≢ Outcome.WriteFault → O.faults out.new ≡ O.faults out.old }
+    ensures out_quiet { book_ending result ≢ Outcome.WriteFault
+        → O.faults out.new ≡ O.faults out.old }
 {
-    match load_book(alloc, files, name) {
-        Ok(book) => match put_summary(book, out) {
-            Ok(()) => Outcome::Done,
-            Err(Failed) => Outcome::WriteFault,
-        },
-        Err(unready) => unready.outcome(),
-    }
+    let book = load_book(alloc, files, name)?;
+    put_summary(book, out)?;
+    Ok(())
 }
 
 // Writes how much a book has, and gives up the book.
@@ -175,24 +185,22 @@ fn replay_files<F: Shelf, O: Sink>(
     limit: u32,
     files: &mut F,
     out: &mut O,
-) -> Outcome
+) -> Result<(), RecordError>
     ensures replays { ByRecord (shelf_call F.Source files.old files.new)
         (sink_call O.Sink out.old out.new)
         book_name.now record_name.now
-        (showing (sink_call O.Sink out.old out.new) blocks_of limit) result }
+        (showing (sink_call O.Sink out.old out.new) blocks_of limit) (record_ending result) }
     ensures files { F.files files.new ≡ F.files files.old }
     ensures faults { F.faults files.old ≤ F.faults files.new }
-    ensures quiet { result ≢ Outcome.ReadFault → F.faults files.new ≡ F.faults files.old }
+    ensures quiet { record_ending result ≢ Outcome.ReadFault
+        → F.faults files.new ≡ F.faults files.old }
     ensures out_faults { O.faults out.old ≤ O.faults out.new }
-    ensures out_quiet { result ≢ Outcome.WriteFault → O.faults out.new ≡ O.faults out.old }
+    ensures out_quiet { record_ending result ≢ Outcome.WriteFault
+        → O.faults out.new ≡ O.faults out.old }
 {
-    match load(alloc, files, book_name) {
-        Ok(loaded) => {
-            let mut changes = Changes::new();
-            show(loaded, &mut changes, record_name, limit, files, out)
-        }
-        Err(unready) => unready.outcome(),
-    }
+    let loaded = load(alloc, files, book_name)?;
+    show(loaded, Changes::new(), record_name, limit, files, out)?;
+    Ok(())
 }
 
 // Shows one file by the book of another, and writes the callouts of a number parameter.
@@ -203,29 +211,37 @@ fn call_out_files<F: Shelf, O: Sink>(
     parameter: &str,
     files: &mut F,
     out: &mut O,
-) -> Outcome
+) -> Result<(), NumberError>
     ensures calls { ByNumber (shelf_call F.Source files.old files.new)
         (sink_call O.Sink out.old out.new)
         book_name.now record_name.now parameter.now
-        (showing (sink_call O.Sink out.old out.new) (called_out parameter.now) no_limit) result }
+        (showing (sink_call O.Sink out.old out.new) (called_out parameter.now) no_limit)
+        (number_ending result) }
     ensures files { F.files files.new ≡ F.files files.old }
     ensures faults { F.faults files.old ≤ F.faults files.new }
-    ensures quiet { result ≢ Outcome.ReadFault → F.faults files.new ≡ F.faults files.old }
+    ensures quiet { number_ending result ≢ Outcome.ReadFault
+        → F.faults files.new ≡ F.faults files.old }
     ensures out_faults { O.faults out.old ≤ O.faults out.new }
-    ensures out_quiet { result ≢ Outcome.WriteFault → O.faults out.new ≡ O.faults out.old }
+    ensures out_quiet { number_ending result ≢ Outcome.WriteFault
+        → O.faults out.new ≡ O.faults out.old }
 {
-    match load(alloc, files, book_name) {
-        Ok(loaded) => match number_place(&loaded.book, parameter) {
-            Some(param) => {
-                let mut calls = Callouts::new(param);
-                show(loaded, &mut calls, record_name, u32::MAX, files, out)
-            }
-            None => {
-                give_up(loaded);
-                Outcome::NoSuch
-            }
-        },
-        Err(unready) => unready.outcome(),
+    let loaded = load(alloc, files, book_name)?;
+    match number_place(&loaded.book, parameter) {
+        Some(param) => {
+            show(
+                loaded,
+                Callouts::new(param),
+                record_name,
+                u32::MAX,
+                files,
+                out,
+            )?;
+            Ok(())
+        }
+        None => {
+            give_up(loaded);
+            Err(NumberError::NoSuch)
+        }
     }
 }
 
@@ -236,38 +252,37 @@ fn explain_files<F: Shelf, O: Sink>(
     record_name: &str,
     files: &mut F,
     out: &mut O,
-) -> Outcome
+) -> Result<(), RecordError>
     ensures explains { ByRecord (shelf_call F.Source files.old files.new)
         (sink_call O.Sink out.old out.new)
-        book_name.now record_name.now (explaining (sink_call O.Sink out.old out.new)) result }
+        book_name.now record_name.now (explaining (sink_call O.Sink out.old out.new))
+        (record_ending result) }
     ensures files { F.files files.new ≡ F.files files.old }
     ensures faults { F.faults files.old ≤ F.faults files.new }
-    ensures quiet { result ≢ Outcome.ReadFault → F.faults files.new ≡ F.faults files.old }
+    ensures quiet { record_ending result ≢ Outcome.ReadFault
+        → F.faults files.new ≡ F.faults files.old }
     ensures out_faults { O.faults out.old ≤ O.faults out.new }
-    ensures out_quiet { result ≢ Outcome.WriteFault → O.faults out.new ≡ O.faults out.old }
+    ensures out_quiet { record_ending result ≢ Outcome.WriteFault
+        → O.faults out.new ≡ O.faults out.old }
 {
-    match load(alloc, files, book_name) {
-        Ok(mut loaded) => {
-            let mut dropped = Discard;
-            match play(
-                &mut loaded,
-                &mut Silent,
-                record_name,
-                u32::MAX,
-                files,
-                &mut dropped,
-            ) {
-                Ok(_) => match put_standings(loaded, out) {
-                    Ok(()) => Outcome::Done,
-                    Err(Failed) => Outcome::WriteFault,
-                },
-                Err(error) => {
-                    give_up(loaded);
-                    refusal(error)
-                }
-            }
+    let mut loaded = load(alloc, files, book_name)?;
+    let mut dropped = Discard;
+    match play(
+        &mut loaded,
+        &mut Silent,
+        record_name,
+        u32::MAX,
+        files,
+        &mut dropped,
+    ) {
+        Ok(_) => {
+            put_standings(loaded, out)?;
+            Ok(())
         }
-        Err(unready) => unready.outcome(),
+        Err(error) => {
+            give_up(loaded);
+            Err(RecordError::Run(error))
+        }
     }
 }
 
@@ -278,26 +293,29 @@ fn report_files<F: Shelf, O: Sink>(
     record_name: &str,
     files: &mut F,
     out: &mut O,
-) -> Outcome
+) -> Result<(), RecordError>
     ensures reports { ByRecord (shelf_call F.Source files.old files.new)
         (sink_call O.Sink out.old out.new)
         book_name.now record_name.now
-        (showing (sink_call O.Sink out.old out.new) report_of no_limit) result }
+        (showing (sink_call O.Sink out.old out.new) report_of no_limit) (record_ending result) }
     ensures files { F.files files.new ≡ F.files files.old }
     ensures faults { F.faults files.old ≤ F.faults files.new }
-    ensures quiet { result ≢ Outcome.ReadFault → F.faults files.new ≡ F.faults files.old }
+    ensures quiet { record_ending result ≢ Outcome.ReadFault
+        → F.faults files.new ≡ F.faults files.old }
     ensures out_faults { O.faults out.old ≤ O.faults out.new }
-    ensures out_quiet { result ≢ Outcome.WriteFault → O.faults out.new ≡ O.faults out.old }
+    ensures out_quiet { record_ending result ≢ Outcome.WriteFault
+        → O.faults out.new ≡ O.faults out.old }
 {
-    match load(alloc, files, book_name) {
-        Ok(loaded) => match Report::new(alloc, &loaded.book) {
-            Ok(mut report) => show(loaded, &mut report, record_name, u32::MAX, files, out),
-            Err(AllocError) => {
-                give_up(loaded);
-                Outcome::NoMemory
-            }
-        },
-        Err(unready) => unready.outcome(),
+    let loaded = load(alloc, files, book_name)?;
+    match Report::new(alloc, &loaded.book) {
+        Ok(report) => {
+            show(loaded, report, record_name, u32::MAX, files, out)?;
+            Ok(())
+        }
+        Err(AllocError) => {
+            give_up(loaded);
+            Err(RecordError::Unready(Unready::NoMemory))
+        }
     }
 }
 
@@ -308,25 +326,28 @@ fn tell_words<F: Shelf, O: Sink>(
     record_name: &str,
     files: &mut F,
     out: &mut O,
-) -> Outcome
+) -> Result<(), RecordError>
     ensures tells { ByRecord (shelf_call F.Source files.old files.new)
         (sink_call O.Sink out.old out.new)
         book_name.now record_name.now
-        (showing (sink_call O.Sink out.old out.new) words_of no_limit) result }
+        (showing (sink_call O.Sink out.old out.new) words_of no_limit) (record_ending result) }
     ensures files { F.files files.new ≡ F.files files.old }
     ensures faults { F.faults files.old ≤ F.faults files.new }
-    ensures quiet { result ≢ Outcome.ReadFault → F.faults files.new ≡ F.faults files.old }
+    ensures quiet { record_ending result ≢ Outcome.ReadFault
+        → F.faults files.new ≡ F.faults files.old }
     ensures out_faults { O.faults out.old ≤ O.faults out.new }
-    ensures out_quiet { result ≢ Outcome.WriteFault → O.faults out.new ≡ O.faults out.old }
+    ensures out_quiet { record_ending result ≢ Outcome.WriteFault
+        → O.faults out.new ≡ O.faults out.old }
 {
-    match load(alloc, files, book_name) {
-        Ok(loaded) => match WordOut::new(alloc, &loaded.book) {
-            Ok(mut words) => show(loaded, &mut words, record_name, u32::MAX, files, out),
-            Err(AllocError) => {
-                give_up(loaded);
-                Outcome::NoMemory
-            }
-        },
-        Err(unready) => unready.outcome(),
+    let loaded = load(alloc, files, book_name)?;
+    match WordOut::new(alloc, &loaded.book) {
+        Ok(words) => {
+            show(loaded, words, record_name, u32::MAX, files, out)?;
+            Ok(())
+        }
+        Err(AllocError) => {
+            give_up(loaded);
+            Err(RecordError::Unready(Unready::NoMemory))
+        }
     }
 }

@@ -11,10 +11,12 @@ ghost use Rattle.record_maker.specs.Record.{made};
 ghost use Rattle.replay_core.specs.Answers.{ByBook};
 ghost use Rattle.replay_core.specs.Calls.{shelf_call, sink_call};
 ghost use Rattle.replay_core.specs.Drill.{counts_line, drill_line};
+ghost use Rattle.replay_core.specs.Outcomes.{book_ending};
+ghost use Rattle.replay_core.specs.declared.outcome.Outcome.{Outcome};
 
 use crate::block::put;
+use crate::error::BookError;
 use crate::load::{Loaded, give_up, load};
-use crate::outcome::Outcome;
 use crate::replay::run;
 use arrayvec::ArrayVec;
 use ecam_io::{Failed, Shelf, Sink, Tally, put_all};
@@ -78,27 +80,23 @@ pub(crate) fn drill<F: Shelf, O: Sink>(
     moments: u32,
     files: &mut F,
     out: &mut O,
-) -> Outcome
+) -> Result<(), BookError>
     requires { moments ≤ 1000000 }
     ensures drills { ByBook (shelf_call F.Source files.old files.new)
         (sink_call O.Sink out.old out.new)
-        book_name.now (drill_line seed moments) result }
+        book_name.now (drill_line seed moments) (book_ending result) }
     ensures files { F.files files.new ≡ F.files files.old }
     ensures faults { F.faults files.old ≤ F.faults files.new }
-    ensures quiet { result ≢ Outcome.ReadFault → F.faults files.new ≡ F.faults files.old }
+    ensures quiet { book_ending result ≢ Outcome.ReadFault
+        → F.faults files.new ≡ F.faults files.old }
     ensures out_faults { O.faults out.old ≤ O.faults out.new }
-    ensures out_quiet { result ≢ Outcome.WriteFault → O.faults out.new ≡ O.faults out.old }
+    ensures out_quiet { book_ending result ≢ Outcome.WriteFault
+        → O.faults out.new ≡ O.faults out.old }
 {
-    match load(alloc, files, book_name) {
-        Ok(loaded) => {
-            let tally = replay_made(loaded, seed, moments);
-            match put_counts(moments as u64, &tally, out) {
-                Ok(()) => Outcome::Done,
-                Err(Failed) => Outcome::WriteFault,
-            }
-        }
-        Err(unready) => unready.outcome(),
-    }
+    let loaded = load(alloc, files, book_name)?;
+    let tally = replay_made(loaded, seed, moments);
+    put_counts(moments as u64, &tally, out)?;
+    Ok(())
 }
 
 // Writes the line of the counts of an output.

@@ -9,6 +9,7 @@ mod block;
 mod changes;
 mod commands;
 mod drill;
+mod error;
 mod file;
 pub mod laws;
 mod load;

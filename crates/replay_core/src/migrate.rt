@@ -5,11 +5,13 @@ ghost use Rattle.replay_core.specs.Answers.{ByMigration};
 ghost use Rattle.replay_core.specs.Calls.{shelf_call, sink_call};
 ghost use Rattle.replay_core.specs.Loading.{Unloaded};
 ghost use Rattle.replay_core.specs.Migrations.{IsMigrated};
+ghost use Rattle.replay_core.specs.Outcomes.{book_ending};
+ghost use Rattle.replay_core.specs.declared.outcome.Outcome.{Outcome};
 
+use crate::error::BookError;
 use crate::load::{Unready, load_file};
-use crate::outcome::Outcome;
 use book_migration::migrated;
-use ecam_io::{Failed, Shelf, Sink, put_all};
+use ecam_io::{Shelf, Sink, put_all};
 use std::alloc::{AllocError, Global};
 
 // The text of the book of the file of that name in version 2.
@@ -38,21 +40,19 @@ pub(crate) fn migrate<F: Shelf, O: Sink>(
     book_name: &str,
     files: &mut F,
     out: &mut O,
-) -> Outcome
+) -> Result<(), BookError>
     ensures migrates { ByMigration (shelf_call F.Source files.old files.new)
         (sink_call O.Sink out.old out.new)
-        book_name.now result }
+        book_name.now (book_ending result) }
     ensures files { F.files files.new ≡ F.files files.old }
     ensures faults { F.faults files.old ≤ F.faults files.new }
-    ensures quiet { result ≢ Outcome.ReadFault → F.faults files.new ≡ F.faults files.old }
+    ensures quiet { book_ending result ≢ Outcome.ReadFault
+        → F.faults files.new ≡ F.faults files.old }
     ensures out_faults { O.faults out.old ≤ O.faults out.new }
-    ensures out_quiet { result ≢ Outcome.WriteFault → O.faults out.new ≡ O.faults out.old }
+    ensures out_quiet { book_ending result ≢ Outcome.WriteFault
+        → O.faults out.new ≡ O.faults out.old }
 {
-    match load_migrated(alloc, files, book_name) {
-        Ok(text) => match put_all(out, text.as_bytes()) {
-            Ok(()) => Outcome::Done,
-            Err(Failed) => Outcome::WriteFault,
-        },
-        Err(unready) => unready.outcome(),
-    }
+    let text = load_migrated(alloc, files, book_name)?;
+    put_all(out, text.as_bytes())?;
+    Ok(())
 }
