@@ -1,5 +1,5 @@
 -- How loading a book or limits ends, from how its steps do.
-use Rattle.std.proofs.Common.{◌≡◌, [], Option, Some, None, IsSomeAnd, List, refl, sym, ap, ◌∙◌, subst}
+use Rattle.std.proofs.Common.{◌≡◌, [], Option, Some, IsSomeAnd, List, refl, sym, ap, ◌∙◌, subst}
 use Rattle.ecam_io.specs.Outside.{FileHas}
 use Rattle.ecam_io.proofs.Calls.{FileHas-weaker}
 use Rattle.ecam_spec.specs.declared.kinds.BookFault.{BookFault}
@@ -15,7 +15,7 @@ use Rattle.replay_core.specs.Loading.{BookHas, IsFront, HasFault, IsBookFile, pa
 use Rattle.replay_core.specs.LimitsLoading.{LimitsHave, HasLimitsFault}
 use Rattle.replay_core.specs.Migrations.{IsMigrated, HasMigrated}
 use Rattle.replay_core.specs.declared.load.BookFile.{BookFile}
-use Rattle.replay_core.proofs.BookFacts.{book-short, book-front, book_fault-front, book-faultless}
+use Rattle.replay_core.proofs.BookFacts.{book-short, book_fault-front, book-faultless}
 use Rattle.replay_core.proofs.LimitsFacts.{limits-front, limits_fault-front}
 use Rattle.replay_core.proofs.Files.{front-is, front-took, front-all, front-spent}
 

@@ -1,9 +1,9 @@
 use Rattle.std.proofs.Common.{refl, ◌∙◌, ap}
 use Rattle.ecam_io.specs.Outside.{raised}
 use Rattle.book_model.specs.Sealed.{the_book}
-use Rattle.replay_core.specs.Calls.{OpenedBoth, shelf_call}
+use Rattle.replay_core.specs.Calls.{shelf_call}
 use Rattle.replay_core.specs.declared.load_limits.UnreadyLimits.TheVariants as limits
-use Rattle.replay_core.proofs.Causes.{after-loading, joined}
+use Rattle.replay_core.proofs.Causes.{after-loading}
 use Rattle.replay_core.proofs.Limited.{limits-unset, limits-prepared}
 use Rattle.replay_core.proofs.advise.prepare.Goals as goal
 
