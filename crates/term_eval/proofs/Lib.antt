@@ -10,3 +10,8 @@ pub mod Settling
 pub mod Staying
 pub mod Rest
 pub mod Later
+pub mod Codes
+pub mod Coded
+pub mod Running
+pub mod Coding
+pub mod Whole

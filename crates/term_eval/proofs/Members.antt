@@ -13,6 +13,7 @@ use Rattle.term_eval.specs.declared.memory.Cell.{Cell}
 use Rattle.term_eval.specs.CellWords.{never}
 use Rattle.term_eval.specs.CellState.{Stand, StandAll}
 use Rattle.term_eval.specs.Steps.{Steps, StepsAll}
+use Rattle.term_eval.specs.Code.{many}
 use Rattle.term_eval.proofs.Frames.{Stand-same, StandAll-same}
 use Rattle.term_eval.proofs.Settling.{settles-none, settles-more, settles-all, settles-any, settles-at_least}
 
@@ -87,6 +88,26 @@ steps-all env k cs at old new count due inner =
           ∙ all_hold (truths w (trees cs) k);
       stands = inner.stands;
       settles = λ w shows still h. settles-all w (trees cs) k due (inner.settles w shows still h);
+      before = inner.before;
+      behind = inner.behind;
+    }
+
+-- the same of conditions counted one by one
+length-many : (w : World) (cs : Trees) (k : ℕ) → length (truths w cs k) ≡ many cs
+unfolding holds many
+length-many w none k = refl
+length-many w (more c cs) k = ap suc (length-many w cs k)
+
+pub steps-all_of : (env : Env) (k : ℕ) (cs : Trees) (at : ℕ) (old new : List Cell) (count due : ℕ) → StepsAll env k cs at old new count due →
+    Steps env k (all cs) at old new (eqb count (many cs)) due
+unfolding Stand holds slots
+steps-all_of env k cs at old new count due inner =
+    record {
+      truth = λ w shows h.
+          ap (λ n. eqb n (many cs)) (inner.truth w shows h) ∙ ap (λ n. eqb (how_many (truths w cs k)) n) (sym (length-many w cs k))
+          ∙ all_hold (truths w cs k);
+      stands = inner.stands;
+      settles = λ w shows still h. settles-all w cs k due (inner.settles w shows still h);
       before = inner.before;
       behind = inner.behind;
     }

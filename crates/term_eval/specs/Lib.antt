@@ -6,3 +6,5 @@ pub mod Woken
 pub mod Due
 pub mod Settles
 pub mod Steps
+pub mod Code
+pub mod Run

@@ -1,5 +1,6 @@
 // The memory of all conditions, and the call that steps one.
 ghost use Rattle.std.specs.Prelude.{◌≡◌, ℕ, suc, ◌+◌, ◌-◌, ◌^◌, ◌<◌, ◌≤◌, min, length, IfOk};
+ghost use Rattle.ecam_spec.specs.Book.{Tree};
 ghost use Rattle.ecam_spec.specs.Term.{World, holds};
 ghost use Rattle.ecam_spec.specs.TermSize.{slots, nodes};
 ghost use Rattle.ecam_spec.specs.TermNames.{IsWithin};
@@ -8,9 +9,12 @@ ghost use Rattle.term_eval.specs.CellWords.{cell_at};
 ghost use Rattle.term_eval.specs.CellState.{Stand, StandForNone};
 ghost use Rattle.term_eval.specs.Due.{staying, IsDue};
 ghost use Rattle.term_eval.specs.Shown.{Shows};
+ghost use Rattle.term_eval.specs.Code.{IsReady};
 
+use crate::code::Step;
 use crate::env::Env;
 use crate::memory::Cell;
+use crate::run::run;
 use crate::turn::Turn;
 use crate::walk::step;
 use std::alloc::{AllocError, Global};
@@ -102,5 +106,34 @@ impl Cells {
     {
         let mut next = at;
         step(cond, &mut self.cells, &mut next, &mut self.visits, env, now)
+    }
+
+    /// Steps a condition by its code, as `refresh` steps it by its tree. `totals` is room for as many numbers as the code has
+    /// steps, and one more, whatever they are. The cost is one look at each step.
+    pub fn run(&mut self, steps: &[Step], totals: &mut [usize], env: &Env, now: u64) -> Turn
+        requires code { (c : Tree) × (at : ℕ) × IsReady env.now steps.now self.old.slots c at }
+        requires room { length steps.now < length totals.old }
+        requires first { 1 ≤ env.now.phase.number }
+        requires last { env.now.phase.number ≤ 10 }
+        requires now { now < 2 ^ 63 }
+        ensures truth { (c : Tree) (at : ℕ) → IsReady env.now steps.now self.old.slots c at
+            → (w : World) → Shows env.now w now → Stand w now c at self.old.slots
+            → result.holds ≡ holds w c now }
+        ensures due { (c : Tree) (at : ℕ) → IsReady env.now steps.now self.old.slots c at
+            → (w : World) → Shows env.now w now → Stand w now c at self.old.slots
+            → IsDue (staying w now) c now result.due }
+        ensures stands { (c : Tree) (at : ℕ) → IsReady env.now steps.now self.old.slots c at
+            → (w : World) → Shows env.now w now → Stand w now c at self.old.slots
+            → Stand w (suc now) c at self.new.slots }
+        ensures before { (c : Tree) (at : ℕ) → IsReady env.now steps.now self.old.slots c at
+            → (i : ℕ) → i < at → cell_at self.new.slots i ≡ cell_at self.old.slots i }
+        ensures behind { (c : Tree) (at : ℕ) → IsReady env.now steps.now self.old.slots c at
+            → (i : ℕ) → at + slots c ≤ i → cell_at self.new.slots i ≡ cell_at self.old.slots i }
+        ensures len { length self.new.slots ≡ length self.old.slots }
+        ensures visits { (c : Tree) (at : ℕ) → IsReady env.now steps.now self.old.slots c at
+            → self.new.visits ≡ min (self.old.visits + nodes c) (2 ^ 64 - 1) }
+    {
+        self.visits = self.visits.saturating_add(steps.len() as u64);
+        run(steps, totals, &mut self.cells, env, now)
     }
 }
