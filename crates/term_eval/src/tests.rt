@@ -1,12 +1,13 @@
 // Worked histories of five moments, over a that holds in one of them, b in another, and d in each.
 #![tactic(auto, unfolding(ecam_spec::specs::TermSize::slots, ecam_spec::specs::TermNames::IsWithin))]
 
-ghost use Rattle.std.specs.Prelude.{◌≤◌};
+ghost use Rattle.std.specs.Prelude.{◌≤◌, IfOk};
 ghost use Rattle.ecam_spec.specs.TermSize.{slots};
 ghost use Rattle.ecam_spec.specs.TermNames.{IsWithin};
 ghost use Rattle.term_tree.specs.View.{tree_of};
+ghost use Rattle.term_eval.specs.Code.{IsCode};
 
-use crate::{Cells, Env};
+use crate::{Cells, Env, Step, add_code};
 use ecam_kinds::{Keys, Phase};
 use std::alloc::{AllocError, Global};
 use std::test::Fail;
@@ -44,6 +45,54 @@ fn answers(alloc: Global, cond: &Cond, a: usize, b: usize) -> Result<[bool; 5], 
         found[moment] = cells.refresh(cond, 0, &env, moment as u64).holds;
     }
     Ok(found)
+}
+
+// The code of a condition, whose slots start at 0.
+fn code_of(alloc: Global, cond: &Cond) -> Result<Vec<Step>, AllocError>
+    requires { slots (tree_of cond.now) ≤ 2 }
+    ensures { IfOk result (λ steps. IsCode (tree_of cond.now) 0 steps.items) }
+{
+    let mut steps = Vec::new(alloc);
+    add_code(&mut steps, cond, 0)?;
+    Ok(steps)
+}
+
+// The same answers, by the condition's code.
+fn answers_by_code(alloc: Global, cond: &Cond, a: usize, b: usize) -> Result<[bool; 5], AllocError>
+    requires few { slots (tree_of cond.now) ≤ 2 }
+    requires names { IsWithin 3 0 (tree_of cond.now) }
+{
+    let steps = code_of(alloc, cond)?;
+    let mut totals = vec![in alloc; 7; steps.len() + 1]?;
+    let mut cells = Cells::new(alloc, 2)?;
+    let keys = Keys::new();
+    let mut found = [false; 5];
+    for moment in 0..5usize {
+        let values = [truth(moment == a), truth(moment == b), truth(true)];
+        let env = Env {
+            values: &values,
+            phase: Phase { number: 6 },
+            active: &[],
+            keys: &keys,
+            one_up: true,
+            two_up: true,
+        };
+        found[moment] = cells.run(&steps, &mut totals, &env, moment as u64).holds;
+    }
+    Ok(found)
+}
+
+#[test]
+fn code_tells_what_the_tree_tells(rt: HostRuntime) -> Result<(), Fail> {
+    let alloc = rt.alloc();
+    let lately = Cond::Hold(Box::new(alloc, Cond::Disc(A))?, 1);
+    let reset = Cond::All(vec![in alloc; Cond::Disc(B), Cond::Disc(D)]?);
+    let cond = Cond::Latch(Box::new(alloc, lately)?, Box::new(alloc, reset)?);
+    assert_eq!(rt;
+        answers_by_code(alloc, &cond, 0, 3)?,
+        [true, true, true, false, false]
+    );
+    Ok(())
 }
 
 #[test]
