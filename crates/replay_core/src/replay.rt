@@ -1,10 +1,11 @@
 // A whole replay: the record line by line, and the block of each Tick.
-ghost use Rattle.std.specs.Prelude.{◌≡◌, ◌≢◌, ◌≤◌, ℕ, List, IfOk, Err, Some};
+ghost use Rattle.std.specs.Prelude.{◌≡◌, ◌≢◌, ◌≤◌, ℕ, List, IfOk, OnOk, Err, Some};
 ghost use Rattle.ecam_io.specs.Outside.{Rose, Appended};
 ghost use Rattle.ecam_spec.specs.Record.{events};
 ghost use Rattle.ecam_spec.specs.Replay.{reply};
 ghost use Rattle.book_model.specs.Sealed.{the_book};
 ghost use Rattle.fwc_pair.specs.PairState.{PairFits};
+ghost use Rattle.fwc_pair.specs.PairVisits.{history_visits, HaveVisited};
 ghost use Rattle.record_lines.specs.Reads.{Makes};
 ghost use Rattle.record_views.specs.Runs.{Runs, HasAsked};
 ghost use Rattle.replay_core.specs.Unaffected.{IsUnaffected, DropsFailures};
@@ -37,6 +38,9 @@ pub fn run<S: Source, O: Sink>(
     ensures unaffected { IfOk result (λ n. (text bare : List ℕ) → S.left source.old ≡ Some text
         → IsUnaffected (the_book book.now) (events text limit) → DropsFailures text bare limit
         → Appended O.agrees out.old out.new (reply (the_book book.now) bare limit)) }
+    // Each computer visits, of the conditions' nodes, what the Ticks have to visit at which it is up.
+    ensures visits { OnOk result ((text : List ℕ) → S.left source.old ≡ Some text
+        → HaveVisited (history_visits (the_book book.now) (events text limit)) pair.old pair.new) }
 
     ensures read { result ≡ Err RunError.Read → Rose (S.faults source.old) (S.faults source.new) }
     ensures write { result ≡ Err RunError.Write → Rose (O.faults out.old) (O.faults out.new) }
