@@ -1,5 +1,6 @@
 // The panel's two rows, and the lines of those that a Tick changes.
 ghost use Rattle.std.specs.Prelude.{◌≡◌, ◌≤◌, ◌+◌, ◌++◌, ◌∷◌, [], length, codes, decimal};
+ghost use Rattle.ecam_spec.specs.declared.limits.TheConstants.{NAME};
 ghost use Rattle.view_spec.specs.Advisories as spec;
 ghost use Rattle.ecam_spec.specs.Output as output;
 ghost use Rattle.advisories.specs.Panel.{rows_of};
@@ -42,7 +43,7 @@ fn write(text: &mut RowText, bytes: &[u8])
 
 /// A name as the text of a row.
 pub(crate) fn name_text(name: &[u8]) -> RowText
-    requires { length name.now ≤ 24 }
+    requires { length name.now ≤ NAME }
     ensures { result.items ≡ name.now }
 {
     let mut text = RowText::new();
@@ -52,7 +53,7 @@ pub(crate) fn name_text(name: &[u8]) -> RowText
 
 /// A name and a number.
 pub(crate) fn counted_name(name: &[u8], count: usize) -> RowText
-    requires { length name.now ≤ 24 }
+    requires { length name.now ≤ NAME }
     ensures { result.items ≡ name.now ++ 32 ∷ decimal count }
 {
     let mut text = name_text(name);

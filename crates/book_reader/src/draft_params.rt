@@ -9,6 +9,7 @@ ghost use Rattle.book_tables.specs.Reading.{views};
 use crate::draft_keys::{kind_or_discrete, label_or_none, number_or_least};
 use book_model::{Param, WordSource as Source};
 use book_tables::fields::{list_in, name_or_none, number_at, table_or};
+use ecam_spec::limits;
 use std::alloc::{AllocError, Global};
 use toml::{Table, Value};
 
@@ -32,7 +33,7 @@ fn source_in(alloc: Global, value: &Value) -> Source
         sdi: sdi_at(table),
         bit: number_or_least(table, 11, 29, "bit") as u8,
         low: number_or_least(table, 11, 28, "low") as u8,
-        range: number_or_least(table, 1, 1_000_000, "range"),
+        range: number_or_least(table, 1, limits::NUMBER, "range"),
     }
 }
 
@@ -55,7 +56,7 @@ fn parameter_in(alloc: Global, value: &Value) -> Result<Param, AllocError>
     Ok(Param {
         name: name_or_none(table),
         kind: kind_or_discrete(table),
-        stale: number_or_least(table, 1, 600, "stale"),
+        stale: number_or_least(table, 1, limits::STALE, "stale"),
         sources: sources_in(alloc, list_in(table, "source"))?,
     })
 }

@@ -1,5 +1,6 @@
 // The lines of a report.
 ghost use Rattle.std.specs.Prelude.{◌≡◌, ◌≤◌, ◌<◌, ◌+◌, ◌++◌, ◌∷◌, length, decimal};
+ghost use Rattle.ecam_spec.specs.declared.limits.TheConstants.{NAME};
 ghost use Rattle.ecam_spec.specs.Output as output;
 ghost use Rattle.ecam_spec.specs.Situation.{alert_at};
 ghost use Rattle.book_model.specs.Sealed.{the_book};
@@ -35,9 +36,9 @@ fn put_number(line: &mut Line, number: u64)
 
 // Appends the name of an alert by its place in the book; past the last alert there is none.
 fn put_name(line: &mut Line, book: &Book, alert: u32)
-    requires { length line.old.items + 24 ≤ LINE }
+    requires { length line.old.items + NAME ≤ LINE }
     ensures name { line.new.items ≡ line.old.items ++ (alert_at (the_book book.now) alert).name }
-    ensures short { length line.new.items ≤ length line.old.items + 24 }
+    ensures short { length line.new.items ≤ length line.old.items + NAME }
 {
     let place = alert as usize;
     let alerts = book.alerts();

@@ -1,5 +1,6 @@
 -- Which rows of a picture differ from those of the picture before.
 use Rattle.std.specs.Prelude.{◌≡◌, ℕ, zero, suc, ◌<◌, Bool, false, not, List, get_or}
+use Rattle.ecam_spec.specs.declared.limits.TheConstants.{PICTURE_ROWS}
 use Rattle.ecam_spec.specs.Picture.{Picture, blank_row, same_row}
 use Rattle.ecam_spec.specs.Output.{picture_before}
 
@@ -15,4 +16,4 @@ row_changed pictures (suc k) i = row_differs (picture_before pictures k) (pictur
 
 -- the flags tell which rows changed
 abbrev pub TellsRows : (ℕ → Picture) → ℕ → List Bool → Type 0
-TellsRows pictures k flags = (i : ℕ) → i < 36 → get_or flags i false ≡ row_changed pictures k i
+TellsRows pictures k flags = (i : ℕ) → i < PICTURE_ROWS → get_or flags i false ≡ row_changed pictures k i

@@ -20,7 +20,7 @@ use ecam_kinds::{Picture, ROWS, Row};
 fn forget(_rows: &[Row], changed: &mut [bool])
     requires { IsWhole (tracked _rows.now changed.old) }
     ensures whole { IsWhole (tracked _rows.now changed.new) }
-    ensures none { (i : ℕ) → i < 36 → slice_index_or changed.new i false ≡ false }
+    ensures none { (i : ℕ) → i < ROWS → slice_index_or changed.new i false ≡ false }
 {
     changed.fill(false);
 }

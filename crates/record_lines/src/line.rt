@@ -4,6 +4,7 @@ ghost use Rattle.ecam_spec.specs.RecordLine.{bits_of, event_of, key_of, word_eve
 ghost use Rattle.record_lines.specs.Line.{digit_value, named_key_of, number_of, number_within};
 
 use ecam_kinds::{Event, Key};
+use ecam_spec::limits;
 use memchr::memchr;
 
 // The event that a line says, without its line feed.
@@ -75,7 +76,7 @@ fn key_of(word: &[u8]) -> Option<Key>
     ensures { result ≡ key_of word.now }
 {
     match word.strip_prefix(b"PG") {
-        Some(number) => number_within(number, 1, 16).map(Key::Page),
+        Some(number) => number_within(number, 1, limits::PAGES as u8).map(Key::Page),
         None => named_key_of(word),
     }
 }

@@ -300,7 +300,7 @@ impl LineReader {
 
     // Keeps what the piece has of a line.
     fn carry(&mut self)
-        requires { length self.old.line + length self.old.pending ≤ 32 }
+        requires { length self.old.line + length self.old.pending ≤ LONGEST }
         ensures { self.new ≡ carried self.old }
     {
         let bytes = self.piece.bytes();
@@ -313,7 +313,7 @@ impl LineReader {
     fn end_line(&mut self, at: usize) -> Option<Result<Event, LineError>>
         requires lines { self.old.stage ≡ Stage.Lines }
         requires feed { position (λ b. b == 10) self.old.pending ≡ Some at }
-        requires fits { length self.old.line + at ≤ 32 }
+        requires fits { length self.old.line + at ≤ LONGEST }
         ensures given { IfSome result (Gives self.old self.new) }
         ensures from_bytes { IfSome result IsFromBytes }
         ensures whole { IfSome result (λ _. reads_next self.old ≡ false) }
@@ -428,7 +428,7 @@ fn ends_record(line: &[u8], rest: &[u8]) -> bool
 
 // The event of the line that begins with these bytes and ends with the rest; the line is empty afterwards.
 fn event_across(line: &mut ArrayVec<u8, LONGEST>, rest: &[u8]) -> Option<Event>
-    requires { array_vec_len line.old + length rest.now ≤ 32 }
+    requires { array_vec_len line.old + length rest.now ≤ LONGEST }
     ensures event { result ≡ event_of (line.old.items ++ rest.now) }
     ensures empty { line.new.items ≡ [] }
 {

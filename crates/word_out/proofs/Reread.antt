@@ -5,7 +5,9 @@ use Rattle.std.proofs.lemmas.List.{get_or-map, get_or-take, get_or-drop}
 use Rattle.std.specs.Option.{option_or}
 use Rattle.std.specs.Prelude.{codes}
 use Rattle.ecam_spec.specs.declared.kinds.Event.{Event}
+use Rattle.ecam_spec.specs.declared.limits.TheConstants.{ALERTS}
 use Rattle.ecam_spec.specs.Book.{Book, Source, Parameter}
+use Rattle.ecam_spec.specs.Command.{no_limit}
 use Rattle.ecam_spec.specs.History.{Moment, era}
 use Rattle.ecam_spec.specs.Output.{line}
 use Rattle.ecam_spec.specs.Places.{first_of}
@@ -67,7 +69,7 @@ module _ (n w field i : ℕ) (within : i < 19) (known : n ≤ 129) where
   unfolding discrete
   not_computed c = ap (λ s. cond (s == 0) (Some (pos (bit (11 + i) w))) None) (carried-ssm n w field 1 c known)
 
-module _ (b : Book) (few : length b.alerts ≤ 2048) (h : List Event) where
+module _ (b : Book) (few : length b.alerts ≤ ALERTS) (h : List Event) where
   few_words : word_count b ≤ 129
   unfolding word_count groups
   few_words = omega arith
@@ -123,31 +125,31 @@ module _ (b : Book) (few : length b.alerts ≤ 2048) (h : List Event) where
 
   -- ---- the record
 
-  module _ (short : length (words_text b h ++ words_end) ≤ 4294967295) where
+  module _ (short : length (words_text b h ++ words_end) ≤ no_limit) where
     text_is : words_text b h ++ words_end ≡ texts (sent_text written what (word_count b)) (tick_count h) ++ line (codes "E")
     text_is = ap (λ x. x ++ line (codes "E")) (words_text-sent b h)
 
-    room : length (texts (sent_text written what (word_count b)) (tick_count h) ++ line (codes "E")) ≤ 4294967295
-    room = subst (λ x. length x ≤ 4294967295) text_is short
+    room : length (texts (sent_text written what (word_count b)) (tick_count h) ++ line (codes "E")) ≤ no_limit
+    room = subst (λ x. length x ≤ no_limit) text_is short
 
-    events_are : events (words_text b h ++ words_end) 4294967295 ≡ all_events written what (word_count b) (tick_count h)
-    events_are = ap (λ x. events x 4294967295) text_is ∙ sent_said 4294967295 written what (word_count b) small (tick_count h) room
+    events_are : events (words_text b h ++ words_end) no_limit ≡ all_events written what (word_count b) (tick_count h)
+    events_are = ap (λ x. events x no_limit) text_is ∙ sent_said no_limit written what (word_count b) small (tick_count h) room
 
-    sound_record : fault (words_text b h ++ words_end) 4294967295 ≡ None
-    sound_record = ap (λ x. fault x 4294967295) text_is ∙ sent_sound 4294967295 written what (word_count b) small (tick_count h) room
+    sound_record : fault (words_text b h ++ words_end) no_limit ≡ None
+    sound_record = ap (λ x. fault x no_limit) text_is ∙ sent_sound no_limit written what (word_count b) small (tick_count h) room
 
-    many_moments : length (era (events (words_text b h ++ words_end) 4294967295)).moments ≡ tick_count h
+    many_moments : length (era (events (words_text b h ++ words_end) no_limit)).moments ≡ tick_count h
     many_moments = ap (λ es. length (era es).moments) events_are ∙ (hold_all written what (word_count b) (tick_count h)).many
 
-    words_are : (k : ℕ) → k < tick_count h → (moment_of (era (events (words_text b h ++ words_end) 4294967295)) k).words ≡ sent_words written what (word_count b) k (word_count b)
+    words_are : (k : ℕ) → k < tick_count h → (moment_of (era (events (words_text b h ++ words_end) no_limit)) k).words ≡ sent_words written what (word_count b) k (word_count b)
     words_are k before = ap (λ es. (moment_of (era es) k).words) events_are ∙ (hold_all written what (word_count b) (tick_count h)).before k before
 
     alert_read : (t a : ℕ) (p : Parameter) (s : Source) → t < tick_count h → a < length b.alerts → ReadsAlert a p s
-        → value p (words_in b (moment_of (era (events (words_text b h ++ words_end) 4294967295)))) t ≡ alert_value b h t a
+        → value p (words_in b (moment_of (era (events (words_text b h ++ words_end) no_limit)))) t ≡ alert_value b h t a
     unfolding value
     alert_read t a p s before within reads =
         let words : ℕ → List BusWord = λ k. sent_words written what (word_count b) k (word_count b) in
-        value-below (words_in b (moment_of (era (events (words_text b h ++ words_end) 4294967295)))) words t (λ i upto. words_are i (omega arith)) p
+        value-below (words_in b (moment_of (era (events (words_text b h ++ words_end) no_limit)))) words t (λ i upto. words_are i (omega arith)) p
         ∙ ap (λ ss. first_of (map (λ x. source_value p.kind p.stale x words t) ss)) reads.source
         ∙ only (source_value p.kind p.stale s words t)
         ∙ ap (λ kind. source_value kind p.stale s words t) reads.kind
@@ -158,12 +160,12 @@ module _ (b : Book) (few : length b.alerts ≤ 2048) (h : List Event) where
         ∙ ap (λ x. discrete x (what t (word_for a))) reads.bit
         ∙ told t a within
 
-pub record_sound : (b : Book) (h : List Event) → length b.alerts ≤ 2048 → length (words_text b h ++ words_end) ≤ 4294967295 → fault (words_text b h ++ words_end) 4294967295 ≡ None
+pub record_sound : (b : Book) (h : List Event) → length b.alerts ≤ ALERTS → length (words_text b h ++ words_end) ≤ no_limit → fault (words_text b h ++ words_end) no_limit ≡ None
 record_sound b h few short = sound_record b few h short
 
-pub record_moments : (b : Book) (h : List Event) → length b.alerts ≤ 2048 → length (words_text b h ++ words_end) ≤ 4294967295 → length (era (events (words_text b h ++ words_end) 4294967295)).moments ≡ tick_count h
+pub record_moments : (b : Book) (h : List Event) → length b.alerts ≤ ALERTS → length (words_text b h ++ words_end) ≤ no_limit → length (era (events (words_text b h ++ words_end) no_limit)).moments ≡ tick_count h
 record_moments b h few short = many_moments b few h short
 
-pub record_values : (b : Book) (h : List Event) → length b.alerts ≤ 2048 → length (words_text b h ++ words_end) ≤ 4294967295 → (t a : ℕ) (p : Parameter) (s : Source) → t < tick_count h → a < length b.alerts → ReadsAlert a p s
-    → value p (words_in b (moment_of (era (events (words_text b h ++ words_end) 4294967295)))) t ≡ alert_value b h t a
+pub record_values : (b : Book) (h : List Event) → length b.alerts ≤ ALERTS → length (words_text b h ++ words_end) ≤ no_limit → (t a : ℕ) (p : Parameter) (s : Source) → t < tick_count h → a < length b.alerts → ReadsAlert a p s
+    → value p (words_in b (moment_of (era (events (words_text b h ++ words_end) no_limit)))) t ≡ alert_value b h t a
 record_values b h few short = alert_read b few h short

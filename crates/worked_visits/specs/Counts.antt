@@ -1,9 +1,10 @@
 -- How a worked count is written: by the lines of a record, with `/` where a line ends.
 use Rattle.std.specs.Prelude.{ℕ}
 use Rattle.ecam_spec.specs.Book.{Text, Book}
+use Rattle.ecam_spec.specs.Command.{no_limit}
 use Rattle.ecam_spec.specs.Record.{events}
 use Rattle.fwc_pair.specs.PairVisits.{tick_visits, history_visits}
-use Rattle.worked_rows.specs.Rows.{lines, no_limit}
+use Rattle.worked_rows.specs.Rows.{lines}
 
 -- how many nodes of a book's conditions a Tick has a computer visit that comes behind these lines
 abbrev pub visits_behind : Book → Text → ℕ
