@@ -5,9 +5,15 @@ use Rattle.std.specs.Option.{option_map_or}
 use Rattle.std.proofs.Math.Nat.{eq-or-lt_of_le}
 use Rattle.std.proofs.lemmas.List.{get_or-set_same, get_or-set_other}
 use Rattle.std.proofs.lemmas.Option.{slice_get_within, get_or_from_slice_get}
+use Rattle.ecam_spec.specs.Book.{Book}
 use Rattle.ecam_spec.specs.Term.{World, holds}
 use Rattle.ecam_spec.specs.TermSize.{Placed, EndsBefore, slots, nodes}
+use Rattle.ecam_spec.specs.TermNames.{IsWithin}
+use Rattle.book_model.specs.Conditions.{places}
+use Rattle.book_model.proofs.ConditionRanges.{range}
 use Rattle.term_eval.specs.declared.env.Env.{Env}
+use Rattle.term_eval.specs.declared.code.Step.{Step}
+use Rattle.term_eval.specs.Code.{IsCode, IsReady}
 use Rattle.term_eval.specs.CellWords.{cell_at}
 use Rattle.term_eval.specs.CellState.{Stand}
 use Rattle.term_eval.specs.Due.{staying, IsDue}
@@ -16,6 +22,7 @@ use Rattle.term_eval.proofs.Frames.{Stand-same}
 use Rattle.term_eval.proofs.Later.{woken_is, rests_holds, rests_stands, rests_due}
 use Rattle.wakes.specs.Marks.{is_marked}
 use Rattle.fwc_lane.specs.declared.terms.Terms.{Terms}
+use Rattle.fwc_lane.specs.TermsFit.{TermsFit}
 use Rattle.fwc_lane.specs.Visits.{nodes_woken, visits_below}
 use Rattle.fwc_lane.specs.Conditions.{IsAsked, IsLeft, HalfStepped, TellsMoved, StepsTerm, StepsLine}
 
@@ -24,6 +31,11 @@ ends-before : (ps : List Placed) (i j : ℕ) (p q : Placed) → AllPairs EndsBef
 ends-before ps i j p q apart lt here there =
     subst (λ r. EndsBefore r q) (get_or_from_slice_get ps i p p here)
     (subst (EndsBefore (get_or ps i p)) (get_or_from_slice_get ps j q p there) (apart i j p lt (slice_get_within ps j q there)))
+
+-- the code under a condition's number can be run
+pub is-ready : (b : Book) (t : Terms) (i : ℕ) (p : Placed) (env : Env) (steps : List Step) → TermsFit b t → slice_get (places b) i ≡ Some p → IsWithin (length env.values.now) (length env.active.now) p.tree
+    → IsCode p.tree p.at steps → IsReady env steps t.cells.slots p.tree p.at
+is-ready b t i p env steps fits here within code = record { code = code; range = omega (arith, fits.slots, range b i p here); names = within }
 
 -- a condition that is left is marked where the moment wakes it
 pub marked-is : (w : World) (hit : Operand → Bool) (k j : ℕ) (p : Placed) (t : Terms) → k < 2 ^ 63 → TellsMoved hit w k p → IsLeft w hit k j p t → woken w p.tree k ≡ is_marked t.woken j

@@ -120,4 +120,4 @@ terms-after b m k visited t params keys kept one two same all came =
     }
 
 pub fits-after : (b : Book) (t : Terms) (keys : Keys) (one two : Bool) → TermsFit b t → TermsFit b (record t { keys = keys; one_up = one; two_up = two })
-fits-after b t keys one two fits = record { slots = fits.slots; visits = fits.visits; truths = fits.truths; dues = fits.dues; room = fits.room; watch = fits.watch }
+fits-after b t keys one two fits = record { codes = fits.codes; totals = fits.totals; slots = fits.slots; visits = fits.visits; truths = fits.truths; dues = fits.dues; room = fits.room; watch = fits.watch }

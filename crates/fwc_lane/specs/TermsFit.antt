@@ -1,5 +1,5 @@
 -- When what a lane keeps of the conditions was made for a book.
-use Rattle.std.specs.Prelude.{◌≡◌, ◌≤◌, ◌-◌, ◌^◌, length}
+use Rattle.std.specs.Prelude.{◌≡◌, ◌<◌, ◌≤◌, ◌-◌, ◌^◌, length}
 use Rattle.ecam_spec.specs.Book.{Book}
 use Rattle.ecam_spec.specs.BookTerms.{terms_of, slots_in}
 use Rattle.book_model.specs.declared.draft.Draft.{Draft}
@@ -8,14 +8,18 @@ use Rattle.book_model.specs.Conditions.{places}
 use Rattle.watch_lists.specs.declared.watch.Watch.{Watch}
 use Rattle.watch_lists.specs.Watching.{IsWatch}
 use Rattle.wakes.specs.Marks.{room}
+use Rattle.condition_codes.specs.IsCodes.{IsCodes}
 use Rattle.fwc_lane.specs.declared.terms.Terms.{Terms}
 
 -- the lists tell which of the book's conditions name which operand
 abbrev pub Watches : Book → Watch → Type 0
 Watches b w = (d : Draft) × (the_book d ≡ b) × IsWatch d w
 
--- it has room for the book's slots and conditions, and the lists are the book's. Nothing is said of any history
+-- it has room for the book's slots and conditions and for a run of each code, and the codes and the lists are the book's.
+-- Nothing is said of any history
 pub record TermsFit (b : Book) (t : Terms) : Type 0 where
+  pub codes : IsCodes b t.codes
+  pub totals : t.codes.longest < length t.totals.items
   pub slots : length t.cells.slots ≡ slots_in (terms_of b)
   pub visits : t.cells.visits ≤ 2 ^ 64 - 1
   pub truths : length t.truths.items ≡ length (places b)

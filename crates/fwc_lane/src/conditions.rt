@@ -13,21 +13,23 @@ use term_eval::Env;
 
 /// Steps the condition of this number by moment `now`, and answers whether it holds in it. One that the moment doesn't wake
 /// holds where it held, and costs a look; one that is woken costs one visit of each of its nodes.
-pub fn step_term(terms: &mut Terms, number: usize, term: &Term, env: &Env<'_>, now: u64) -> bool
+pub fn step_term(terms: &mut Terms, number: usize, _term: &Term, env: &Env<'_>, now: u64) -> bool
     requires place { (b : plain.Book) × TermsFit b terms.old
-        × (slice_get (places b) number ≡ Some (placed_of term.now)) }
+        × (slice_get (places b) number ≡ Some (placed_of _term.now)) }
     requires names { IsWithin (length env.now.values.now) (length env.now.active.now)
-        (tree_in term.now) }
+        (tree_in _term.now) }
     requires first { 1 ≤ env.now.phase.number }
     requires last { env.now.phase.number ≤ 10 }
     requires now { now < 2 ^ 63 }
     ensures fits { (b : plain.Book) → TermsFit b terms.old → TermsFit b terms.new }
-    ensures steps { StepsTerm env.now now number (placed_of term.now) terms.old terms.new result }
+    ensures steps { StepsTerm env.now now number (placed_of _term.now) terms.old terms.new result }
 {
     if !terms.woken.has(number) {
         return terms.truths[number];
     }
-    let turn = terms.cells.refresh(&term.cond, term.at, env, now);
+    let turn = terms
+        .cells
+        .run(terms.codes.code(number), &mut terms.totals, env, now);
     terms.truths[number] = turn.holds;
     terms.dues.set(number, turn.due);
     turn.holds

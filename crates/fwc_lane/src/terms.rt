@@ -8,15 +8,20 @@ ghost use Rattle.fwc_lane.specs.TermsFit.{TermsFit, TookTerms};
 
 use crate::strokes::Strokes;
 use book_model::Book;
+use condition_codes::Codes;
 use std::alloc::{AllocError, Global};
 use term_eval::Cells;
 use wakes::{Marked, Wakes};
 use watch_lists::Watch;
 
-/// All that is kept of the conditions, each under its number in stepping order: what it remembers, what it said, and when
-/// it turns by itself; and of what they name what the lane has nowhere else.
+/// All that is kept of the conditions, each under its number in stepping order: by which code it is stepped, what it
+/// remembers, what it said, and when it turns by itself; and of what they name what the lane has nowhere else.
 #[derive(Drop)]
 pub struct Terms {
+    /// The code by which each is stepped. Nothing changes it.
+    pub codes: Codes,
+    /// Room for a run of any code. Between runs it says nothing.
+    pub totals: Vec<usize>,
     /// What the conditions remember.
     pub cells: Cells,
     /// Per condition whether it held in the last moment.
@@ -36,7 +41,7 @@ pub struct Terms {
 }
 
 impl Terms {
-    /// Of conditions that no moment has stepped. Its cost is a few writes a condition and a slot, and one visit of each
+    /// Of conditions that no moment has stepped. Its cost is a few writes a condition and a slot, and two visits of each
     /// node. An error is want of memory.
     pub fn new(alloc: Global, book: &Book) -> Result<Terms, AllocError>
         ensures fits { IfOk result (TermsFit (the_book book.now)) }
@@ -44,12 +49,16 @@ impl Terms {
         ensures visits { IfOk result (λ t. t.cells.visits ≡ 0) }
     {
         let count = condition_count(book);
+        let codes = Codes::new(alloc, book)?;
+        let totals = vec![in alloc; 0; codes.longest() + 1]?;
         let cells = Cells::new(alloc, book.slots())?;
         let truths = vec![in alloc; false; count]?;
         let dues = Wakes::new(alloc, count)?;
         let woken = Marked::new(alloc, count)?;
         let watch = Watch::new(alloc, book)?;
         Ok(Terms {
+            codes,
+            totals,
             cells,
             truths,
             dues,

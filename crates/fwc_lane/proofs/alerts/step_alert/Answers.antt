@@ -49,6 +49,8 @@ pub returns-clause-terms : goal.returns-clause-terms
 returns-clause-terms c =
     let fits = c.step_term-holds.ensures.fits (the_book c.args.book.now) c.requires.terms in
     record {
+      codes = fits.codes;
+      totals = fits.totals;
       slots = fits.slots;
       visits = fits.visits;
       truths = fits.truths;

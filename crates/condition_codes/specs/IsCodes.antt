@@ -1,0 +1,8 @@
+-- The codes of a book: of each of its conditions the code, under its number.
+use Rattle.ecam_spec.specs.Book.{Book}
+use Rattle.book_model.specs.Conditions.{places}
+use Rattle.condition_codes.specs.Pieces.{AreCodes}
+use Rattle.condition_codes.specs.declared.codes.Codes.{Codes}
+
+pub record IsCodes (b : Book) (c : Codes) : Type 0 where
+  pub codes : AreCodes (places b) c.longest c.starts.items.items c.steps.items.items
