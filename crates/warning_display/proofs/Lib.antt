@@ -2,5 +2,6 @@ pub mod Passing
 pub mod Adding
 pub mod Blocks
 pub mod Titles
+pub mod Beyond
 pub mod Marks
 pub mod Joining

@@ -1,9 +1,10 @@
 -- Marks of the systems of which an alert is starred, and the rows of the marked systems.
 use Rattle.std.proofs.Common.{◌≡◌, ℕ, zero, suc, ◌+◌, ◌-◌, ◌<◌, ◌≤◌, min, Bool, true, false, ◌&&◌, ◌||◌, ◌==◌, List, [], ◌∷◌, ◌++◌, map, length, get_or, set, replicate, subst, cond, inl, inr, refl, sym, ◌∙◌, ap, arith}
 use Rattle.std.specs.Prelude.{filter}
-use Rattle.std.proofs.Math.Bool.{or-false, and-false, or-true}
+use Rattle.std.specs.List.{list_any}
+use Rattle.std.proofs.Math.Bool.{or-false, and-false, and-true, or-true}
 use Rattle.std.proofs.lemmas.Bool.{cases_eq, eq-eqb, ne_eqb}
-use Rattle.std.proofs.lemmas.List.{get_or-set_same, get_or-set_other, length-set}
+use Rattle.std.proofs.lemmas.List.{get_or-set_same, get_or-set_other}
 use Rattle.std.proofs.lemmas.List.Elements.{filter_agree}
 use Rattle.std.proofs.lemmas.List.Folds.{list_any-append}
 use Rattle.ecam_spec.specs.declared.kinds.Colour.TheVariants.{Amber}
@@ -25,16 +26,16 @@ use Rattle.warning_display.proofs.Passing.{filter-on, filter_told, any_told, bel
 use Rattle.warning_display.proofs.Adding.{adds-both}
 
 -- what a mark tells of each system
-marked : (marks : List Bool) (system s : ℕ) (starred : Bool) → system < length marks → get_or (cond starred (set marks system true) marks) s false ≡ (get_or marks s false || ((system == s) && starred))
-marked marks system s false within = sym (ap (λ b. get_or marks s false || b) (and-false (system == s)) ∙ or-false (get_or marks s false))
-marked marks system s true within =
+marked : (marks : List Bool) (system s : ℕ) → system < length marks → get_or (set marks system true) s false ≡ (get_or marks s false || (system == s))
+marked marks system s within =
     elim (cases_eq s system) [
       | inl e ↦
-          let same : get_or (set marks system true) s false ≡ true = ap (λ i. get_or (set marks system true) i false) e ∙ get_or-set_same marks system true false within in
-          same ∙ sym (ap (λ b. get_or marks s false || (b && true)) (eq-eqb system s (sym e)) ∙ or-true (get_or marks s false))
+          ap (λ i. get_or (set marks system true) i false) e
+          ∙ get_or-set_same marks system true false within
+          ∙ sym (ap (λ b. get_or marks s false || b) (eq-eqb system s (sym e)) ∙ or-true (get_or marks s false))
       | inr ne ↦
           get_or-set_other marks system s true false ne
-          ∙ sym (ap (λ b. get_or marks s false || (b && true)) (ne_eqb system s (λ e. ne (sym e))) ∙ or-false (get_or marks s false))
+          ∙ sym (ap (λ b. get_or marks s false || b) (ne_eqb system s (λ e. ne (sym e))) ∙ or-false (get_or marks s false))
     ]
 
 any-one : (b : Book) (starred : ℕ → Bool) (alerts : List ℕ) (a s : ℕ) → is_marked b starred (alerts ++ a ∷ []) s ≡ (is_marked b starred alerts s || (((alert_at b a).system == s) && starred a))
@@ -42,34 +43,42 @@ any-one b starred alerts a s =
     list_any-append (λ x. (alert_at b x).system == s && starred x) alerts (a ∷ [])
     ∙ ap (λ q. is_marked b starred alerts s || q) (or-false (((alert_at b a).system == s) && starred a))
 
--- one alert more
-pub marked-on : (b : Book) (starred : ℕ → Bool) (a system : ℕ) (old new : List Bool) (told : Bool) → (alert_at b a).system ≡ system → told ≡ starred a → system < length old → new ≡ cond told (set old system true) old
-    → ((s : ℕ) → s < 64 → get_or old s false ≡ is_marked b starred (below a) s) → (s : ℕ) → s < 64 → get_or new s false ≡ is_marked b starred (below (a + 1)) s
-marked-on b starred a system old new told is tells within e so_far s h =
-    ap (λ ms. get_or ms s false) e
-    ∙ marked old system s told within
-    ∙ ap (λ q. q || ((system == s) && told)) (so_far s h)
-    ∙ ap (λ q. is_marked b starred (below a) s || ((system == s) && q)) tells
+any-kept : (test : ℕ → Bool) (kept : Bool) (a : ℕ) (alerts : List ℕ) → ((test a && kept) || list_any test alerts) ≡ list_any test (cond kept (a ∷ alerts) alerts)
+any-kept test true a alerts = ap (λ q. q || list_any test alerts) (and-true (test a))
+any-kept test false a alerts = ap (λ q. q || list_any test alerts) (and-false (test a))
+
+marked-filter : (b : Book) (starred : ℕ → Bool) (s : ℕ) (alerts : List ℕ) → is_marked b starred alerts s ≡ list_any (λ a. (alert_at b a).system == s) (filter starred alerts)
+marked-filter b starred s [] = refl
+marked-filter b starred s (a ∷ alerts) =
+    ap (λ q. ((alert_at b a).system == s && starred a) || q) (marked-filter b starred s alerts)
+    ∙ any-kept (λ x. (alert_at b x).system == s) (starred a) a (filter starred alerts)
+
+-- alerts of which the same are starred mark the same systems
+pub marked-same : (b : Book) (starred : ℕ → Bool) (these those : List ℕ) → filter starred these ≡ filter starred those → (s : ℕ) → is_marked b starred these s ≡ is_marked b starred those s
+marked-same b starred these those same s =
+    marked-filter b starred s these ∙ ap (list_any (λ a. (alert_at b a).system == s)) same ∙ sym (marked-filter b starred s those)
+
+-- one starred alert more
+pub marked-on : (b : Book) (starred : ℕ → Bool) (a system : ℕ) (marks : List Bool) → (alert_at b a).system ≡ system → starred a ≡ true → system < length marks
+    → ((s : ℕ) → s < 64 → get_or marks s false ≡ is_marked b starred (below a) s) → (s : ℕ) → s < 64 → get_or (set marks system true) s false ≡ is_marked b starred (below (a + 1)) s
+marked-on b starred a system marks is tells within so_far s h =
+    marked marks system s within
+    ∙ ap (λ q. q || (system == s)) (so_far s h)
+    ∙ ap (λ q. is_marked b starred (below a) s || q) (sym (and-true (system == s)) ∙ ap (λ q. (system == s) && q) (sym tells))
     ∙ ap (λ n. is_marked b starred (below a) s || ((n == s) && starred a)) (sym is)
     ∙ sym (any-one b starred (below a) a s)
     ∙ ap (λ xs. is_marked b starred xs s) (sym (below-more a))
 
-length-if : (marks : List Bool) (system : ℕ) (told : Bool) → length (cond told (set marks system true) marks) ≡ length marks
-length-if marks system true = length-set marks system true
-length-if marks system false = refl
-
-pub marks-long : (old new : List Bool) (system : ℕ) (told : Bool) → new ≡ cond told (set old system true) old → length new ≡ length old
-marks-long old new system told e = ap length e ∙ length-if old system told
-
--- one system more
-pub systems-on : (f : ℕ → Row) (p : ℕ → Bool) (s : ℕ) (r : Row) → f s ≡ r → (a b c : ℕ) (t u v : TrackedRows)
-    → Adds 7 (map f (filter p (below s))) a b t u → Adds 7 (cond (p s) (r ∷ []) []) b c u v → Adds 7 (map f (filter p (below (s + 1)))) a c t v
-systems-on f p s r is a b c t u v before next =
-    let on : map f (filter p (below (s + 1))) ≡ map f (filter p (below s)) ++ cond (p s) (r ∷ []) [] =
+-- one marked system more
+pub systems-on : (f : ℕ → Row) (p : ℕ → Bool) (s : ℕ) (r : Row) → f s ≡ r → p s ≡ true → (a b c : ℕ) (t u v : TrackedRows)
+    → Adds 7 (map f (filter p (below s))) a b t u → Adds 7 (r ∷ []) b c u v → Adds 7 (map f (filter p (below (s + 1)))) a c t v
+systems-on f p s r is passes a b c t u v before next =
+    let on : map f (filter p (below (s + 1))) ≡ map f (filter p (below s)) ++ r ∷ [] =
     ap (λ xs. map f (filter p xs)) (below-more s)
     ∙ filter-on f p (below s) s
-    ∙ ap (λ x. map f (filter p (below s)) ++ cond (p s) (x ∷ []) []) is in
-    rw on (adds-both 7 (map f (filter p (below s))) (cond (p s) (r ∷ []) []) a b c t u v before next)
+    ∙ ap (λ q. map f (filter p (below s)) ++ cond q (f s ∷ []) []) passes
+    ∙ ap (λ x. map f (filter p (below s)) ++ x ∷ []) is in
+    rw on (adds-both 7 (map f (filter p (below s))) (r ∷ []) a b c t u v before next)
 
 map-twice : (g : ℕ → Text) (xs : List ℕ) → map (λ s. system_row (g s)) xs ≡ map (λ s. row Amber (42 ∷ s)) (map g xs)
 map-twice g [] = refl

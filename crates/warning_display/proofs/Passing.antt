@@ -1,8 +1,8 @@
 -- Lists told by flags, member by member.
-use Rattle.std.proofs.Common.{◌≡◌, ℕ, suc, ◌+◌, ◌<◌, Bool, true, false, ◌||◌, List, [], ◌∷◌, ◌++◌, map, take, slice_get, Some, All, cond, refl, sym, ◌∙◌, ap, arith, add-one}
+use Rattle.std.proofs.Common.{◌≡◌, ℕ, suc, ◌+◌, ◌<◌, Bool, true, false, ◌||◌, List, [], ◌∷◌, ◌++◌, map, take, drop, slice_get, Some, All, cond, refl, sym, ◌∙◌, ap, arith, add-one}
 use Rattle.std.specs.Prelude.{filter}
 use Rattle.std.specs.List.{list_any}
-use Rattle.std.proofs.lemmas.List.{take_more, map-append}
+use Rattle.std.proofs.lemmas.List.{take_more, map-append, take-append-drop}
 use Rattle.std.proofs.lemmas.List.Elements.{filter-append}
 use Rattle.std.proofs.lemmas.Option.{slice_get_within, get_or_from_slice_get}
 use Rattle.ecam_spec.specs.Picture.{Row}
@@ -21,6 +21,10 @@ filter-on f test xs x =
     ap (map f) (filter-append test xs (x ∷ []))
     ∙ map-append f (filter test xs) (cond (test x) (x ∷ []) [])
     ∙ ap (λ ys. map f (filter test xs) ++ ys) (one-passes f (test x) x)
+
+-- a list that is filtered in two parts
+pub filter-parts : {X : Type 0} (test : X → Bool) (n : ℕ) (xs : List X) → filter test xs ≡ filter test (take n xs) ++ filter test (drop n xs)
+filter-parts test n xs = ap (filter test) (sym (take-append-drop n xs)) ∙ filter-append test (take n xs) (drop n xs)
 
 -- the member at place i, where so many were taken
 pub taken : {X : Type 0} (xs : List X) (i : ℕ) (x : X) → slice_get xs i ≡ Some x → take (i + 1) xs ≡ take i xs ++ x ∷ []

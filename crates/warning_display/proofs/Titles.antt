@@ -27,7 +27,7 @@ no-titles (suc n) [] = refl
 no-titles (suc n) (l ∷ ls) = no-titles n ls
 
 -- titles from row n on, with the rows of one alert more
-titles-more : (n : ℕ) (rows : List LeftRow) (stands : Line → Bool) (a : ℕ) (x : Alert)
+pub titles-more : (n : ℕ) (rows : List LeftRow) (stands : Line → Bool) (a : ℕ) (x : Alert)
     → count_by is-title (drop n (rows ++ alert_rows stands a x)) ≡ count_by is-title (drop n rows) + cond (leb n (length rows)) 1 0
 unfolding alert_rows
 titles-more zero [] stands a x =
@@ -146,8 +146,3 @@ fills-left left normal memos beyond count s t u titles filled mended = record {
   beyond = titles ∙ sym (overflow-left left normal memos);
   more = more-left (left_rows left normal memos) count s t filled;
 }
-
-pub few-more : (shown seven : Bool) (beyond later i : ℕ) → later ≡ beyond + cond shown (cond seven 1 0) 0 → beyond ≤ i → later ≤ i + 1
-few-more true true beyond later i e h = omega (arith, e)
-few-more true false beyond later i e h = omega (arith, e)
-few-more false seven beyond later i e h = omega (arith, e)

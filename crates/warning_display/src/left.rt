@@ -7,8 +7,9 @@ ghost use Rattle.book_model.specs.View.{memo_of};
 ghost use Rattle.book_model.specs.Sealed.{the_book};
 ghost use Rattle.zone_rows.specs.Tracked.{TrackedRows, tracked, IsWhole};
 ghost use Rattle.zone_rows.specs.Mended.{Appends, IsFilled};
-ghost use Rattle.std.specs.Prelude.{map, true};
-ghost use Rattle.ecam_spec.specs.declared.limits.TheConstants.{ALERTS, MEMOS};
+ghost use Rattle.std.specs.Prelude.{filter, map, take, true};
+ghost use Rattle.ecam_spec.specs.declared.limits.TheConstants.{MEMOS};
+ghost use Rattle.ecam_spec.specs.Screen.{order};
 ghost use Rattle.book_model.specs.Told.{TellsOf, flagged, TellsBelow};
 ghost use Rattle.warning_display.specs.Memos.{memo_rows};
 ghost use Rattle.warning_display.specs.LeftRows.{alert_block, in_order, rows_in, blocks, left_of, FillsLeft};
@@ -16,6 +17,7 @@ ghost use Rattle.warning_display.specs.LeftRows.{alert_block, in_order, rows_in,
 use crate::counted::ZONE;
 use crate::memos::put_memos;
 use crate::procedure::{part, put_alert};
+use crate::search::{count_shown, next_shown};
 use book_model::{Book, Memo};
 use ecam_kinds::{Colour, Picture, ROWS, Row};
 use zone_rows::{LEFT, blank_rest, put_next};
@@ -28,14 +30,13 @@ pub struct LeftCount {
     pub more: bool,
 }
 
-// Puts the rows of an alert, if it is shown. Beyond the eighth row nothing is looked at any more.
+// Puts the rows of an alert.
 fn put_block(
     rows: &mut [Row],
     changed: &mut [bool],
     count: usize,
     book: &Book,
     alert: usize,
-    shown: bool,
     lines: &[bool],
 ) -> usize
     requires whole { IsWhole (tracked rows.old changed.old) }
@@ -44,33 +45,50 @@ fn put_block(
     ensures whole { IsWhole (tracked rows.new changed.new) }
     ensures rows { (stands : plain.Line → Bool)
         → TellsOf lines.now (lines_of (the_book book.now).alerts) stands
-        → Appends 0 7 (if shown then alert_block (the_book book.now) stands alert else []) count
-        result
+        → Appends 0 7 (alert_block (the_book book.now) stands alert) count result
         (tracked rows.old changed.old) (tracked rows.new changed.new) }
 {
-    if !shown {
-        return count;
-    }
-    if count > ZONE {
-        return count;
-    }
     let own = &book.alerts()[alert];
     let stands = part(lines, book.line_at(alert), own.lines.len());
     put_alert(rows, changed, count, own, stands)
 }
 
-// Counts a shown title where seven rows stand before it.
-fn count_title(beyond: u32, count: usize, shown: bool) -> u32
-    requires { beyond < ALERTS }
-    ensures { result ≡ beyond + (if shown then (if nat_le 7 count then 1 else 0) else 0) }
+// Puts the rows of the shown alerts in their order, until seven rows stand. Answers how many rows were put, as
+// `put_next` counts them, and the place of the next shown alert, which is the end where there is none.
+fn put_first(
+    rows: &mut [Row],
+    changed: &mut [bool],
+    book: &Book,
+    shown: &[bool],
+    lines: &[bool],
+) -> (usize, usize)
+    requires whole { IsWhole (tracked rows.old changed.old) }
+    requires shown { length shown.now ≡ length book.now.alerts.items }
+    requires lines { length lines.now ≡ length (lines_of (the_book book.now).alerts) }
+    ensures whole { IsWhole (tracked rows.new changed.new) }
+    ensures next { result.1 ≤ length (order (the_book book.now)) }
+    ensures all { result.0 < 7 → result.1 ≡ length (order (the_book book.now)) }
+    ensures rows { (stands : plain.Line → Bool)
+        → TellsOf lines.now (lines_of (the_book book.now).alerts) stands
+        → let alerts = filter (flagged shown.now) (take result.1 (order (the_book book.now))) in
+        Appends 0 7 (rows_in (blocks (the_book book.now) stands alerts)) 0 result.0
+        (tracked rows.old changed.old) (tracked rows.new changed.new) }
+    ensures titles { (stands : plain.Line → Bool)
+        → TellsOf lines.now (lines_of (the_book book.now).alerts) stands
+        → let alerts = filter (flagged shown.now) (take result.1 (order (the_book book.now))) in
+        overflow (blocks (the_book book.now) stands alerts) ≡ 0 }
 {
-    if !shown {
-        return beyond;
+    let order = book.order();
+    let mut count = 0;
+    let mut next = next_shown(order, shown, 0);
+    while next < order.len() {
+        if count >= ZONE {
+            return (count, next);
+        }
+        count = put_block(rows, changed, count, book, order[next] as usize, lines);
+        next = next_shown(order, shown, next + 1);
     }
-    if count < ZONE {
-        return beyond;
-    }
-    beyond + 1
+    (count, next)
 }
 
 // Puts the rows of the shown alerts in their order. Answers how many rows were put, as `put_next` counts them, and
@@ -96,15 +114,12 @@ fn put_alerts(
         → result.1 ≡ overflow (blocks (the_book book.now) stands
         (in_order (the_book book.now) (flagged shown.now))) }
 {
-    let order = book.order();
-    let mut count = 0;
-    let mut beyond = 0;
-    for i in 0..order.len() {
-        let alert = order[i] as usize;
-        beyond = count_title(beyond, count, shown[alert]);
-        count = put_block(rows, changed, count, book, alert, shown[alert], lines);
+    let (count, next) = put_first(rows, changed, book, shown, lines);
+    let beyond = count_shown(book.order(), shown, next);
+    if beyond > 0 {
+        return (ZONE + 1, beyond);
     }
-    (count, beyond)
+    (count, 0)
 }
 
 // Where no row was put, puts NORMAL or the left memos that hold.
@@ -168,8 +183,8 @@ fn fill_zone(
 
 /// Fills L1 to L7: of each shown alert, in order, the title and the lines that stand; where nothing is shown,
 /// NORMAL or the left memos that hold. `shown` has a flag for each alert of the book, `lines` for each procedure
-/// line, `memos` for each memo. Costs a look at each alert and at the lines of those that are drawn; nothing is
-/// drawn beyond the seventh row, and titles are counted to the end.
+/// line, `memos` for each memo. Costs a look at the flag of each alert, and at the lines of those that are drawn; behind
+/// the seventh row nothing is drawn, and of each alert only its flag is counted.
 pub fn fill_left(
     book: &Book,
     shown: &[bool],

@@ -12,6 +12,7 @@ mod left;
 mod memos;
 mod procedure;
 mod right;
+mod search;
 
 pub use flags::fill_flags;
 pub use lamps::fill_lamps;

@@ -1,5 +1,5 @@
 // The right zone.
-ghost use Rattle.std.specs.Prelude.{◌≡◌, ◌+◌, ◌≤◌, ◌<◌, ◌^◌, ℕ, Bool, [], ◌∷◌, map, length, slice_index_or, slice_set, false, true, if◌then◌else◌};
+ghost use Rattle.std.specs.Prelude.{◌≡◌, ◌+◌, ◌≤◌, ◌<◌, ◌^◌, ℕ, Bool, [], ◌∷◌, map, length, slice_index_or, false};
 ghost use Rattle.ecam_spec.specs.Book as plain;
 ghost use Rattle.ecam_spec.specs.Screen.{alert_numbers};
 ghost use Rattle.book_model.specs.View.{bytes_of};
@@ -11,6 +11,7 @@ ghost use Rattle.warning_display.specs.RightRows.{is_marked, marked_rows, system
 
 use crate::counted::{ZONE, put_counted};
 use crate::memos::put_memos;
+use crate::search::next_set;
 use arrayvec::ArrayVec;
 use book_model::{Book, Text};
 use ecam_kinds::{Colour, Picture, ROW_TEXT, ROWS, Row};
@@ -19,15 +20,6 @@ use zone_rows::{RIGHT, blank_rest};
 
 // The most systems that a book has.
 const SYSTEMS: usize = limits::SYSTEMS;
-
-fn mark(marks: &mut [bool], system: usize, starred: bool)
-    requires { system < length marks.old }
-    ensures { marks.new ≡ (if starred then slice_set marks.old system true else marks.old) }
-{
-    if starred {
-        marks[system] = true;
-    }
-}
 
 // Marks each system of which an alert is starred.
 fn mark_systems(marks: &mut [bool], book: &Book, starred: &[bool])
@@ -40,27 +32,20 @@ fn mark_systems(marks: &mut [bool], book: &Book, starred: &[bool])
         s }
 {
     let alerts = book.alerts();
-    for a in 0..alerts.len() {
-        mark(marks, alerts[a].system as usize, starred[a]);
+    let mut next = next_set(starred, 0, alerts.len());
+    while next < alerts.len() {
+        marks[alerts[next].system as usize] = true;
+        next = next_set(starred, next + 1, alerts.len());
     }
 }
 
-fn put_system(
-    rows: &mut [Row],
-    changed: &mut [bool],
-    total: usize,
-    system: &Text,
-    marked: bool,
-) -> usize
+fn put_system(rows: &mut [Row], changed: &mut [bool], total: usize, system: &Text) -> usize
     requires whole { IsWhole (tracked rows.old changed.old) }
     requires few { total < 2 ^ 63 }
     ensures whole { IsWhole (tracked rows.new changed.new) }
-    ensures row { Adds 7 (if marked then system_row system.now.bytes ∷ [] else []) total result
+    ensures row { Adds 7 (system_row system.now.bytes ∷ []) total result
         (tracked rows.old changed.old) (tracked rows.new changed.new) }
 {
-    if !marked {
-        return total;
-    }
     let mut text: ArrayVec<u8, ROW_TEXT> = ArrayVec::new();
     text.push(b'*');
     let _ = text.try_extend_from_slice(system.as_str().as_bytes());
@@ -79,8 +64,10 @@ fn put_systems(rows: &mut [Row], changed: &mut [bool], systems: &[Text], marks: 
         (tracked rows.old changed.old) (tracked rows.new changed.new) }
 {
     let mut total = 0;
-    for s in 0..systems.len() {
-        total = put_system(rows, changed, total, &systems[s], marks[s]);
+    let mut next = next_set(marks, 0, systems.len());
+    while next < systems.len() {
+        total = put_system(rows, changed, total, &systems[next]);
+        next = next_set(marks, next + 1, systems.len());
     }
     total
 }
@@ -110,7 +97,8 @@ fn fill_zone(
 
 /// Fills R1 to R7: an asterisk and the name of each system, in the book's order, of which an alert is starred, and
 /// then the right memos that hold. `starred` has a flag for each alert of the book, `memos` for each memo. Answers
-/// how many rows stand beyond the seventh. Costs a look at each alert, system and memo.
+/// how many rows stand beyond the seventh. Costs a look at the flag of each alert, at the mark of each system, at each
+/// memo, and at the starred alerts.
 pub fn fill_right(
     book: &Book,
     starred: &[bool],

@@ -1,46 +1,48 @@
-use Rattle.std.proofs.Common.{ℕ, Bool, false, get_or, refl, ◌∙◌, arith, leb}
-use Rattle.std.proofs.lemmas.List.{take_all}
-use Rattle.std.proofs.lemmas.Option.{slice_get-get_or}
+use Rattle.std.proofs.Common.{◌≡◌, ◌<◌, length, drop, sym, ap, ◌∙◌, arith}
+use Rattle.std.specs.Prelude.{filter}
 use Rattle.ecam_spec.specs.LeftZone.{overflow}
+use Rattle.ecam_spec.specs.Screen.{order}
 use Rattle.book_model.specs.Sealed.{the_book}
+use Rattle.book_model.specs.Told.{flagged}
 use Rattle.book_model.proofs.BookLimits.{sizes}
-use Rattle.zone_rows.proofs.Filling.{append-none}
-use Rattle.warning_display.proofs.Blocks.{appends-block}
-use Rattle.warning_display.proofs.Titles.{overflow-on, few-more}
+use Rattle.warning_display.specs.LeftRows.{blocks}
+use Rattle.warning_display.proofs.Beyond.{rows-beyond, titles-beyond, none-beyond}
 use Rattle.warning_display.proofs.left.put_alerts.Goals as goal
 
-pub loop-i-init : goal.loop-i-init
-unfolding overflow
-loop-i-init c = record {
-  whole = c.requires.whole;
-  few = omega arith;
-  rows = λ stands tells. append-none 0 7 0 _;
-  titles = λ stands tells. refl;
-}
+pub count_shown-beyond-requires-clause-few : goal.count_shown-beyond-requires-clause-few
+count_shown-beyond-requires-clause-few c = omega (arith, c.order.ensures.count, (sizes c.args.book.now c.order.ensures.sealed).alerts)
 
-pub count_title-beyond-requires : goal.count_title-beyond-requires
-count_title-beyond-requires c =
-    omega (arith, c.loop-i.invariant.few, c.loop-i-test.true, c.order-order.ensures.count, (sizes c.args.book.now c.order-order.ensures.sealed).alerts)
+pub returns-then-beyond-gt0-clause-rows : goal.returns-then-beyond-gt0-clause-rows
+returns-then-beyond-gt0-clause-rows c = λ stands tells.
+    let shown = flagged c.args.shown.now in
+    let all = order (the_book c.args.book.now) in
+    let next = c.put_first-count.result.1 in
+    let some : 0 < length (filter shown (drop next all)) = omega (arith, c.if-beyond-gt0.true, rw c.order.ensures.value at c.count_shown-beyond.ensures) in
+    rows-beyond (the_book c.args.book.now) stands shown all next c.put_first-count.result.0 c.put_first-count.ensures.all some _ _ (c.put_first-count.ensures.rows stands tells)
 
-pub loop-i-preserved : goal.loop-i-preserved
-loop-i-preserved c =
-    let b = the_book c.args.book.now in
-    let order = c.order-order.result.now in
-    let alert = get_or order c.loop-i.i 0 in
-    let here = slice_get-get_or order c.loop-i.i 0 c.loop-i-test.true in
-    let shown : ℕ → Bool = λ a. get_or c.args.shown.now a false in
-    record {
-      whole = c.put_block-count.ensures.whole;
-      few = few-more (shown alert) (leb 7 c.loop-i.count) c.loop-i.beyond c.count_title-beyond.result c.loop-i.i c.count_title-beyond.ensures c.loop-i.invariant.few;
-      rows = λ stands tells.
-          appends-block b stands shown order c.loop-i.i alert here 0 c.loop-i.count c.put_block-count.result _ _ _ (c.loop-i.invariant.rows stands tells)
-          (c.put_block-count.ensures.rows stands tells);
-      titles = λ stands tells.
-          overflow-on b stands shown order c.loop-i.i alert here c.loop-i.beyond c.loop-i.count c.count_title-beyond.result _ _ (c.loop-i.invariant.rows stands tells)
-          (c.loop-i.invariant.titles stands tells) c.count_title-beyond.ensures;
-    }
+pub returns-then-beyond-gt0-clause-titles : goal.returns-then-beyond-gt0-clause-titles
+returns-then-beyond-gt0-clause-titles c = λ stands tells.
+    let shown = flagged c.args.shown.now in
+    let all = order (the_book c.args.book.now) in
+    let next = c.put_first-count.result.1 in
+    let many : c.count_shown-beyond.result ≡ length (filter shown (drop next all)) = rw c.order.ensures.value at c.count_shown-beyond.ensures in
+    let some : 0 < length (filter shown (drop next all)) = omega (arith, c.if-beyond-gt0.true, many) in
+    many
+    ∙ titles-beyond (the_book c.args.book.now) stands shown all next c.put_first-count.result.0 c.put_first-count.ensures.all some _ _ (c.put_first-count.ensures.rows stands tells)
+    (c.put_first-count.ensures.titles stands tells)
 
 pub returns-clause-rows : goal.returns-clause-rows
 returns-clause-rows c = λ stands tells.
-    let all = take_all c.loop-i.i c.order-order.result.now c.loop-i-test.false ∙ c.order-order.ensures.value in
-    rw all at c.loop-i.invariant.rows stands tells
+    let shown = flagged c.args.shown.now in
+    let all = order (the_book c.args.book.now) in
+    let next = c.put_first-count.result.1 in
+    let none : length (filter shown (drop next all)) ≡ 0 = omega (arith, c.if-beyond-gt0.false, rw c.order.ensures.value at c.count_shown-beyond.ensures) in
+    rw (none-beyond (the_book c.args.book.now) stands shown all next none) (c.put_first-count.ensures.rows stands tells)
+
+pub returns-clause-titles : goal.returns-clause-titles
+returns-clause-titles c = λ stands tells.
+    let shown = flagged c.args.shown.now in
+    let all = order (the_book c.args.book.now) in
+    let next = c.put_first-count.result.1 in
+    let none : length (filter shown (drop next all)) ≡ 0 = omega (arith, c.if-beyond-gt0.false, rw c.order.ensures.value at c.count_shown-beyond.ensures) in
+    sym (ap (λ xs. overflow (blocks (the_book c.args.book.now) stands xs)) (none-beyond (the_book c.args.book.now) stands shown all next none) ∙ c.put_first-count.ensures.titles stands tells)

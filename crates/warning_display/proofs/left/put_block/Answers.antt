@@ -7,7 +7,7 @@ use Rattle.book_model.specs.Sealed.{the_book, alert_in}
 use Rattle.book_model.proofs.BookReads.{alert-read}
 use Rattle.book_model.proofs.BookLines.{lines-fit, told-block}
 use Rattle.warning_display.specs.LeftRows.{rows_in}
-use Rattle.warning_display.proofs.Blocks.{block-rows, show-block, part-long}
+use Rattle.warning_display.proofs.Blocks.{block-rows, part-long}
 use Rattle.warning_display.proofs.left.put_block.Goals as goal
 
 pub part-stands-requires : goal.part-stands-requires
@@ -39,5 +39,4 @@ returns-clause-rows c = λ stands tells.
     ∙ ap (λ n. take (length own.lines.items) (drop n c.args.lines.now)) c.line_at.ensures.value in
     let block = told-block d c.alerts.result.now c.args.alert own c.alerts.ensures.value within c.index-alerts-alert.is c.args.lines.now stands tells in
     let told = subst (λ fs. TellsOf fs (map line_of own.lines.items) stands) (sym flags) block in
-    show-block c.args.shown _ _ c.args.count c.put_alert.result _ _ c.if-not-shown.false
-    (ap (λ a. rows_in (alert_rows stands c.args.alert a)) read ∙ block-rows stands c.args.alert (alert_in d own)) (c.put_alert.ensures.rows stands told)
+    rw (ap (λ a. rows_in (alert_rows stands c.args.alert a)) read ∙ block-rows stands c.args.alert (alert_in d own)) (c.put_alert.ensures.rows stands told)

@@ -1,39 +1,54 @@
-use Rattle.std.proofs.Common.{◌≡◌, false, length, get_or, refl, ap, ◌∙◌, arith}
+use Rattle.std.proofs.Common.{◌≡◌, ◌<◌, length, get_or, true, ap, sym, ◌+◌, ◌∙◌, arith}
+use Rattle.std.proofs.lemmas.List.{length-set}
 use Rattle.ecam_spec.specs.Places.{below}
 use Rattle.book_model.specs.Sealed.{the_book}
+use Rattle.book_model.specs.Told.{flagged}
 use Rattle.book_model.specs.declared.draft.Alert.{Alert}
 use Rattle.book_model.proofs.BookLists.{many-alerts}
 use Rattle.book_model.proofs.BookReads.{alert-read}
 use Rattle.book_model.proofs.BookLimits.{sizes, alert-sizes}
 use Rattle.warning_display.specs.RightRows.{is_marked}
-use Rattle.warning_display.proofs.Marks.{marked-on, marks-long}
+use Rattle.warning_display.proofs.Marks.{marked-on, marked-same}
 use Rattle.warning_display.proofs.right.mark_systems.Goals as goal
 
-pub loop-a-init : goal.loop-a-init
+pub loop-next-init : goal.loop-next-init
 unfolding below
-loop-a-init c = record { long = c.requires.marks; marked = λ s h. c.requires.clear s }
+loop-next-init c = record {
+  most = c.next_set-next.ensures.end;
+  set = c.next_set-next.ensures.set;
+  long = c.requires.marks;
+  marked = λ s h. c.requires.clear s ∙ marked-same (the_book c.args.book.now) (flagged c.args.starred.now) (below 0) (below c.next_set-next.result) (sym c.next_set-next.ensures.none) s;
+}
 
-pub mark-requires : goal.mark-requires
-mark-requires c =
+pub bounds-marks-alerts : goal.bounds-marks-alerts
+bounds-marks-alerts c =
     let d = c.args.book.now in
-    let size = alert-sizes d c.alerts-alerts.ensures.sealed c.alerts-alerts.result.now c.loop-a.a c.index-alerts-a.result c.alerts-alerts.ensures.value c.loop-a-test.true c.index-alerts-a.is in
-    omega (arith, size.system, (sizes d c.alerts-alerts.ensures.sealed).systems, ap (λ (x : Alert). x.system) c.index-alerts-a.is, c.loop-a.invariant.long)
+    let size = alert-sizes d c.alerts-alerts.ensures.sealed c.alerts-alerts.result.now c.loop-next.next c.index-alerts-next.result c.alerts-alerts.ensures.value c.loop-next-test.true c.index-alerts-next.is in
+    omega (arith, size.system, (sizes d c.alerts-alerts.ensures.sealed).systems, ap (λ (x : Alert). x.system) c.index-alerts-next.is, c.loop-next.invariant.long)
 
-pub loop-a-preserved : goal.loop-a-preserved
-loop-a-preserved c =
+pub loop-next-preserved : goal.loop-next-preserved
+loop-next-preserved c =
     let d = c.args.book.now in
-    let size = alert-sizes d c.alerts-alerts.ensures.sealed c.alerts-alerts.result.now c.loop-a.a c.index-alerts-a.result c.alerts-alerts.ensures.value c.loop-a-test.true c.index-alerts-a.is in
-    let read = alert-read d c.alerts-alerts.result.now c.loop-a.a c.index-alerts-a.result c.alerts-alerts.ensures.value c.loop-a-test.true c.index-alerts-a.is in
+    let b = the_book d in
+    let starred = flagged c.args.starred.now in
+    let alerts = c.alerts-alerts.result.now in
+    let system = (get_or alerts c.loop-next.next c.index-alerts-next.result).system in
+    let size = alert-sizes d c.alerts-alerts.ensures.sealed alerts c.loop-next.next c.index-alerts-next.result c.alerts-alerts.ensures.value c.loop-next-test.true c.index-alerts-next.is in
+    let read = alert-read d alerts c.loop-next.next c.index-alerts-next.result c.alerts-alerts.ensures.value c.loop-next-test.true c.index-alerts-next.is in
+    let within : system < length c.loop-next.marks =
+    omega (arith, size.system, (sizes d c.alerts-alerts.ensures.sealed).systems, ap (λ (x : Alert). x.system) c.index-alerts-next.is, c.loop-next.invariant.long) in
     record {
-      long = marks-long c.loop-a.marks c.mark.new.marks _ (get_or c.args.starred.now c.loop-a.a false) c.mark.ensures ∙ c.loop-a.invariant.long;
-      marked =
-          marked-on (the_book d) (λ a. get_or c.args.starred.now a false) c.loop-a.a _ c.loop-a.marks c.mark.new.marks (get_or c.args.starred.now c.loop-a.a false)
-          (ap (λ a. a.system) read ∙ ap (λ (x : Alert). x.system) c.index-alerts-a.is) refl
-          (omega (arith, size.system, (sizes d c.alerts-alerts.ensures.sealed).systems, ap (λ (x : Alert). x.system) c.index-alerts-a.is, c.loop-a.invariant.long)) c.mark.ensures c.loop-a.invariant.marked;
+      most = c.next_set-next-in-loop-next.ensures.end;
+      set = c.next_set-next-in-loop-next.ensures.set;
+      long = length-set c.loop-next.marks system true ∙ c.loop-next.invariant.long;
+      marked = λ s h.
+          marked-on b starred c.loop-next.next system c.loop-next.marks (ap (λ a. a.system) read ∙ ap (λ (x : Alert). x.system) c.index-alerts-next.is)
+          (c.loop-next.invariant.set c.loop-next-test.true) within c.loop-next.invariant.marked s h
+          ∙ marked-same b starred (below (c.loop-next.next + 1)) (below c.next_set-next-in-loop-next.result) (sym c.next_set-next-in-loop-next.ensures.none) s;
     }
 
 pub returns-clause-marked : goal.returns-clause-marked
 returns-clause-marked c = λ s h.
-    let all : c.loop-a.a ≡ length (the_book c.args.book.now).alerts =
-    omega (arith, many-alerts c.args.book.now, ap length c.alerts-alerts.ensures.value, c.loop-a-test.false, c.loop-a.auto.a-end) in
-    c.loop-a.invariant.marked s h ∙ ap (λ n. is_marked (the_book c.args.book.now) (λ a. get_or c.args.starred.now a false) (below n) s) all
+    let all : c.loop-next.next ≡ length (the_book c.args.book.now).alerts =
+    omega (arith, many-alerts c.args.book.now, ap length c.alerts-alerts.ensures.value, c.loop-next-test.false, c.loop-next.invariant.most) in
+    c.loop-next.invariant.marked s h ∙ ap (λ n. is_marked (the_book c.args.book.now) (flagged c.args.starred.now) (below n) s) all

@@ -1,0 +1,58 @@
+// Searches for flags that are set.
+ghost use Rattle.std.specs.Prelude.{◌≡◌, ◌<◌, ◌≤◌, All, drop, filter, length, slice_index_or, take, true};
+ghost use Rattle.book_model.specs.Told.{flagged};
+ghost use Rattle.ecam_spec.specs.Places.{below};
+ghost use Rattle.ecam_spec.specs.declared.limits.TheConstants.{ALERTS};
+
+/// The first number from one on, before an end, whose flag is set; the end where there is none. Costs a look at each
+/// flag that it goes over, and nothing else.
+pub(crate) fn next_set(flags: &[bool], from: usize, end: usize) -> usize
+    requires from { from ≤ end }
+    requires end { end ≤ length flags.now }
+    ensures from { from ≤ result }
+    ensures end { result ≤ end }
+    ensures none { filter (flagged flags.now) (below result)
+        ≡ filter (flagged flags.now) (below from) }
+    ensures set { result < end → flagged flags.now result ≡ true }
+{
+    for i in from..end {
+        if flags[i] {
+            return i;
+        }
+    }
+    end
+}
+
+/// The place in the order, from one on, of the first alert that is shown; the end of the order where none is. Costs a
+/// look at the flag of each alert that it goes over, and nothing else.
+pub(crate) fn next_shown(order: &[u32], shown: &[bool], from: usize) -> usize
+    requires from { from ≤ length order.now }
+    requires flags { All (λ a. a < length shown.now) order.now }
+    ensures from { from ≤ result }
+    ensures end { result ≤ length order.now }
+    ensures none { filter (flagged shown.now) (take result order.now)
+        ≡ filter (flagged shown.now) (take from order.now) }
+    ensures shown { result < length order.now
+        → flagged shown.now (slice_index_or order.now result 0) ≡ true }
+{
+    for i in from..order.len() {
+        if shown[order[i] as usize] {
+            return i;
+        }
+    }
+    order.len()
+}
+
+/// How many alerts are shown from a place of the order on. Costs a look at the flag of each.
+pub(crate) fn count_shown(order: &[u32], shown: &[bool], from: usize) -> u32
+    requires from { from ≤ length order.now }
+    requires few { length order.now ≤ ALERTS }
+    requires flags { All (λ a. a < length shown.now) order.now }
+    ensures { result ≡ length (filter (flagged shown.now) (drop from order.now)) }
+{
+    let mut count = 0;
+    for i in from..order.len() {
+        count += u32::from(shown[order[i] as usize]);
+    }
+    count
+}
