@@ -1,6 +1,6 @@
 // The places of the active alerts.
-ghost use Rattle.std.specs.Prelude.{◌≡◌, ◌+◌, ◌++◌, ◌≤◌, ◌<◌, ◌^◌, [], ◌∷◌, filter, length, All, if◌then◌else◌};
-ghost use Rattle.arrayvec.specs.ArrayVec.{array_vec_len};
+ghost use Rattle.std.specs.Prelude.{◌≡◌, ◌≤◌, ◌<◌, [], filter, length, All, true};
+ghost use Rattle.ecam_spec.specs.Places.{below};
 ghost use Rattle.ecam_spec.specs.Screen.{alert_numbers};
 ghost use Rattle.book_model.specs.Sealed.{the_book};
 ghost use Rattle.book_model.specs.Told.{flagged};
@@ -11,18 +11,25 @@ use ecam_spec::limits;
 
 const ALERTS: usize = limits::ALERTS;
 
-/// Places of alerts in a book.
+/// Places of alerts in a book. Its room is cleared when one is made, for as many alerts as a book may have.
 pub(crate) type Places = ArrayVec<u16, ALERTS>;
 
-// Adds a place that is to be kept.
-fn keep(places: &mut Places, place: u16, kept: bool)
-    requires { array_vec_len places.old < ALERTS }
-    ensures items { places.new.items ≡ places.old.items ++ (if kept then place ∷ [] else []) }
-    ensures few { array_vec_len places.new ≤ array_vec_len places.old + 1 }
+/// The place of the first active alert from one on; the number of alerts where there is none. Costs a look at each flag
+/// that it goes over, and nothing else.
+pub(crate) fn next_active(active: &[bool], from: usize) -> usize
+    requires { from ≤ length active.now }
+    ensures from { from ≤ result }
+    ensures end { result ≤ length active.now }
+    ensures none { filter (flagged active.now) (below result)
+        ≡ filter (flagged active.now) (below from) }
+    ensures active { result < length active.now → flagged active.now result ≡ true }
 {
-    if kept {
-        places.push(place);
+    for i in from..active.len() {
+        if active[i] {
+            return i;
+        }
     }
+    active.len()
 }
 
 /// Gathers the places of the active alerts, in the book's order. Costs a look at each flag, and at no alert.
@@ -32,10 +39,11 @@ pub(crate) fn gather(places: &mut Places, book: &Book, active: &[bool])
     ensures places { places.new.items
         ≡ filter (flagged active.now) (alert_numbers (the_book book.now)) }
     ensures within { All (λ a. a < length book.now.alerts.items) places.new.items }
-    ensures few { length places.new.items ≤ ALERTS }
 {
-    let alerts = book.alerts();
-    for i in 0..alerts.len() {
-        keep(places, i as u16, active[i]);
+    book.sealed();
+    let mut next = next_active(active, 0);
+    while next < active.len() {
+        places.push(next as u16);
+        next = next_active(active, next + 1);
     }
 }

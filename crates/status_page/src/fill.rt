@@ -1,6 +1,8 @@
 // The eighteen rows of one status page.
-ghost use Rattle.std.specs.Prelude.{◌≡◌, ◌≤◌, ◌<◌, ℕ, Bool, length, All};
-ghost use Rattle.ecam_spec.specs.declared.limits.TheConstants.{ALERTS};
+ghost use Rattle.std.specs.Prelude.{◌≡◌, ◌+◌, ◌*◌, ◌/◌, ◌%◌, ◌≤◌, ◌<◌, ℕ, Bool, [], ◌∷◌, codes, drop, length, All};
+ghost use Rattle.ecam_spec.specs.declared.kinds.Colour.TheVariants.{Green};
+ghost use Rattle.ecam_spec.specs.declared.limits.TheConstants.{ALERTS, DISPLAY_ROWS, STATUS_LINES};
+ghost use Rattle.ecam_spec.specs.Picture.{row, zone};
 ghost use Rattle.ecam_spec.specs.StatusPage.{status_page};
 ghost use Rattle.book_model.specs.Sealed.{the_book};
 ghost use Rattle.zone_rows.specs.Tracked.{tracked, IsWhole};
@@ -11,7 +13,7 @@ ghost use Rattle.status_page.specs.StatusOf.{rows_at, status_of};
 
 use crate::active::{Places, gather};
 use crate::cancelled::put_cancelled;
-use crate::count::count_rows;
+use crate::count::status_rows;
 use crate::place::{Place, ROOM};
 use crate::sections::put_section;
 use book_model::Book;
@@ -24,8 +26,9 @@ const PAGE: u32 = limits::DISPLAY_ROWS as u32;
 
 /// Fills S01 to S18 with the rows of status page `page`, counted from 0 and round: the lines of the active alerts by
 /// sections, limitations, approach, procedure, information and inop, then the cancelled cautions; NORMAL where there
-/// are none. `active` and `cancelled` have a flag for each alert of the book. Costs a look at each flag of `active`, at
-/// each active alert for its count, each section and the cancelled ones, and the rows that differ from what stands.
+/// are none. `active` and `cancelled` have a flag for each alert of the book. Costs two looks at each flag of `active`,
+/// one at each active alert for its count, each section and the cancelled ones, room for their places, and the rows that
+/// differ from what stands; NORMAL costs the count and the rows alone.
 pub fn fill_status(
     book: &Book,
     active: &[bool],
@@ -43,47 +46,67 @@ pub fn fill_status(
         → Mends 15 (status_page page (status_of (the_book book.now) is_active is_cancelled))
         (tracked picture.old.rows changed.old) (tracked picture.new.rows changed.new) }
 {
+    let many = status_rows(book, active, cancelled);
+    if many == 0 {
+        fill_normal(&mut picture.rows, changed);
+        return;
+    }
     let mut places = Places::new();
     gather(&mut places, book, active);
-    fill_zone(
+    let first = first_row(page, many);
+    fill_page(
         &mut picture.rows,
         changed,
         book,
         places.as_slice(),
         cancelled,
-        page,
+        first,
     );
 }
 
-fn fill_zone(
+// The number of the first row of a page, of so many rows in all, counted round.
+fn first_row(page: u32, many: u32) -> usize
+    requires some { 0 < many }
+    requires few { many ≤ STATUS_LINES * ALERTS + ALERTS + 1 }
+    ensures { result ≡ 18 * (page % ((many + 17) / 18)) }
+{
+    let pages = (many + (PAGE - 1)) / PAGE;
+    (PAGE * (page % pages)) as usize
+}
+
+// Where the status page has no row, NORMAL stands alone.
+fn fill_normal(rows: &mut [Row], changed: &mut [bool])
+    requires whole { IsWhole (tracked rows.old changed.old) }
+    ensures whole { IsWhole (tracked rows.new changed.new) }
+    ensures rows { Mends 15 (zone DISPLAY_ROWS (row Green (codes "NORMAL") ∷ []))
+        (tracked rows.old changed.old) (tracked rows.new changed.new) }
+{
+    let count = put_next(rows, changed, DISPLAY, ROOM, 0, Colour::Green, b"NORMAL");
+    blank_rest(rows, changed, DISPLAY, ROOM, count);
+}
+
+// Fills the page that begins at row `first` of the status page of the active alerts at these places.
+fn fill_page(
     rows: &mut [Row],
     changed: &mut [bool],
     book: &Book,
     places: &[u16],
     cancelled: &[bool],
-    page: u32,
+    first: usize,
 )
     requires whole { IsWhole (tracked rows.old changed.old) }
-    requires few { length places.now ≤ ALERTS }
     requires within { All (λ a. a < length book.now.alerts.items) places.now }
     requires cancelled { length cancelled.now ≡ length book.now.alerts.items }
     ensures whole { IsWhole (tracked rows.new changed.new) }
-    ensures rows { Mends 15 (status_page page
-        (rows_at (the_book book.now) places.now (flagged cancelled.now)))
+    ensures rows { Mends 15 (zone DISPLAY_ROWS
+        (drop first (rows_at (the_book book.now) places.now (flagged cancelled.now))))
         (tracked rows.old changed.old) (tracked rows.new changed.new) }
 {
-    let many = count_rows(book, places, cancelled);
-    if many == 0 {
-        let count = put_next(rows, changed, DISPLAY, ROOM, 0, Colour::Green, b"NORMAL");
-        blank_rest(rows, changed, DISPLAY, ROOM, count);
-        return;
-    }
-    let pages = (many + (PAGE - 1)) / PAGE;
-    let first = Place {
-        skip: (PAGE * (page % pages)) as usize,
+    let start = Place {
+        skip: first,
         count: 0,
     };
-    let last = put_all(rows, changed, first, book, places, cancelled);
+    let last = put_all(rows, changed, start, book, places, cancelled);
     blank_rest(rows, changed, DISPLAY, ROOM, last.count);
 }
 
