@@ -3,6 +3,7 @@ pub mod Passing
 pub mod Ordered
 pub mod CallLaws
 pub mod Heard
+pub mod Idling
 pub mod Walking
 pub mod StandsOn
 pub mod Resting

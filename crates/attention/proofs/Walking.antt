@@ -1,7 +1,7 @@
 -- A walk over the alerts, on its way: some have been stepped to the new moment, and the others haven't.
-use Rattle.std.proofs.Common.{◌≡◌, ◌≢◌, ℕ, zero, suc, ◌+◌, ◌<◌, ◌≤◌, Bool, true, false, List, [], ◌∷◌, ◌++◌, length, get_or, set, cond, add-one, slice_get, Some, inl, inr, refl, ◌∙◌, ap, arith}
+use Rattle.std.proofs.Common.{◌≡◌, ◌≢◌, ℕ, zero, suc, ◌+◌, ◌<◌, ◌≤◌, Bool, true, false, List, [], ◌∷◌, ◌++◌, length, get_or, set, cond, add-one, slice_get, Some, inl, inr, refl, sym, ◌∙◌, ap, arith}
 use Rattle.std.specs.Prelude.{filter}
-use Rattle.std.proofs.lemmas.List.{append-nil, length-set, get_or-set_same}
+use Rattle.std.proofs.lemmas.List.{append-nil, length-set, get_or-set_same, set-get_or}
 use Rattle.std.proofs.lemmas.List.Elements.{filter-append}
 use Rattle.std.proofs.lemmas.Option.{slice_get-get_or, get_or_from_slice_get}
 use Rattle.std.proofs.lemmas.Bool.{cases_lt}
@@ -11,6 +11,7 @@ use Rattle.attention.specs.declared.calls.Calls.{Calls}
 use Rattle.attention.specs.declared.watch.Watch.{Watch}
 use Rattle.attention.specs.Watches.{watch_after, AreWatched}
 use Rattle.attention.specs.Calling.{no_calls, AreCalls}
+use Rattle.attention.proofs.CallLaws.{calls-same}
 
 -- those below i of n alerts have been stepped to moment k, and of them those that are shown call so
 pub record HalfWalked (a : lamps.Attention) (k n i : ℕ) (shown : ℕ → Bool) (watches : List Watch) (c : Calls) : Type 0 where
@@ -70,6 +71,18 @@ module _ (a : lamps.Attention) (k n : ℕ) (shown : ℕ → Bool) where
 
   pub calls-hidden : (i : ℕ) (d : Calls) → shown i ≡ false → AreCalls a k (filter shown (below i)) d → AreCalls a k (filter shown (below i) ++ cond (shown i) (i ∷ []) []) d
   calls-hidden i d hidden calls = rw hidden (rw (append-nil (filter shown (below i))) calls)
+
+  pub calls-idle : (i : ℕ) (c : Calls) → lamps.calls a i k ≡ false → AreCalls a k (filter shown (below i)) c → AreCalls a k (filter shown (below i) ++ cond (shown i) (i ∷ []) []) c
+  calls-idle i c silent calls =
+      elim (shown i) as (λ b. AreCalls a k (filter shown (below i) ++ cond b (i ∷ []) []) c)
+      [ true ↦ calls-same a k i (filter shown (below i)) c calls silent | false ↦ rw (append-nil (filter shown (below i))) calls ]
+
+  -- an idle one stays as it is
+  pub half-idle : (i : ℕ) (watches : List Watch) (c : Calls) (d : Watch) → i < n → length watches ≡ n
+      → get_or watches i d ≡ watch_after a i (suc k) → lamps.calls a i k ≡ false
+      → HalfWalked a k n i shown watches c → HalfWalked a k n (i + 1) shown watches c
+  half-idle i watches c d within long stays silent half =
+      half-more i watches watches c c (get_or watches i d) within long (sym (set-get_or watches i d)) stays (calls-idle i c silent half.calls) half
 
   -- the whole walk
   pub all-walked : (i : ℕ) (watches : List Watch) (c : Calls) → n ≤ i → HalfWalked a k n i shown watches c → AreWatched a (suc k) n watches

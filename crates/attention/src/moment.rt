@@ -1,5 +1,5 @@
 // What a moment brings.
-ghost use Rattle.std.specs.Prelude.{◌≡◌, ℕ};
+ghost use Rattle.std.specs.Prelude.{◌≡◌, ℕ, ◌||◌};
 ghost use Rattle.ecam_spec.specs.Lamps as lamps;
 ghost use Rattle.ecam_spec.specs.declared.kinds.Key.TheVariants.{Mw, Mc, Emer};
 ghost use Rattle.ecam_kinds.specs.KeyState.{is_pressed};
@@ -30,6 +30,13 @@ impl Presses {
             mc: keys.pressed(Key::Mc),
             emer: keys.pressed(Key::Emer),
         }
+    }
+
+    /// One of them is pressed.
+    pub fn any(self) -> bool
+        ensures { result ≡ (self.mw || (self.mc || self.emer)) }
+    {
+        self.mw || self.mc || self.emer
     }
 
     /// A press acknowledges the alerts of a level.

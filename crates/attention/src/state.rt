@@ -87,7 +87,8 @@ impl Attention {
     }
 
     /// Takes one moment more, of 100 ms: per alert whether it is up and whether it is shown, and the keys that are
-    /// pressed in it. Its cost is one look at each alert, and a write for each of which something else is kept then.
+    /// pressed in it. Its cost is one look at each alert, a few more at those that are up or were in the last moment, and at
+    /// all where a press acknowledges, and a write for each of which something else is kept then.
     pub fn step(&mut self, book: &Book, up: &[bool], shown: &[bool], keys: &Keys)
         requires fits { AttentionFits (the_book book.now) self.old }
         requires goes_on { CanGoOn self.old }

@@ -12,7 +12,8 @@ use crate::watch::Watch;
 use book_model::Alert;
 
 /// Steps what is kept of each alert by a moment, and answers what those call for that are shown. Costs one look at each
-/// alert, and a write for each of which something else is kept then.
+/// alert, a few more at those that are up or were in the last moment, and at all where a press acknowledges, and a write
+/// for each of which something else is kept then.
 pub fn walk(watches: &mut [Watch], alerts: &[Alert], moment: &Moment) -> Calls
     requires watches { length watches.old ≡ length alerts.now }
     requires up { length moment.now.up.now ≡ length alerts.now }
@@ -27,7 +28,12 @@ pub fn walk(watches: &mut [Watch], alerts: &[Alert], moment: &Moment) -> Calls
         result }
 {
     let mut calls = Calls::none();
+    let pressing = moment.presses.any();
     for (i, alert) in alerts.iter().enumerate() {
+        // Most are idle, and call for nothing.
+        if watches[i].is_idle(moment.up[i], pressing) {
+            continue;
+        }
         let pressed = moment.presses.acknowledge(alert.level);
         let watch = watches[i].next(moment.up[i], pressed, moment.number);
         keep(watches, i, watch);

@@ -1,5 +1,5 @@
 // What is kept of one alert.
-ghost use Rattle.std.specs.Prelude.{◌≡◌, ℕ, suc, ◌&&◌, not};
+ghost use Rattle.std.specs.Prelude.{◌≡◌, ℕ, suc, ◌&&◌, ◌||◌, not};
 ghost use Rattle.ecam_spec.specs.Lamps as lamps;
 ghost use Rattle.attention.specs.Watches.{acknowledged, onset_after, watch_after};
 
@@ -45,6 +45,14 @@ impl Watch {
             up: false,
             onset: Onset::Never,
         }
+    }
+
+    /// Whether a moment can't change it: the alert isn't up in it, wasn't in the last, and no press in it acknowledges
+    /// any level.
+    pub fn is_idle(self, up: bool, pressing: bool) -> bool
+        ensures { result ≡ not (self.up || (up || pressing)) }
+    {
+        !(self.up | (up | pressing))
     }
 
     /// After one moment more: whether the alert is up in it, whether a press in it acknowledges its level, and
