@@ -45,6 +45,17 @@ find-passes : (p : ℕ → Bool) (xs : List ℕ) (a : ℕ) → is_alert a (find 
 find-passes p [] a h = absurd (false≢true h)
 find-passes p (x ∷ xs) a h = found-first p x a (find p xs) (p x) refl (find-passes p xs a) h
 
+found-passes : (p : ℕ → Bool) (xs : List ℕ) → IfSome (find p xs) (λ a. p a ≡ true)
+found-passes p [] = tt
+found-passes p (x ∷ xs) =
+    elim (p x) as (λ b. p x ≡ b → IfSome (cond b (Some x) (find p xs)) (λ a. p a ≡ true)) [ true ↦ λ e. e | false ↦ λ e. found-passes p xs ] refl
+
+-- the first is shown
+pub first-shown : (b : Book) (inside m : CrewMarks) → inside ≡ m → MarksFit b m → IfSome inside.first (λ a. get_or inside.sets.shown a false ≡ true)
+first-shown b inside m same fits =
+    subst (λ (n : CrewMarks). IfSome n.first (λ a. get_or n.sets.shown a false ≡ true)) (sym same)
+    (subst (λ o. IfSome o (λ a. is_shown m a ≡ true)) (sym fits.first) (found-passes (is_shown m) (order b)))
+
 -- ---- no moment
 
 pub record IsBlank (n : ℕ) (m : CrewMarks) : Type 0 where

@@ -1,5 +1,5 @@
 -- A walk over the alerts in their order, which steps the mark of each.
-use Rattle.std.proofs.Common.{◌≡◌, ℕ, zero, suc, ◌+◌, ◌<◌, ◌≤◌, ◌≢◌, Bool, true, false, not, ◌||◌, ◌==◌, cond, Option, Some, None, List, [], ◌∷◌, ◌++◌, length, get_or, set, take, drop, refl, sym, ◌∙◌, ap, arith}
+use Rattle.std.proofs.Common.{◌≡◌, ℕ, zero, suc, ◌+◌, ◌<◌, ◌≤◌, ◌≢◌, Bool, true, false, not, ◌||◌, ◌==◌, cond, Option, Some, None, List, [], ◌∷◌, ◌++◌, length, get_or, set, take, drop, refl, sym, ◌∙◌, ap, subst, arith}
 use Rattle.std.specs.Prelude.{◌↔◌}
 use Rattle.std.specs.Option.{option_or}
 use Rattle.std.specs.Bool.{then_some}
@@ -7,6 +7,7 @@ use Rattle.std.specs.List.{find}
 use Rattle.std.proofs.lemmas.Bool.{eqb-true, false≢true, and_parts, or_parts, or_from, not-true}
 use Rattle.std.proofs.lemmas.List.{take_all, take_more, take-append-drop, get_or-set_same, get_or-set_other, set-get_or, length-set}
 use Rattle.std.proofs.lemmas.List.Folds.{find-append}
+use Rattle.std.proofs.Math.Bool.{or-false}
 use Rattle.std.proofs.Math.Seq.{drop-cons}
 use Rattle.ecam_spec.proofs.ListLaws.{mem, distinct, eqb-self, mem-append}
 use Rattle.crew_marks.specs.declared.mark.Mark.{Mark}
@@ -83,6 +84,12 @@ pub record IsWalked (order : List ℕ) (step : ℕ → Mark → Mark) (initial :
 pub walk-none : (order : List ℕ) (step : ℕ → Mark → Mark) (initial : MarkSets) → IsWalked order step initial 0 initial None false
 walk-none order step initial = record { marks = λ a. refl; first = refl; changed = (λ e. refl, λ e. refl) }
 
+-- one whose turn it is stands as it did
+pub turn-as-before : (order : List ℕ) (step : ℕ → Mark → Mark) (initial : MarkSets) (i x : ℕ) (s : MarkSets) (first : Option ℕ) (changed : Bool)
+    → distinct order ≡ true → i < length order → x ≡ get_or order i 0 → IsWalked order step initial i s first changed → mark_at s x ≡ mark_at initial x
+turn-as-before order step initial i x s first changed apart within here w =
+    w.marks x ∙ ap (λ b. cond b (step x (mark_at initial x)) (mark_at initial x)) (ap (λ n. mem n (take i order)) here ∙ unvisited order i apart within)
+
 module _ (order : List ℕ) (step : ℕ → Mark → Mark) (initial : MarkSets) (i x : ℕ) (s t : MarkSets) (first : Option ℕ) (changed turned : Bool)
     (apart : distinct order ≡ true) (within : i < length order) (here : x ≡ get_or order i 0) (has : HasMark s x)
     (stepped : t ≡ set_mark s x (step x (mark_at s x))) (turns : (turned ≡ false) ↔ (t ≡ s)) (w : IsWalked order step initial i s first changed) where
@@ -96,7 +103,7 @@ module _ (order : List ℕ) (step : ℕ → Mark → Mark) (initial : MarkSets) 
   mem-more a = ap (mem a) more ∙ mem-append a (take i order) (x ∷ [])
 
   as_before : mark_at s x ≡ mark_at initial x
-  as_before = w.marks x ∙ ap (λ b. cond b (step x (mark_at initial x)) (mark_at initial x)) left
+  as_before = turn-as-before order step initial i x s first changed apart within here w
 
   pub mark-now : mark_at t x ≡ step x (mark_at initial x)
   mark-now = ap (λ u. mark_at u x) stepped ∙ mark-same s x (step x (mark_at s x)) has ∙ ap (step x) as_before
@@ -136,6 +143,19 @@ module _ (order : List ℕ) (step : ℕ → Mark → Mark) (initial : MarkSets) 
   -- one alert more
   pub walk-more : (now : Option ℕ) → now ≡ option_or first (cond (mark_at t x).shown (Some x) None) → IsWalked order step initial (i + 1) t now (changed || turned)
   walk-more now e = record { marks = λ a. mark-more a (a == x) refl; first = first-more now e; changed = changed-more }
+
+or-none : (o : Option ℕ) → option_or o None ≡ o
+or-none None = refl
+or-none (Some x) = refl
+
+-- one alert more, which stays as it is and isn't shown
+pub walk-idle : (order : List ℕ) (step : ℕ → Mark → Mark) (initial : MarkSets) (i x : ℕ) (s : MarkSets) (first : Option ℕ) (changed : Bool)
+    → distinct order ≡ true → i < length order → x ≡ get_or order i 0 → HasMark s x → s ≡ set_mark s x (step x (mark_at s x)) → get_or s.shown x false ≡ false
+    → IsWalked order step initial i s first changed → IsWalked order step initial (i + 1) s first changed
+walk-idle order step initial i x s first changed apart within here has rests hidden w =
+    subst (IsWalked order step initial (i + 1) s first) (or-false changed)
+    (walk-more order step initial i x s s first changed false apart within here has rests (λ e. refl, λ e. refl) w first
+    (sym (ap (λ b. option_or first (cond b (Some x) None)) hidden ∙ or-none first)))
 
 -- ---- how many marks there are
 

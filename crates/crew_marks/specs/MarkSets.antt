@@ -1,5 +1,5 @@
 -- The marks of all alerts.
-use Rattle.std.specs.Prelude.{◌≡◌, ℕ, ◌<◌, Bool, false, List, length, get_or, slice_set}
+use Rattle.std.specs.Prelude.{◌≡◌, ℕ, ◌<◌, Bool, false, ◌||◌, List, length, get_or, slice_set}
 use Rattle.crew_marks.specs.declared.mark.Mark.{Mark}
 
 -- by alert: whether it is cleared, cancelled, recalled, and shown
@@ -18,6 +18,15 @@ mark_at s a =
 abbrev pub set_mark : MarkSets → ℕ → Mark → MarkSets
 set_mark s a m =
     record { cleared = slice_set s.cleared a m.cleared; cancelled = slice_set s.cancelled a m.cancelled; recalled = slice_set s.recalled a m.recalled; shown = slice_set s.shown a m.shown }
+
+-- something is marked
+abbrev pub is_marked : Mark → Bool
+is_marked m = m.cleared || (m.cancelled || (m.recalled || m.shown))
+
+-- these flags tell by alert whether something is marked
+pub record TellMarked (s : MarkSets) (flags : List Bool) : Type 0 where
+  pub many : length flags ≡ length s.cleared
+  pub told : (a : ℕ) → get_or flags a false ≡ is_marked (mark_at s a)
 
 -- the alert has a mark
 pub record HasMark (s : MarkSets) (a : ℕ) : Type 0 where

@@ -1,5 +1,5 @@
 -- What one moment makes of an alert's mark.
-use Rattle.std.specs.Prelude.{◌≡◌, ℕ, Bool, false, not, ◌&&◌, ◌||◌, List, get_or, Option}
+use Rattle.std.specs.Prelude.{ℕ, Bool, false, not, ◌&&◌, ◌||◌, List, get_or, Option}
 use Rattle.ecam_spec.specs.declared.kinds.Key.TheVariants.{Clr, Rcl, Emer}
 use Rattle.ecam_spec.specs.Levels.{is_caution_level}
 use Rattle.ecam_spec.specs.Book.{Book}
@@ -42,17 +42,6 @@ mark_after m s x =
     let cancelled = cancelled_after m.cancelled s x in
     let recalled = recalled_after m.recalled s x in
     record { cleared = cleared; cancelled = cancelled; recalled = recalled; shown = shown_by s.up cleared cancelled recalled }
-
--- nothing is marked
-abbrev pub no_mark : Mark
-no_mark = record { cleared = false; cancelled = false; recalled = false; shown = false }
-
--- the alert isn't up, doesn't wait, has no mark and isn't the target
-pub record IsIdle (m : Mark) (up waiting : List Bool) (target : Option ℕ) (a : ℕ) : Type 0 where
-  pub unmarked : m ≡ no_mark
-  pub down : get_or up a false ≡ false
-  pub at_ease : get_or waiting a false ≡ false
-  pub spared : is_alert a target ≡ false
 
 -- what the crew does by these keys, where cancellations end or go on
 abbrev pub actions_of : Keys → Bool → Actions

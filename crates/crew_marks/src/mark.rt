@@ -1,6 +1,7 @@
 // What the crew made of one alert.
-ghost use Rattle.std.specs.Prelude.{◌≡◌, Bool, true, not, ◌&&◌, ◌||◌};
-ghost use Rattle.crew_marks.specs.MarkStep.{is_struck, is_called_off, cleared_after, cancelled_after, recalled_after, shown_by, mark_after, no_mark, acts, actions_of};
+ghost use Rattle.std.specs.Prelude.{◌≡◌, Bool, not, ◌&&◌, ◌||◌};
+ghost use Rattle.crew_marks.specs.MarkSets.{is_marked};
+ghost use Rattle.crew_marks.specs.MarkStep.{is_struck, is_called_off, cleared_after, cancelled_after, recalled_after, shown_by, mark_after, acts, actions_of};
 
 use ecam_kinds::{Key, Keys};
 
@@ -44,11 +45,11 @@ pub struct Actions {
 }
 
 impl Mark {
-    /// Whether nothing is marked.
-    pub fn is_none(self) -> bool
-        ensures { result ≡ true → self ≡ no_mark }
+    /// Whether something is marked.
+    pub fn is_marked(self) -> bool
+        ensures { result ≡ is_marked self }
     {
-        !self.cleared && !self.cancelled && !self.recalled && !self.shown
+        self.cleared || self.cancelled || self.recalled || self.shown
     }
 
     /// What the crew made of the alert with one moment more.

@@ -67,7 +67,7 @@ impl Marks {
         })
     }
 
-    /// Forgets all moments. Its cost is one write a mark.
+    /// Forgets all moments. Its cost is a few writes an alert.
     pub fn clear(&mut self)
         ensures fits { (b : plain.Book) → MarksFit b self.old → MarksFit b self.new }
         ensures moments { self.new.moments ≡ 0 }
@@ -84,7 +84,7 @@ impl Marks {
         self.quiet_press = None;
     }
 
-    /// Takes over what other marks of the same book hold. Its cost is one write a mark.
+    /// Takes over what other marks of the same book hold. Its cost is a few writes an alert.
     pub fn copy_from(&mut self, other: &Marks)
         requires { (b : plain.Book) × MarksFit b self.old × MarksFit b other.now }
         ensures { self.new ≡ other.now }

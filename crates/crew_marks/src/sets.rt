@@ -1,7 +1,7 @@
 // The marks of all alerts.
 ghost use Rattle.std.specs.Prelude.{◌≡◌, ◌↔◌, ℕ, false, length, replicate, slice_index_or, IfOk};
 ghost use Rattle.std.specs.Box.{boxed_slice_items};
-ghost use Rattle.crew_marks.specs.MarkSets.{mark_at, set_mark, HasMark, AreMany};
+ghost use Rattle.crew_marks.specs.MarkSets.{mark_at, set_mark, is_marked, HasMark, AreMany};
 ghost use Rattle.crew_marks.specs.MarkStep.{mark_after};
 
 use crate::mark::{Actions, Mark, Sight};
@@ -16,11 +16,13 @@ pub struct Sets {
     cancelled: BoxedSlice<bool>,
     recalled: BoxedSlice<bool>,
     shown: BoxedSlice<bool>,
+    // Whether it is any of these, so that one look finds an alert without a mark.
+    marked: BoxedSlice<bool>,
 }
 
 impl Model for Sets {
     ghost use Rattle.std.specs.Box.{boxed_slice_items};
-    ghost use Rattle.crew_marks.specs.MarkSets.{MarkSets};
+    ghost use Rattle.crew_marks.specs.MarkSets.{MarkSets, TellMarked};
 
     ghost Value = { MarkSets };
 
@@ -30,6 +32,13 @@ impl Model for Sets {
       recalled = boxed_slice_items s.recalled;
       shown = boxed_slice_items s.shown;
     } };
+
+    ghost invariant = { λ s. TellMarked (record {
+      cleared = boxed_slice_items s.cleared;
+      cancelled = boxed_slice_items s.cancelled;
+      recalled = boxed_slice_items s.recalled;
+      shown = boxed_slice_items s.shown;
+    }) (boxed_slice_items s.marked) };
 }
 
 impl Sets {
@@ -45,6 +54,7 @@ impl Sets {
             cancelled: none(alloc, alerts)?,
             recalled: none(alloc, alerts)?,
             shown: none(alloc, alerts)?,
+            marked: none(alloc, alerts)?,
         })
     }
 
@@ -70,6 +80,7 @@ impl Sets {
         self.cancelled[alert] = mark.cancelled;
         self.recalled[alert] = mark.recalled;
         self.shown[alert] = mark.shown;
+        self.marked[alert] = mark.is_marked();
     }
 
     /// One moment more makes this of an alert's mark. Answers whether that changed it.
@@ -96,6 +107,14 @@ impl Sets {
         self.shown[alert]
     }
 
+    /// Whether an alert has any mark.
+    pub fn is_marked(&self, alert: usize) -> bool
+        requires { HasMark self.now alert }
+        ensures { result ≡ is_marked (mark_at self.now alert) }
+    {
+        self.marked[alert]
+    }
+
     /// No alert is marked any more.
     pub fn clear(&mut self)
         ensures cleared { self.new.cleared ≡ replicate (length self.old.cleared) false }
@@ -107,6 +126,7 @@ impl Sets {
         self.cancelled.as_mut_slice().fill(false);
         self.recalled.as_mut_slice().fill(false);
         self.shown.as_mut_slice().fill(false);
+        self.marked.as_mut_slice().fill(false);
     }
 
     /// The marks of others, of which there are as many.
@@ -126,6 +146,9 @@ impl Sets {
         self.shown
             .as_mut_slice()
             .copy_from_slice(other.shown.as_slice());
+        self.marked
+            .as_mut_slice()
+            .copy_from_slice(other.marked.as_slice());
     }
 
     /// Which alerts are cleared.

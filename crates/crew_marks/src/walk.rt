@@ -1,10 +1,10 @@
 // A walk over the alerts in their order.
-ghost use Rattle.std.specs.Prelude.{◌≡◌, ◌↔◌, ℕ, ◌<◌, true, false, length, find, slice_index_or};
+ghost use Rattle.std.specs.Prelude.{◌≡◌, ◌↔◌, ℕ, ◌<◌, true, false, not, ◌||◌, length, find, slice_index_or, IfSome};
 ghost use Rattle.ecam_spec.specs.Levels.{is_caution_level};
 ghost use Rattle.ecam_spec.specs.Screen.{order};
 ghost use Rattle.book_model.specs.Sealed.{the_book};
-ghost use Rattle.crew_marks.specs.MarkSets.{mark_at, set_mark, HasMark, AreMany};
-ghost use Rattle.crew_marks.specs.MarkStep.{mark_after, sight_of, acts, IsIdle};
+ghost use Rattle.crew_marks.specs.MarkSets.{mark_at, set_mark, is_marked, HasMark, AreMany};
+ghost use Rattle.crew_marks.specs.MarkStep.{mark_after, sight_of, acts};
 
 use crate::mark::{Actions, Sight};
 use crate::sets::Sets;
@@ -20,8 +20,8 @@ pub struct Walked {
     pub changed: bool,
 }
 
-/// Steps the mark of each alert by one moment. Its cost is one look at each alert, a few more at those that are up, wait,
-/// are marked or are the target, and a write for each mark that changes.
+/// Steps the mark of each alert by one moment, where the target is shown before it. Its cost is one look at each alert, a
+/// few more at those that are up, wait or are marked, and a write for each mark that changes.
 pub fn walk(
     sets: &mut Sets,
     book: &Book,
@@ -33,6 +33,7 @@ pub fn walk(
     requires many { AreMany sets.old (length (the_book book.now).alerts) }
     requires up { length up.now ≡ length (the_book book.now).alerts }
     requires waiting { length waiting.now ≡ length (the_book book.now).alerts }
+    requires target { IfSome target (λ a. slice_index_or sets.old.shown a false ≡ true) }
     ensures many { AreMany sets.new (length (the_book book.now).alerts) }
     ensures marks { (a : ℕ) → a < length (the_book book.now).alerts → mark_at sets.new a
         ≡ mark_after (mark_at sets.old a) (sight_of (the_book book.now) up.now waiting.now target a)
@@ -45,6 +46,10 @@ pub fn walk(
     let mut first = None;
     let mut changed = false;
     for place in order {
+        // Most are idle, and not shown. The target is none of them.
+        if is_idle(sets, up, waiting, *place) {
+            continue;
+        }
         let turned = step_one(sets, book, up, waiting, target, *place, actions);
         changed |= turned;
         first = first.or(sets.is_shown(*place as usize).then_some(*place));
@@ -65,6 +70,7 @@ pub fn walk_still(
     requires many { AreMany sets.old (length (the_book book.now).alerts) }
     requires up { length up.now ≡ length (the_book book.now).alerts }
     requires waiting { length waiting.now ≡ length (the_book book.now).alerts }
+    requires first { IfSome first (λ a. slice_index_or sets.old.shown a false ≡ true) }
     ensures many { AreMany sets.new (length (the_book book.now).alerts) }
     ensures rests { acts actions.now ≡ false → (sets.new ≡ sets.old) × (result.first ≡ first) }
     ensures marks { acts actions.now ≡ true → (a : ℕ) → a < length (the_book book.now).alerts
@@ -84,7 +90,7 @@ pub fn walk_still(
     }
 }
 
-// Steps the mark of one alert, and answers whether that changed it. An idle one stays as it is, whatever the crew does.
+// Steps the mark of one alert, and answers whether that changed it.
 fn step_one(
     sets: &mut Sets,
     book: &Book,
@@ -102,25 +108,21 @@ fn step_one(
         (sight_of (the_book book.now) up.now waiting.now target place) actions.now) }
     ensures changed { (result ≡ false) ↔ (sets.new ≡ sets.old) }
 {
-    if is_idle(sets, up, waiting, target, place) {
-        return false;
-    }
     let sight = look(book, up, waiting, target, place);
     sets.step(place as usize, &sight, actions)
 }
 
-// Whether an alert isn't up, doesn't wait, has no mark and isn't the target.
-fn is_idle(sets: &Sets, up: &[bool], waiting: &[bool], target: Option<u32>, place: u32) -> bool
+// Whether an alert isn't up, doesn't wait and has no mark. If it isn't the target either, it stays so whatever the crew
+// does.
+fn is_idle(sets: &Sets, up: &[bool], waiting: &[bool], place: u32) -> bool
     requires has { HasMark sets.now place }
     requires up { place < length up.now }
     requires waiting { place < length waiting.now }
-    ensures { result ≡ true → IsIdle (mark_at sets.now place) up.now waiting.now target place }
+    ensures { result ≡ not (slice_index_or up.now place false
+        || (slice_index_or waiting.now place false || is_marked (mark_at sets.now place))) }
 {
     let alert = place as usize;
-    if up[alert] || waiting[alert] || Some(place) == target {
-        return false;
-    }
-    sets.mark(alert).is_none()
+    !(up[alert] | (waiting[alert] | sets.is_marked(alert)))
 }
 
 // How an alert stands in the moment.

@@ -5,8 +5,12 @@ use Rattle.book_model.specs.Sealed.{the_book}
 use Rattle.crew_marks.specs.MarkStep.{actions_of}
 use Rattle.crew_marks.specs.MarkSets.{MarkSets, AreMany}
 use Rattle.crew_marks.specs.CrewMarks.{CrewMarks}
+use Rattle.crew_marks.proofs.Stepping.{first-shown}
 use Rattle.crew_marks.proofs.Ending.{IsWalked, walked-as, ended-walk, walked-fits, walked-still, held-long, ended-stands}
 use Rattle.crew_marks.proofs.marks.Marks.step_still.Goals as goal
+
+pub walk_still-walked-requires-clause-first : goal.walk_still-walked-requires-clause-first
+walk_still-walked-requires-clause-first c = first-shown (the_book c.args.book.now) _ c.args.self.now c.self.view_is c.requires.fits
 
 pub returns-clause-fits : goal.returns-clause-fits
 returns-clause-fits c =
