@@ -1,7 +1,9 @@
 -- The picture that stands, mended row by row.
-use Rattle.std.proofs.Common.{◌≡◌, ℕ, ◌+◌, ◌<◌, Bool, true, false, not, ◌||◌, List, [], ◌∷◌, ◌++◌, length, take, get_or, replicate, refl, sym, ◌∙◌, ap, subst, arith}
-use Rattle.std.proofs.lemmas.List.{take_more, length-take, append-nil, drop_all, get_or-replicate}
+use Rattle.std.proofs.Common.{◌≡◌, ℕ, zero, suc, ◌+◌, ◌<◌, Bool, true, false, not, ◌||◌, List, [], ◌∷◌, ◌++◌, length, take, get_or, replicate, refl, sym, ◌∙◌, ap, subst, arith}
+use Rattle.std.proofs.lemmas.List.{take_more, take_all, length-take, append-nil, drop_all, get_or-replicate, ext_get_or}
+use Rattle.std.proofs.Math.Bool.{beq}
 use Rattle.std.proofs.Math.Seq.{drop-cons}
+use Rattle.std.specs.List.{list_any}
 use Rattle.ecam_spec.specs.Picture.{Row, row, blank_row, same_row}
 use Rattle.zone_rows.specs.Tracked.{TrackedRows}
 use Rattle.zone_rows.specs.Mended.{Mends}
@@ -44,6 +46,14 @@ mended-all picture start now whole long mended = record {
   changed = mended.changed;
 }
 
+-- rows that stand are mended as they are
+pub mended-stands : (picture : List Row) (t : TrackedRows) → length t.rows ≡ 36 → length picture ≡ 36
+    → ((i : ℕ) → i < 36 → get_or t.rows i blank_row ≡ get_or picture i blank_row) → IsMended picture t t
+mended-stands picture t whole long same =
+    let stand : t.rows ≡ picture = ext_get_or blank_row t.rows picture (whole ∙ sym long) (λ i within. same i (omega (arith, whole))) in
+    mended-all picture t t whole long
+    (mends_kept 0 picture t (ap (take (length picture)) stand ∙ take_all (length picture) picture (omega arith)))
+
 -- from rows of which none was told as changed, exactly those that differ are told
 pub mended-shown : (picture old now : List Row) (clear flags : List Bool) → ((i : ℕ) → i < 36 → get_or clear i false ≡ false)
     → IsMended picture (record { rows = old; changed = clear }) (record { rows = now; changed = flags }) → IsShown picture old now flags
@@ -61,3 +71,11 @@ none-told flags none i within = ap (λ fs. get_or fs i false) none ∙ get_or-re
 pub or-parts : (a b : Bool) → (a || b) ≡ false → (a ≡ false) × (b ≡ false)
 or-parts true b e = absurd (let w : ⊥ = cc in w)
 or-parts false b e = (refl, e)
+
+-- where a search for `true` finds none, each flag is false
+pub none-set : (flags : List Bool) (i : ℕ) → list_any (λ f. beq f true) flags ≡ false → get_or flags i false ≡ false
+none-set [] zero none = refl
+none-set [] (suc i) none = refl
+none-set (true ∷ flags) i none = absurd (let w : ⊥ = cc in w)
+none-set (false ∷ flags) zero none = refl
+none-set (false ∷ flags) (suc i) none = none-set flags i none

@@ -1,5 +1,5 @@
 // The picture of the last Tick, mended in place, and the rows that it changed.
-ghost use Rattle.std.specs.Prelude.{◌≡◌, ◌||◌, ◌<◌, [], ◌∷◌, true, false, length, get_or, replicate};
+ghost use Rattle.std.specs.Prelude.{◌≡◌, ◌||◌, ◌<◌, [], ◌∷◌, true, false, length, get_or, replicate, ℕ};
 ghost use Rattle.ecam_spec.specs.Picture as spec;
 ghost use Rattle.ecam_spec.specs.Replay.{is_tick};
 ghost use Rattle.ecam_kinds.specs.Shown.{row_of, rows_of, picture_of};
@@ -26,16 +26,26 @@ fn mend_row(rows: &mut [Row], changed: &mut [bool], place: usize, row: &Row, nam
     }
 }
 
-// Puts the named rows of a picture, or all of them, in their places.
-fn mend(rows: &mut [Row], changed: &mut [bool], picture: &[Row], named: &[bool], all: bool)
+// Whether any row is named, or all are meant. Its cost is a few looks at many flags at once.
+fn has_any(named: &[bool; ROWS], all: bool) -> bool
+    ensures all { result ≡ false → all ≡ false }
+    ensures named { result ≡ false → (i : ℕ) → i < ROWS → get_or named.now i false ≡ false }
+{
+    all || named.contains(&true)
+}
+
+// Puts the named rows of a picture, or all of them, in their places. Where no row is named none is looked at.
+fn mend(rows: &mut [Row], changed: &mut [bool], picture: &[Row], named: &[bool; ROWS], all: bool)
     requires whole { IsWhole (tracked rows.old changed.old) }
     requires picture { length picture.now ≡ ROWS }
-    requires named { length named.now ≡ ROWS }
     ensures whole { IsWhole (tracked rows.new changed.new) }
     ensures mended { (all ≡ false → OthersStand named.now (rows_of rows.old) (rows_of picture.now))
         → IsMended (rows_of picture.now) (tracked rows.old changed.old)
         (tracked rows.new changed.new) }
 {
+    if !has_any(named, all) {
+        return;
+    }
     for i in 0..ROWS {
         mend_row(rows, changed, i, &picture[i], all | named[i]);
     }
@@ -88,7 +98,7 @@ fn show_dead(face: &mut Picture, changed: &mut [bool; ROWS])
 
 /// At a Tick, shows what the first computer that is up shows, or that none is. Other events leave what stands. Costs at
 /// most the comparison of each row, and a copy of those that differ; after the first moment of an era no row is looked
-/// at but those that the computer changed.
+/// at but those that the computer changed, and where it changed none the cost is a few looks.
 #[inline(always)]
 pub(crate) fn show(
     face: &mut Picture,

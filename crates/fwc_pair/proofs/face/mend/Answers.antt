@@ -1,11 +1,11 @@
-use Rattle.std.proofs.Common.{◌≡◌, ◌<◌, [], ◌∷◌, length, get_or, sym, ◌∙◌, subst, arith}
+use Rattle.std.proofs.Common.{◌≡◌, ◌<◌, false, [], ◌∷◌, length, get_or, sym, ◌∙◌, subst, arith}
 use Rattle.std.proofs.lemmas.List.{length-map, take_all}
 use Rattle.ecam_spec.specs.Picture.{Row, blank_row}
 use Rattle.ecam_kinds.specs.Shown.{row_of, rows_of}
 use Rattle.book_model.proofs.BookReads.{view-read}
 use Rattle.zone_rows.specs.Tracked.{tracked}
 use Rattle.zone_rows.specs.Mended.{Mends}
-use Rattle.fwc_pair.proofs.Faces.{mended-more, mended-all, row-waits, or-parts}
+use Rattle.fwc_pair.proofs.Faces.{mended-more, mended-all, mended-stands, row-waits, or-parts}
 use Rattle.fwc_pair.proofs.face.mend.Goals as goal
 
 pub loop-i-preserved : goal.loop-i-preserved
@@ -30,6 +30,13 @@ loop-i-preserved c =
           let parts = or-parts c.args.all (get_or c.args.named.now i _) unnamed in
           row-waits picture i start now c.requires.whole.rows long within before ∙ others parts.0 i within parts.1 ∙ here)));
     }
+
+pub returns-then-not-has_any-clause-mended : goal.returns-then-not-has_any-clause-mended
+returns-then-not-has_any-clause-mended c = λ others.
+    let none : c.has_any.result ≡ false = c.if-not-has_any.true in
+    let long = length-map c.args.picture.now row_of ∙ c.requires.picture in
+    mended-stands (rows_of c.args.picture.now) (tracked c.args.rows.now c.args.changed.now) c.requires.whole.rows long
+    (λ i within. others (c.has_any.ensures.all none) i within (c.has_any.ensures.named none i within))
 
 pub returns-clause-mended : goal.returns-clause-mended
 returns-clause-mended c = λ others.
