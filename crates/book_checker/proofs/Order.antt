@@ -1,5 +1,5 @@
 -- The searches in the order of the codes find the fault of the draft.
-use Rattle.std.proofs.Common.{◌≡◌, ℕ, List, [], ◌∷◌, map, Option, Some, None, Bor, refl, ◌∙◌, ap}
+use Rattle.std.proofs.Common.{◌≡◌, ℕ, List, [], ◌∷◌, map, Option, Some, None, Bor, refl, ◌∙◌, ap, BuildHasherDefault, FoldHasher}
 use Rattle.std.specs.Prelude.{not, ◌==◌}
 use Rattle.std.specs.Option.{option_or}
 use Rattle.std.specs.List.{list_any}
@@ -82,7 +82,7 @@ module _ (p : plain.Draft) where
   by_parts-own names kinds names_are kinds_are =
       ap (λ ns. first_of (by_parts ns kinds)) names_are ∙ ap (λ ks. first_of (by_parts (alert_names p.alerts) ks)) kinds_are
 
-module _ (d : Draft) (params : Bor (List Param)) (places : Bor Numbers) where
+module _ (d : Draft) (params : Bor (List Param)) (places : Bor (Numbers (BuildHasherDefault FoldHasher))) where
   -- what the searches of a draft find, to which the map of places and the parameters are lent
   abbrev pub all_found : List (Option BookFault)
   all_found =

@@ -20,7 +20,7 @@ no_place : {X : Type 0} (is_so : X → Bool) (n : ℕ) (xs : List X) → is_none
 no_place is_so n [] = refl
 no_place is_so n (x ∷ xs) = elim (cases_Bool (is_so x)) [ inl here ↦ rw here refl | inr other ↦ rw other (no_place is_so (n + 1) xs) ]
 
-module _ (names : List Text) (m : Numbers) (finds : FindsPlaces names m) {X : Type 0} (view : X → Text) (xs : List X) where
+module _ (names : List Text) {S : Type 0} (m : Numbers S) (finds : FindsPlaces names m) {X : Type 0} (view : X → Text) (xs : List X) where
   pub unknown_by : list_any (λ x. is_none (number_by m (view x))) xs ≡ list_any (is_unknown names) (map view xs)
   unknown_by =
       seen (λ x. is_none (number_by m (view x))) (is_unknown names) view

@@ -346,8 +346,8 @@ fn ordered_fault(alloc: Global, names: &Catalogue<'_>) -> Result<Option<BookFaul
 }
 
 /// Whether a document has no fault but such as the texts of the conditions that are drafted have, which aren't read here:
-/// then it has none if each of them means a condition. It is one pass through the document, and costs n log n for n
-/// names. An error is want of memory.
+/// then it has none if each of them means a condition. It is one pass through the document, and two hashes of
+/// each name. An error is want of memory.
 pub fn is_faultless_if_readable(alloc: Global, names: &Catalogue<'_>) -> Result<bool, AllocError>
     requires { IsComplete names.now }
     ensures { IfOk result (λ b. b ≡ true → AreReadable (table_in names.now)

@@ -133,7 +133,8 @@ fn first_counted_twice(counts: &Counts<'_>, names: &[&str]) -> Option<u32>
     None
 }
 
-/// The number, counted from 1, of the first name that stands at another place too. It costs n log n for n names.
+/// The number, counted from 1, of the first name that stands at another place too. It costs two hashes of each
+/// name.
 pub(crate) fn first_repeated(alloc: Global, names: &[&str]) -> Result<Option<u32>, AllocError>
     requires { length names.now < 2 ^ 32 }
     ensures { IfOk result (λ r. r ≡ first_item (λ i n. is_repeated (texts_of names.now) n)
@@ -158,7 +159,7 @@ fn first_taken_of(counts: &Counts<'_>, known: &Scope<'_, '_>, names: &[&str]) ->
 }
 
 /// The number, counted from 1, of the first of these names that stands at another place too, or is a parameter's. It
-/// costs n log n for n names.
+/// costs two hashes of each name.
 pub(crate) fn first_taken(
     alloc: Global,
     known: &Scope<'_, '_>,

@@ -5,24 +5,25 @@ ghost use Rattle.book_model.specs.NamePlaces.{FindsPlaces, NotesPlace, number_by
 
 use crate::draft::Alert;
 use std::alloc::{AllocError, Global};
-use std::collections::BTreeMap;
+use std::collections::HashMap;
 
 /// Places of names, from 0.
-pub type NamePlaces<'a> = BTreeMap<&'a [u8], u32>;
+pub type NamePlaces<'a> = HashMap<&'a [u8], u32>;
 
 /// The places of these alerts by name, from 0. Of two equal names the first counts.
 pub fn alert_places<'a>(alloc: Global, alerts: &'a [Alert]) -> Result<NamePlaces<'a>, AllocError>
     requires { length alerts.now < 2 ^ 32 }
     ensures { IfOk result (FindsPlaces (map name_of alerts.now)) }
 {
-    let mut places = BTreeMap::new(alloc);
+    let mut places = HashMap::new(alloc);
     for (i, alert) in alerts.iter().enumerate() {
         note_place(&mut places, alert.name.as_str().as_bytes(), i as u32)?;
     }
     Ok(places)
 }
 
-/// Notes the place of a name, unless one is noted. It costs log n where n names are noted. An error is want of memory.
+/// Notes the place of a name, unless one is noted. It costs a hash of the name, and as a rule a comparison. An error is
+/// want of memory.
 pub fn note_place<'a>(
     places: &mut NamePlaces<'a>,
     name: &'a [u8],

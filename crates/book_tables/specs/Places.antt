@@ -7,15 +7,15 @@ use Rattle.toml.specs.Data.{Members}
 use Rattle.book_spec.specs.Rules.{list_in}
 
 -- how often a name was counted
-abbrev pub times : Numbers → Text → ℕ
+abbrev pub times : {S : Type 0} → Numbers S → Text → ℕ
 times m name = unwrap_or (number_by m name) 0
 
 -- it has how often each of these names stands
-abbrev pub CountsNames : List Text → Numbers → Type 0
+abbrev pub CountsNames : {S : Type 0} → List Text → Numbers S → Type 0
 CountsNames names m = (name : Text) → times m name ≡ count_by (same_text name) names
 
 -- a name stands once more
-abbrev pub CountsOne : Numbers → Numbers → Text → Type 0
+abbrev pub CountsOne : {S : Type 0} → Numbers S → Numbers S → Text → Type 0
 CountsOne old new name = (q : Text) → times new q ≡ times old q + (if same_text q name then 1 else 0)
 
 -- the items of each section of a table are numbered by 32 bits

@@ -14,7 +14,7 @@ use term_tree::{Cond, NamedTerm};
 use toml::Table;
 
 /// The places, from 0, of a document's systems, pages, parameters, alerts and named conditions by name. Of two equal
-/// names the first counts. A look-up costs a logarithm of the number of names.
+/// names the first counts. A look-up costs a hash of the name, and as a rule a comparison.
 #[derive(Drop)]
 pub struct Places<'a> {
     /// The document's table.

@@ -13,21 +13,21 @@ use crate::fields::{list_in, names_in, proper_names_in, texts_in};
 use book_model::{NamePlaces, note_place, place_in};
 use ecam_spec::limits;
 use std::alloc::{AllocError, Global};
-use std::collections::BTreeMap;
+use std::collections::HashMap;
 use toml::Table;
 
 // The most bytes that a name has.
 const LONGEST_NAME: usize = limits::NAME;
 
 /// How often names stand.
-pub type Counts<'a> = BTreeMap<&'a [u8], usize>;
+pub type Counts<'a> = HashMap<&'a [u8], usize>;
 
 /// The places of these names, from 0. Of two equal names the first counts.
 fn places_of<'a>(alloc: Global, names: &[&'a str]) -> Result<NamePlaces<'a>, AllocError>
     requires { length names.now < 2 ^ 32 }
     ensures { IfOk result (FindsPlaces (texts_of names.now)) }
 {
-    let mut places = BTreeMap::new(alloc);
+    let mut places = HashMap::new(alloc);
     for (i, name) in names.iter().enumerate() {
         note_place(&mut places, name.as_bytes(), i as u32)?;
     }
@@ -77,11 +77,12 @@ pub(crate) fn short_place(places: &NamePlaces<'_>, name: &[u8]) -> Option<u32>
     place_in(places, name)
 }
 
-/// How often each of these names stands. It costs n log n for n names. An error is want of memory.
+/// How often each of these names stands. It costs a hash of each, and as a rule a comparison. An error is want
+/// of memory.
 pub fn counts_of<'a>(alloc: Global, names: &[&'a str]) -> Result<Counts<'a>, AllocError>
     ensures { IfOk result (CountsNames (texts_of names.now)) }
 {
-    let mut counts = BTreeMap::new(alloc);
+    let mut counts = HashMap::new(alloc);
     for name in names {
         count_one(&mut counts, name.as_bytes())?;
     }
