@@ -1,5 +1,6 @@
 -- The six inputs of the phase, stepped one after another.
-use Rattle.std.proofs.Common.{◌≡◌, ℕ, suc, ◌<◌, Bool, length, slice_get, Some, sym, ap, subst, ◌∙◌}
+use Rattle.std.proofs.Common.{◌≡◌, ℕ, suc, ◌<◌, ◌^◌, Bool, false, length, slice_get, Some, refl, sym, ap, subst, ◌∙◌, arith}
+use Rattle.std.specs.Prelude.{slice_index_or}
 use Rattle.std.specs.List.{list_any}
 use Rattle.ecam_spec.specs.Book as plain
 use Rattle.ecam_spec.specs.Term.{holds}
@@ -9,7 +10,7 @@ use Rattle.ecam_spec.specs.History.{Moment}
 use Rattle.ecam_spec.specs.Situation.{flight_world, flight}
 use Rattle.book_model.specs.declared.draft.PhaseTerms.{PhaseTerms}
 use Rattle.book_model.specs.declared.draft.Draft.{Draft}
-use Rattle.book_model.specs.View.{tree_in, phase_of}
+use Rattle.book_model.specs.View.{tree_in, placed_of, phase_of}
 use Rattle.book_model.specs.Slots.{phase_places, phase_trees}
 use Rattle.book_model.specs.Sealed.{the_book, IsSealed}
 use Rattle.book_model.specs.Conditions.{places, alerts_from, world_of}
@@ -22,10 +23,14 @@ use Rattle.flight_phases.specs.Inputs.{AreInputs}
 use Rattle.term_eval.specs.declared.env.Env.{Env}
 use Rattle.term_eval.specs.Shown.{Shows}
 use Rattle.term_eval.specs.Woken.{operands, moved}
+use Rattle.wakes.specs.Marks.{is_marked}
 use Rattle.fwc_lane.specs.declared.terms.Terms.{Terms}
 use Rattle.fwc_lane.specs.Conditions.{StepsTerm, TellsMoved, BookHalf, known_world}
 use Rattle.fwc_lane.specs.Given.{Lends}
+use Rattle.fwc_lane.specs.PhaseTruths.{inputs_by}
+use Rattle.fwc_lane.specs.Waking.{NoneMarked}
 use Rattle.fwc_lane.proofs.Showing.{shows-flight}
+use Rattle.fwc_lane.proofs.Stepping.{rest-asked, half-rest}
 
 -- where an input lies, and what it may name
 module _ (d : Draft) (sealed : IsSealed d) (p : PhaseTerms) (same : p ≡ d.phase) (i : ℕ) where
@@ -54,6 +59,15 @@ module _ (d : Draft) (sealed : IsSealed d) (p : PhaseTerms) (same : p ≡ d.phas
     input-stands =
         steps.stands (places (the_book d)) (world_of (the_book d) m) (moved (known_world (the_book d) m 0) k) visited (input-place d sealed p same i t is) (ranges-apart (the_book d)) (shows i lt) (tells i lt t) half
 
+-- a condition that isn't woken holds where it held
+rest-steps : (env : Env) (k i : ℕ) (p : Placed) (t : Terms) → k < 2 ^ 63 → is_marked t.woken i ≡ false
+    → StepsTerm env k i p t t (slice_index_or t.truths.items i false)
+rest-steps env k i p t small off = record {
+  truth = λ ps worlds hit visited here shows tells half.
+      (rest-asked (worlds i) hit k i p t small tells (half.left i p (omega arith) here) off).told;
+  stands = λ ps worlds hit visited here apart shows tells half. half-rest ps worlds k i p here hit visited t small tells off half;
+}
+
 -- the answers are the inputs of the moment
 pub record SixAnswers (d : Draft) (m : ℕ → Moment) (k : ℕ) (p : PhaseTerms) (gnd run tp fast high low : Bool) : Type 0 where
   pub gnd_is : gnd ≡ holds (flight_world (the_book d) m) (tree_in p.gnd) k
@@ -76,3 +90,46 @@ inputs-are d m k p gnd run tp fast high low same six =
       high = six.high_is ∙ ap (λ (q : plain.PhaseTerms). holds (flight_world (the_book d) m) q.high k) own;
       low = six.low_is ∙ ap (λ (q : plain.PhaseTerms). holds (flight_world (the_book d) m) q.low k) own;
     }
+
+-- where none of the six is woken, each is what it was
+module _ (d : Draft) (sealed : IsSealed d) (p : PhaseTerms) (same : p ≡ d.phase) (m : ℕ → Moment) (k : ℕ) (env : Env) (lends : Lends (the_book d) m k env)
+    (one : env.phase.number ≡ 1) (none : length env.active.now ≡ 0) (small : k < 2 ^ 63) (visited : ℕ) (t : Terms) (off : NoneMarked t.woken 0 alerts_from)
+    (half : BookHalf (the_book d) m k 0 0 visited t) where
+  steps : (i : ℕ) → i < alerts_from → (q : Placed) → StepsTerm env k i q t t (slice_index_or t.truths.items i false)
+  steps i lt q = rest-steps env k i q t small (off i (omega arith) lt)
+
+  truth : (i : ℕ) → i < alerts_from → (q : Placed) → slice_get (phase_places p) i ≡ Some q → BookHalf (the_book d) m k i 0 visited t
+      → slice_index_or t.truths.items i false ≡ holds (flight_world (the_book d) m) q.tree k
+  truth i lt q is before = input-truth d sealed p same m k env lends one none i lt q is visited t t _ (steps i lt q) before
+
+  stand : (i : ℕ) → i < alerts_from → (q : Placed) → slice_get (phase_places p) i ≡ Some q → BookHalf (the_book d) m k i 0 visited t
+      → BookHalf (the_book d) m k (suc i) 0 visited t
+  stand i lt q is before = input-stands d sealed p same m k env lends one none i lt q is visited t t _ (steps i lt q) before
+
+  stand-1 : BookHalf (the_book d) m k 1 0 visited t
+  stand-1 = stand 0 (omega arith) (placed_of p.gnd) refl half
+
+  stand-2 : BookHalf (the_book d) m k 2 0 visited t
+  stand-2 = stand 1 (omega arith) (placed_of p.run) refl stand-1
+
+  stand-3 : BookHalf (the_book d) m k 3 0 visited t
+  stand-3 = stand 2 (omega arith) (placed_of p.tp) refl stand-2
+
+  stand-4 : BookHalf (the_book d) m k 4 0 visited t
+  stand-4 = stand 3 (omega arith) (placed_of p.fast) refl stand-3
+
+  stand-5 : BookHalf (the_book d) m k 5 0 visited t
+  stand-5 = stand 4 (omega arith) (placed_of p.high) refl stand-4
+
+  pub inputs-rest : BookHalf (the_book d) m k alerts_from 0 visited t
+  inputs-rest = stand 5 (omega arith) (placed_of p.low) refl stand-5
+
+  pub inputs-kept : AreInputs (flight (the_book d) m) k (inputs_by t.truths.items)
+  inputs-kept = inputs-are d m k p _ _ _ _ _ _ same record {
+    gnd_is = truth 0 (omega arith) (placed_of p.gnd) refl half;
+    run_is = truth 1 (omega arith) (placed_of p.run) refl stand-1;
+    tp_is = truth 2 (omega arith) (placed_of p.tp) refl stand-2;
+    fast_is = truth 3 (omega arith) (placed_of p.fast) refl stand-3;
+    high_is = truth 4 (omega arith) (placed_of p.high) refl stand-4;
+    low_is = truth 5 (omega arith) (placed_of p.low) refl stand-5;
+  }

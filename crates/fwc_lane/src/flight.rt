@@ -8,9 +8,11 @@ ghost use Rattle.flight_phases.specs.Inputs.{AreInputs};
 ghost use Rattle.flight_phases.specs.State as flight_phases;
 ghost use Rattle.fwc_lane.specs.Conditions.{BookHalf, WasPhase};
 ghost use Rattle.fwc_lane.specs.Given.{Lends};
+ghost use Rattle.fwc_lane.specs.PhaseTruths.{inputs_by};
 ghost use Rattle.fwc_lane.specs.TermsFit.{TermsFit};
 
 use crate::conditions::step_term;
+use crate::next::inputs_rest;
 use crate::terms::Terms;
 use crate::waking::{is_other_phase, wake_phase};
 use book_model::Book;
@@ -18,7 +20,23 @@ use ecam_kinds::Phase;
 use flight_phases::{PhaseInputs, PhaseState};
 use term_eval::Env;
 
-/// Steps the six inputs of the phase by moment `now`, where the phase that the environment lends is 1. Its cost is a look at
+// What six conditions in the place of the inputs said in the last moment.
+fn kept_inputs(truths: &[bool]) -> PhaseInputs
+    requires { alerts_from ≤ length truths.now }
+    ensures { result ≡ inputs_by truths.now }
+{
+    PhaseInputs {
+        gnd: truths[0],
+        run: truths[1],
+        tp: truths[2],
+        fast: truths[3],
+        high: truths[4],
+        low: truths[5],
+    }
+}
+
+/// Steps the six inputs of the phase by moment `now`, where the phase that the environment lends is 1. Where none is woken
+/// they are what they were, for one look at the set of those that are and one at each truth; else the cost is a look at
 /// each, and one visit of each node of those that are woken.
 fn step_inputs(terms: &mut Terms, book: &Book, env: &Env<'_>, now: u64) -> PhaseInputs
     requires fits { TermsFit (the_book book.now) terms.old }
@@ -35,6 +53,9 @@ fn step_inputs(terms: &mut Terms, book: &Book, env: &Env<'_>, now: u64) -> Phase
         → BookHalf (the_book book.now) m now alerts_from 0 visits terms.new }
 {
     let inputs = book.phase_terms();
+    if inputs_rest(&terms.woken) {
+        return kept_inputs(&terms.truths);
+    }
     let gnd = step_term(terms, 0, &inputs.gnd, env, now);
     let run = step_term(terms, 1, &inputs.run, env, now);
     let tp = step_term(terms, 2, &inputs.tp, env, now);
@@ -53,7 +74,8 @@ fn step_inputs(terms: &mut Terms, book: &Book, env: &Env<'_>, now: u64) -> Phase
 
 /// Steps the inputs of the phase, and the phase, by moment `now`, and answers the phase. The environment lends phase 1 and
 /// no alert: the inputs may ask for neither. A phase that is another than it was wakes the conditions that name it. Its cost
-/// is a look at each input, one visit of each node of those that are woken, and a write for each condition that this wakes.
+/// is at most two looks at each input, one visit of each node of those that are woken, and a write for each condition that
+/// this wakes.
 pub fn step_phase(
     terms: &mut Terms,
     state: &mut PhaseState,

@@ -1,5 +1,5 @@
 // The next of some items that has a woken condition.
-ghost use Rattle.std.specs.Prelude.{◌≡◌, ◌+◌, ◌<◌, ◌≤◌, length, take};
+ghost use Rattle.std.specs.Prelude.{◌≡◌, ◌+◌, ◌<◌, ◌≤◌, true, length, take};
 ghost use Rattle.ecam_spec.specs.BookTerms.{lines_of};
 ghost use Rattle.book_model.specs.Sealed.{the_book};
 ghost use Rattle.book_model.specs.Conditions.{alerts_from};
@@ -24,6 +24,13 @@ pub fn next_alert(woken: &Marked, truths: &Truths, book: &Book, from: usize) -> 
     let term = next_or(woken, 6 + from, 6 + end);
     let restless = next_or(truths.restless(), from, end);
     restless.min(term - 6)
+}
+
+/// Whether no input of the phase is woken. Its cost is a look for each 64 conditions up to the first that is woken.
+pub fn inputs_rest(woken: &Marked) -> bool
+    ensures { result ≡ true → NoneMarked woken.now 0 alerts_from }
+{
+    next_or(woken, 0, 6) == 6
 }
 
 // The first number of the set from one on, or an end where there is none before it.

@@ -1,8 +1,27 @@
-use Rattle.std.proofs.Common.{refl, arith}
+use Rattle.std.proofs.Common.{refl, sym, ap, ◌∙◌, subst, arith}
+use Rattle.ecam_spec.specs.Situation.{flight}
 use Rattle.book_model.specs.View.{placed_of}
 use Rattle.book_model.specs.Sealed.{the_book}
-use Rattle.fwc_lane.proofs.FlightSteps.{input-place, input-names, input-truth, input-stands, inputs-are}
+use Rattle.book_model.proofs.ConditionPlaces.{all-places}
+use Rattle.flight_phases.specs.Inputs.{AreInputs}
+use Rattle.fwc_lane.specs.PhaseTruths.{inputs_by}
+use Rattle.fwc_lane.proofs.FlightSteps.{inputs-rest, inputs-kept, input-place, input-names, input-truth, input-stands, inputs-are}
 use Rattle.fwc_lane.proofs.flight.step_inputs.Goals as goal
+
+pub kept_inputs-requires : goal.kept_inputs-requires
+kept_inputs-requires c = omega (arith, c.requires.fits.truths, all-places c.args.book.now c.phase_terms-inputs.ensures.sealed)
+
+pub returns-then-inputs_rest-clause-inputs : goal.returns-then-inputs_rest-clause-inputs
+returns-then-inputs_rest-clause-inputs c = λ m visited lends half.
+    let d = c.args.book.now in
+    subst (AreInputs (flight (the_book d) m) c.args.now) (sym (c.kept_inputs.ensures ∙ ap inputs_by c.deref.ensures.value))
+    (inputs-kept d c.phase_terms-inputs.ensures.sealed c.phase_terms-inputs.result.now c.phase_terms-inputs.ensures.value m c.args.now c.args.env.now lends c.requires.phase c.requires.active c.requires.now visited c.args.terms.now
+    (c.inputs_rest.ensures c.if-inputs_rest.true) half)
+
+pub returns-then-inputs_rest-clause-stands : goal.returns-then-inputs_rest-clause-stands
+returns-then-inputs_rest-clause-stands c = λ m visited lends half.
+    inputs-rest c.args.book.now c.phase_terms-inputs.ensures.sealed c.phase_terms-inputs.result.now c.phase_terms-inputs.ensures.value m c.args.now c.args.env.now lends c.requires.phase c.requires.active c.requires.now visited c.args.terms.now
+    (c.inputs_rest.ensures c.if-inputs_rest.true) half
 
 pub step_term-gnd-requires-clause-place : goal.step_term-gnd-requires-clause-place
 step_term-gnd-requires-clause-place c =
