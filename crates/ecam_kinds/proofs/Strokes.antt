@@ -1,5 +1,7 @@
 -- One more stroke, and one more moment, against the definitions of pressed and held.
 use Rattle.std.proofs.Common.{◌≡◌, ℕ, zero, suc, Bool, true, false, not, ◌&&◌, ◌||◌, List, [], ◌∷◌, ◌++◌, Option, Some, None, cond, get_or, replicate, refl, sym, ap, ◌∙◌, arith}
+use Rattle.std.proofs.Math.Bool.{beq}
+use Rattle.std.proofs.Math.Path.{fun_ext}
 use Rattle.std.specs.Prelude.{unwrap_or, is_none}
 use Rattle.std.specs.List.{list_any}
 use Rattle.std.specs.Option.{option_or}
@@ -110,6 +112,21 @@ pub none_true : (n i : ℕ) → get_or (replicate n false) i false ≡ false
 none_true zero i = refl
 none_true (suc n) zero = refl
 none_true (suc n) (suc i) = none_true n i
+
+-- whether a flag is set, as a search for `true` says it
+pub any-set : (flags : List Bool) → list_any (λ f. beq f true) flags ≡ list_any (λ f. f) flags
+any-set flags = ap (λ test. list_any test flags) (fun_ext is-set) where
+  is-set : (f : Bool) → beq f true ≡ f
+  is-set true = refl
+  is-set false = refl
+
+-- where none is set, each is false
+pub none-set : (flags : List Bool) (i : ℕ) → list_any (λ f. f) flags ≡ false → get_or flags i false ≡ false
+none-set [] zero none = refl
+none-set [] (suc i) none = refl
+none-set (true ∷ flags) i none = absurd (let w : ⊥ = cc in w)
+none-set (false ∷ flags) zero none = refl
+none-set (false ∷ flags) (suc i) none = none-set flags i none
 
 -- a key that goes down, and one that goes up
 pub or-down : (b c : Bool) → (b || c) ≡ ((b && true) || c)

@@ -1,5 +1,6 @@
 // The keys of the control panel: which were pressed in this moment, and which are held.
 ghost use Rattle.std.specs.Prelude.{◌≡◌, ℕ, ◌<◌, ◌||◌, ◌&&◌, Bool, true, false, not, List, [], suc};
+ghost use Rattle.std.specs.List.{list_any};
 ghost use Rattle.ecam_spec.specs.History.{Stroke, OneMore};
 ghost use Rattle.ecam_spec.specs.Keys.{same_key, key_number};
 ghost use Rattle.ecam_spec.specs.declared.kinds.Key.{Key};
@@ -10,7 +11,8 @@ use ecam_spec::Key;
 /// How many keys there are, by `key_index`.
 const KEYS: usize = 25;
 
-/// Which keys were pressed in the moment that hasn't ended, and which are held. All calls cost the same.
+/// Which keys were pressed in the moment that hasn't ended, and which are held. No call costs more than a few writes or
+/// looks.
 #[derive(Clone, Copy, Debug)]
 pub struct Keys {
     pressed: [bool; KEYS],
@@ -114,6 +116,14 @@ impl Keys {
         ensures { result ≡ is_pressed self.now key }
     {
         self.pressed[key_index(key)]
+    }
+
+    /// Whether any key was pressed in this moment so far: where not, none was. Its cost is a few looks at many keys at once.
+    pub fn any_pressed(&self) -> bool
+        ensures value { result ≡ list_any (λ p. p) self.now.pressed }
+        ensures none { result ≡ false → (key : Key) → is_pressed self.now key ≡ false }
+    {
+        self.pressed.contains(&true)
     }
 
     /// Whether the key is held now.

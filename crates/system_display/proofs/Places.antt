@@ -14,6 +14,11 @@ unfolding first_place
 none-more p n none off =
     ap (λ o. option_or o (elim (p n) [ true ↦ Some n | false ↦ None ])) none ∙ ap (λ b. elim b [ true ↦ Some n | false ↦ None ]) off
 
+-- none anywhere
+pub none-below : (p : ℕ → Bool) (n : ℕ) → ((i : ℕ) → p i ≡ false) → first_place p n ≡ None
+none-below p zero off = none-before p
+none-below p (suc n) off = none-more p n (none-below p n off) (off n)
+
 -- none so far, but here: it is the first of all
 pub first-here : (p : ℕ → Bool) (i n : ℕ) → first_place p i ≡ None → p i ≡ true → i < n → first_place p n ≡ Some i
 unfolding first_place

@@ -28,7 +28,8 @@ pub struct Inputs {
 }
 
 impl Inputs {
-    /// The inputs by the keys and the target of the moment. The cost is a look at the key of each page.
+    /// The inputs by the keys and the target of the moment. The cost is a few looks, and where a key is pressed one at the
+    /// key of each page.
     pub fn of(book: &Book, keys: &Keys, target: Option<u32>) -> Inputs
         requires { IfSome target (λ a. a < length book.now.alerts.items) }
         ensures inputs { (p : Panel) (k : ℕ) → Shows (the_book book.now) keys.now target p k
@@ -48,12 +49,15 @@ impl Inputs {
     }
 }
 
-// The first page, from 0, of so many whose key is pressed.
+// The first page, from 0, of so many whose key is pressed. Where no key is pressed none is looked at.
 fn page_called(keys: &Keys, pages: usize) -> Option<usize>
     requires { pages ≤ PAGES }
     ensures pressed { result ≡ page_pressed keys.now pages }
     ensures within { IfSome result (λ i. i < pages) }
 {
+    if !keys.any_pressed() {
+        return None;
+    }
     for i in 0..pages {
         if keys.pressed(Key::Page(i as u8 + 1)) {
             return Some(i);

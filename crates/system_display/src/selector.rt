@@ -43,7 +43,7 @@ impl Selector {
     }
 
     /// Takes one moment more, of 100 ms, with its keys and the alert at which CLR and EMER CANC aim. The cost is a
-    /// look at the key of each page.
+    /// few looks, and where a key is pressed one at the key of each page.
     pub fn step(&mut self, book: &Book, keys: &Keys, target: Option<u32>)
         requires goes_on { CanGoOn self.old }
         requires fits { SelectorFits (the_book book.now) self.old }

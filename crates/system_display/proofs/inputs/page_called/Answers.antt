@@ -2,8 +2,12 @@ use Rattle.std.proofs.Common.{ℕ, ◌+◌, Bool, ◌∙◌, sym, ap, add-one}
 use Rattle.ecam_spec.specs.declared.kinds.Key.TheVariants.{Page}
 use Rattle.ecam_spec.specs.Places.{first_place}
 use Rattle.ecam_kinds.specs.KeyState.{is_pressed}
-use Rattle.system_display.proofs.Places.{none-before, none-more, first-here}
+use Rattle.system_display.proofs.Places.{none-before, none-more, none-below, first-here}
 use Rattle.system_display.proofs.inputs.page_called.Goals as goal
+
+pub returns-then-not-any_pressed-clause-pressed : goal.returns-then-not-any_pressed-clause-pressed
+returns-then-not-any_pressed-clause-pressed c =
+    sym (none-below _ c.args.pages (λ i. c.any_pressed.ensures.none c.if-not-any_pressed.true (Page (i + 1))))
 
 pub loop-i-init : goal.loop-i-init
 loop-i-init c = none-before _
