@@ -4,7 +4,9 @@ use Rattle.std.specs.Prelude.{decimal, if◌then◌else◌}
 use Rattle.std.specs.List.{list_any}
 use Rattle.std.proofs.lemmas.Bool.{leb-true}
 use Rattle.std.proofs.lemmas.List.Folds.{list_all_at}
+use Rattle.std.proofs.Math.Bool.{beq}
 use Rattle.std.proofs.Math.ListN.{drop_of_length-le}
+use Rattle.std.proofs.Math.Path.{fun_ext}
 use Rattle.ecam_spec.specs.declared.limits.TheConstants.{PICTURE_ROWS}
 use Rattle.ecam_spec.specs.Book.{Text}
 use Rattle.ecam_spec.specs.Picture.{Row, same_row, same_picture}
@@ -21,6 +23,13 @@ short_names i h = by (leb (length (get_or row_names i [])) 3) refl where
   by : (b : Bool) → leb (length (get_or row_names i [])) 3 ≡ b → length (get_or row_names i []) ≤ 3
   by true e = leb-true (length (get_or row_names i [])) 3 e
   by false e = absurd (let w : ⊥ = cc (list_all_at (λ t. leb (length t) 3) row_names i [] h e) in w)
+
+-- whether a flag is set, as a search for `true` says it
+pub any-set : (flags : List Bool) → list_any (λ f. beq f true) flags ≡ list_any (λ f. f) flags
+any-set flags = ap (λ test. list_any test flags) (fun_ext is-set) where
+  is-set : (f : Bool) → beq f true ≡ f
+  is-set true = refl
+  is-set false = refl
 
 module _ (flags : List Bool) (rows : List code.Row) (i : ℕ) where
   -- the line of one more row

@@ -37,16 +37,11 @@ fn letter_of(colour: Colour) -> &'static str
     }
 }
 
-// Whether a flag is set.
-fn has_any(flags: &[bool]) -> bool
+// Whether a flag is set. Its cost is a few looks at many flags at once.
+fn has_any(flags: &[bool; ROWS]) -> bool
     ensures { result ≡ list_any (λ f. f) flags.now }
 {
-    for i in 0..flags.len() {
-        if flags[i] {
-            return true;
-        }
-    }
-    false
+    flags.contains(&true)
 }
 
 // Appends bytes for which there is room.
@@ -155,7 +150,8 @@ fn put_block(out: &mut Block, tick: u64, picture: &Picture, changed: &[bool; ROW
 }
 
 // Puts in place of what was there the block of Tick number `tick`, whose picture is this one and which changed the rows
-// whose flag is set. Its cost is a look at each flag, and a copy of each row that changed.
+// whose flag is set. Its cost is a few looks where no flag is set, else one at each flag, and a copy of each row that
+// changed.
 pub(crate) fn renew(block: &mut Block, tick: u64, picture: &Picture, changed: &[bool; ROWS])
     ensures { (old : spec.Picture) → NamesRows old (picture_of picture.now) changed.now
         → block.new.items ≡ output.block tick old (picture_of picture.now) }
