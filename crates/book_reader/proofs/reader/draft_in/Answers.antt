@@ -8,3 +8,6 @@ pub returns-in-Ok-clause-faultless : goal.returns-in-Ok-clause-faultless
 returns-in-Ok-clause-faultless c =
     let faultless = c.in_ok-is_faultless_if_readable.ensures c.if-not-branch.false in
     subst (λ (table : Members). AreReadable table → table_fault table ≡ None) c.in_ok-names.ensures.table faultless c.in-Ok.ensures.read
+
+pub returns-then-not-branch-clause-fault : goal.returns-then-not-branch-clause-fault
+returns-then-not-branch-clause-fault c f told = c.fault_in.ensures f (cc told)
