@@ -1,6 +1,6 @@
 -- Which calls of `read` a replay has made.
 use Rattle.std.proofs.Common.{◌≡◌, ◌⊎◌, ℕ, true, false, List, [], ◌∷◌, ◌++◌, Result, Ok, Err, Some, refl, sym, ap, ◌∙◌, subst, cond, inl, inr, append-nil, append_assoc}
-use Rattle.std.specs.Prelude.{All, Bool, IfErr}
+use Rattle.std.specs.Prelude.{◌≢◌, All, Bool, IfErr, OnOk}
 use Rattle.std.proofs.lemmas.List.Elements.{All-nil, All-append}
 use Rattle.ecam_io.specs.Outside.{ReadCall, Appended}
 use Rattle.ecam_io.proofs.Calls.{Appended-none, Appended-append}
@@ -55,6 +55,11 @@ module _ {S : Type 0} (reads : S → List ReadCall → Type 0) where
 pub unneeded : {X : Type 0} → (needs : Bool) → (needs ≡ true → ⊥) → (needs ≡ false → X) → X
 unneeded true never so = absurd (never refl)
 unneeded false never so = so refl
+
+-- what is so of a good ending, in one that isn't a failed write
+pub unless-write : {X : Type 0} (result : Result ℕ RunError) → IfErr result (λ e. e ≡ Write) → result ≢ Err Write → OnOk result X → X
+unless-write (Ok n) cause other so = so
+unless-write (Err e) cause other so = absurd (other (ap Err cause))
 
 -- ---- what an ending tells of the last call
 

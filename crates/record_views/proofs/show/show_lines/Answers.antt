@@ -10,7 +10,7 @@ use Rattle.record_views.specs.Showing.{shown_by}
 use Rattle.record_views.specs.Runs.{HasMetFault, HasFed, HasFedPart, IsAt}
 use Rattle.record_lines.specs.declared.outcome.LineError.TheVariants as line_errors
 use Rattle.record_views.specs.declared.show.RunError.TheVariants as RunError
-use Rattle.record_views.proofs.Asked.{asked-none, asked-more, asked-last, asked-spared, unneeded, finished-last, fault-last}
+use Rattle.record_views.proofs.Asked.{asked-none, asked-more, asked-last, asked-spared, unneeded, unless-write, finished-last, fault-last}
 use Rattle.record_views.proofs.Endings.{at-start, at-handed, at-next, at-broken, at-broken-unwritten, at-fault, at-fault-unwritten, at-few, at-few-moments, at-seen, growing, at-unhanded, at-unwritten, at-finished, at-end-visited}
 use Rattle.record_views.proofs.Viewed.{on-ok}
 use Rattle.record_views.proofs.show.show_lines.Goals as goal
@@ -234,3 +234,18 @@ returns-in-Err-feed-clause-asks g c =
     let other : is_end_event c.in-Ok-next.event ≡ false = sym c.is_end.ensures ∙ c.if-is_end.false in
     asked-last g.S.Source.reads c.args.source.now c.lines.source c.next.new.source c.lines.invariant.asked (reads_next c.lines.reader) (Ok c.in-Ok-next.event)
     (c.in-Ok-next.ensures.asks c.lines.invariant.at.unsettled) (Err RunError.Write) (inl (ap (λ e. cond e (piece_call (Some 0) ∷ []) []) other))
+
+-- ---- which faults were counted
+
+pub returns-in-Err-hand_over-clause-quiet : goal.returns-in-Err-hand_over-clause-quiet
+returns-in-Err-hand_over-clause-quiet g c other =
+    unneeded (reads_next c.lines.reader) (λ needs. let none = c.in-Err-hand_over.ensures.nothing (c.in-Ok.ensures.empty needs) in let never : ⊥ = cc in never)
+    (λ spared. ap g.S.Source.faults (c.in-Err-Failed.ensures.spared spared) ∙ c.lines.invariant.quiet)
+
+pub returns-then-is_end-clause-out_quiet : goal.returns-then-is_end-clause-out_quiet
+returns-then-is_end-clause-out_quiet g c other =
+    unless-write c.finish.result c.finish.ensures.cause other c.finish.ensures.quiet ∙ c.in-Ok.ensures.quiet ∙ c.lines.invariant.out_quiet
+
+pub returns-in-Err-feed-clause-quiet : goal.returns-in-Err-feed-clause-quiet
+returns-in-Err-feed-clause-quiet g c other =
+    c.in-Ok-next.ensures.quiet (λ e. let never : ⊥ = cc in never) ∙ c.lines.invariant.quiet
