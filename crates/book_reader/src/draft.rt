@@ -82,7 +82,8 @@ fn phase_in(alloc: Global, names: &Scope<'_, '_>, table: &Table) -> Result<Phase
 fn memo_in(alloc: Global, names: &Scope<'_, '_>, value: &Value) -> Result<Memo, TermError>
     ensures value { IfOk result (λ m. memo_of m
         ≡ spec.memo_in (names_in names.now) (view value.now)) }
-    ensures read { IfOk result (λ _. refused_in_memo (names_in names.now) (view value.now) ≡ false) }
+    ensures read { IfOk result (λ _. refused_in_memo (names_in names.now) (view value.now)
+        ≡ false) }
     ensures unplaced { IfOk result IsUnplacedMemo }
 {
     let empty = Table::new(alloc);

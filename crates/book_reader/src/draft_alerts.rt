@@ -33,7 +33,8 @@ const TITLE: usize = limits::TEXT;
 fn line_in(alloc: Global, names: &Scope<'_, '_>, value: &Value) -> Result<Line, TermError>
     ensures value { IfOk result (λ l. line_of l
         ≡ spec.line_in (names_in names.now) (view value.now)) }
-    ensures read { IfOk result (λ _. refused_in_line (names_in names.now) (view value.now) ≡ false) }
+    ensures read { IfOk result (λ _. refused_in_line (names_in names.now) (view value.now)
+        ≡ false) }
     ensures unplaced { IfOk result IsUnplacedLine }
 {
     let empty = Table::new(alloc);
@@ -93,7 +94,8 @@ fn short_name(value: &Value) -> Name
 }
 
 fn secondaries_in(alloc: Global, items: &[Value]) -> Result<Vec<Name>, AllocError>
-    ensures { IfOk result (λ v. map bytes_of v.items ≡ map defaults.short_name (views items.now)) }
+    ensures { IfOk result (λ v. map bytes_of v.items
+        ≡ map defaults.short_name (views items.now)) }
 {
     let mut names = Vec::new(alloc);
     for item in items {
