@@ -1,5 +1,5 @@
 -- The conditions of a book are gone through part by part.
-use Rattle.std.proofs.Common.{◌≡◌, ℕ, ◌+◌, ◌<◌, ◌^◌, List, [], ◌∷◌, ◌++◌, map, length, take, get_or, slice_get, Some, sym, ap, subst, ◌∙◌, arith}
+use Rattle.std.proofs.Common.{◌≡◌, ℕ, ◌+◌, ◌<◌, ◌^◌, List, [], ◌∷◌, ◌++◌, map, length, take, get_or, slice_get, Some, refl, sym, ap, subst, ◌∙◌, arith}
 use Rattle.std.specs.List.{flat_map}
 use Rattle.std.specs.Prelude.{Result, Ok, Err, OnOk}
 use Rattle.std.proofs.lemmas.List.{append_assoc, append-nil, map-append, take_more}
@@ -12,10 +12,12 @@ use Rattle.book_model.specs.Conditions.{places}
 use Rattle.book_model.specs.Slots.{phase_places, when_place, lines_places, memo_place, draft_places}
 use Rattle.book_model.specs.declared.draft.Term.{Term}
 use Rattle.book_model.specs.declared.draft.PhaseTerms.{PhaseTerms}
+use Rattle.book_model.specs.declared.draft.Line.{Line}
+use Rattle.book_model.specs.declared.draft.Alert.{Alert}
 use Rattle.book_model.specs.declared.draft.Draft.{Draft}
 use Rattle.book_model.proofs.SealedTerms.{slots-fit, terms_of-book}
 use Rattle.book_model.proofs.ConditionRanges.{range}
-use Rattle.book_model.proofs.ConditionPlaces.{phase-place}
+use Rattle.book_model.proofs.ConditionPlaces.{phase-place, line-when, line-done}
 use Rattle.condition_codes.specs.Pieces.{HasCodes, AddsCodes}
 use Rattle.condition_codes.specs.declared.pieces.Pieces.{Pieces}
 
@@ -29,8 +31,35 @@ pub slots-within : (d : Draft) → IsSealed d → (i : ℕ) (t : Term) → slice
 slots-within d sealed i t is =
     omega (arith, range (the_book d) i (placed_of t) is, ap slots_in (terms_of-book (draft_of d)), slots-fit (draft_of d) sealed.sound)
 
-pub input-within : (d : Draft) → IsSealed d → (p : PhaseTerms) → p ≡ d.phase → (i : ℕ) (t : Term) → slice_get (phase_places p) i ≡ Some (placed_of t) → t.at + slots (tree_in t) < 2 ^ 64
-input-within d sealed p same i t is = slots-within d sealed i t (phase-place d sealed i (placed_of t) (ap (λ q. slice_get (phase_places q) i) (sym same) ∙ is))
+-- those of the inputs of the phase
+pub record InputsFit (p : PhaseTerms) : Type 0 where
+  pub gnd : p.gnd.at + slots (tree_in p.gnd) < 2 ^ 64
+  pub run : p.run.at + slots (tree_in p.run) < 2 ^ 64
+  pub tp : p.tp.at + slots (tree_in p.tp) < 2 ^ 64
+  pub fast : p.fast.at + slots (tree_in p.fast) < 2 ^ 64
+  pub high : p.high.at + slots (tree_in p.high) < 2 ^ 64
+  pub low : p.low.at + slots (tree_in p.low) < 2 ^ 64
+
+pub inputs-fit : (d : Draft) → IsSealed d → (p : PhaseTerms) → p ≡ d.phase → InputsFit p
+inputs-fit d sealed p same =
+    let fits : (i : ℕ) (t : Term) → slice_get (phase_places p) i ≡ Some (placed_of t) → t.at + slots (tree_in t) < 2 ^ 64 =
+    λ i t is. slots-within d sealed i t (phase-place d sealed i (placed_of t) (ap (λ q. slice_get (phase_places q) i) (sym same) ∙ is)) in
+    record {
+      gnd = fits 0 p.gnd refl;
+      run = fits 1 p.run refl;
+      tp = fits 2 p.tp refl;
+      fast = fits 3 p.fast refl;
+      high = fits 4 p.high refl;
+      low = fits 5 p.low refl;
+    }
+
+-- and those of both conditions of a line
+pub line-fits : (d : Draft) → IsSealed d → (a : ℕ) (x : Alert) → a < length d.alerts.items → x ≡ get_or d.alerts.items a x → (ls : List Line) (j : ℕ) (l : Line) → ls ≡ x.lines.items
+    → j < length ls → l ≡ get_or ls j l → (l.when.at + slots (tree_in l.when) < 2 ^ 64) × (l.done.at + slots (tree_in l.done) < 2 ^ 64)
+line-fits d sealed a x within here ls j l own inside at = (
+  slots-within d sealed _ l.when (line-when d sealed d.alerts.items a x refl within here ls j l own inside at),
+  slots-within d sealed _ l.done (line-done d sealed d.alerts.items a x refl within here ls j l own inside at),
+)
 
 module _ (old mid new : Pieces) where
   -- some, and then others
@@ -50,7 +79,7 @@ module _ (old mid new : Pieces) where
     adds-more f first second =
         subst (λ qs. AddsCodes qs old new) (sym (ap (flat_map f) next ∙ flat_map-append f (take i xs) (x ∷ []) ∙ ap (λ l. flat_map f (take i xs) ++ l) (append-nil (f x)))) (adds-both (flat_map f (take i xs)) (f x) first second)
 
--- those of the inputs of the phase
+-- the codes of the inputs of the phase
 pub adds-six : (p : PhaseTerms) (a b c d e f g : Pieces) → AddsCodes (placed_of p.gnd ∷ []) a b → AddsCodes (placed_of p.run ∷ []) b c → AddsCodes (placed_of p.tp ∷ []) c d
     → AddsCodes (placed_of p.fast ∷ []) d e → AddsCodes (placed_of p.high ∷ []) e f → AddsCodes (placed_of p.low ∷ []) f g → AddsCodes (phase_places p) a g
 adds-six p a b c d e f g gnd run tp fast high low =
@@ -59,7 +88,7 @@ adds-six p a b c d e f g gnd run tp fast high low =
     (adds-both a d e (placed_of p.gnd ∷ placed_of p.run ∷ placed_of p.tp ∷ []) (placed_of p.fast ∷ [])
     (adds-both a c d (placed_of p.gnd ∷ placed_of p.run ∷ []) (placed_of p.tp ∷ []) (adds-both a b c (placed_of p.gnd ∷ []) (placed_of p.run ∷ []) gnd run) tp) fast) high) low
 
--- those of the whole book
+-- the codes of the whole book
 pub adds-all : (d : Draft) → IsSealed d → (a b c e f : Pieces) → AddsCodes (phase_places d.phase) a b → AddsCodes (map when_place d.alerts.items) b c
     → AddsCodes (flat_map lines_places d.alerts.items) c e → AddsCodes (map memo_place d.memos.items) e f → AddsCodes (places (the_book d)) a f
 unfolding draft_places

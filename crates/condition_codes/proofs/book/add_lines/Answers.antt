@@ -1,23 +1,20 @@
-use Rattle.std.proofs.Common.{[], ◌∷◌, refl}
+use Rattle.std.proofs.Common.{[], ◌∷◌, arith}
 use Rattle.book_model.specs.View.{placed_of}
 use Rattle.book_model.specs.Slots.{line_places}
-use Rattle.book_model.proofs.ConditionPlaces.{line-when, line-done}
-use Rattle.condition_codes.proofs.Walking.{slots-within, adds-both, adds-more}
+use Rattle.condition_codes.proofs.Walking.{line-fits, adds-both, adds-more}
 use Rattle.condition_codes.proofs.book.add_lines.Goals as goal
 
 pub add-requires : goal.add-requires
 add-requires c =
-    let d = c.args.book.now in
-    slots-within d c.sealed.ensures _ c.line-item.result.when
-    (line-when d c.sealed.ensures d.alerts.items c.requires.0 c.args.alert.now refl c.requires.1 c.requires.2 c.as_slice-lines.result.now c.loop-line.line-index c.line-item.result
-    c.as_slice-lines.ensures.value c.loop-line-test.true c.line-item.is)
+    let fit = line-fits c.args.book.now c.sealed.ensures c.requires.0 c.args.alert.now c.requires.1 c.requires.2 c.as_slice-lines.result.now c.loop-line.line-index c.line-item.result
+    c.as_slice-lines.ensures.value c.loop-line-test.true c.line-item.is in
+    omega (arith, fit.0, fit.1)
 
 pub add-requires-in-loop-line : goal.add-requires-in-loop-line
 add-requires-in-loop-line c =
-    let d = c.args.book.now in
-    slots-within d c.sealed.ensures _ c.line-item.result.done
-    (line-done d c.sealed.ensures d.alerts.items c.requires.0 c.args.alert.now refl c.requires.1 c.requires.2 c.as_slice-lines.result.now c.loop-line.line-index c.line-item.result
-    c.as_slice-lines.ensures.value c.loop-line-test.true c.line-item.is)
+    let fit = line-fits c.args.book.now c.sealed.ensures c.requires.0 c.args.alert.now c.requires.1 c.requires.2 c.as_slice-lines.result.now c.loop-line.line-index c.line-item.result
+    c.as_slice-lines.ensures.value c.loop-line-test.true c.line-item.is in
+    omega (arith, fit.0, fit.1)
 
 pub loop-line-preserved : goal.loop-line-preserved
 loop-line-preserved c =

@@ -1,38 +1,44 @@
-use Rattle.std.proofs.Common.{refl, subst}
+use Rattle.std.proofs.Common.{subst, arith}
 use Rattle.book_model.specs.Slots.{phase_places}
 use Rattle.condition_codes.specs.Pieces.{AddsCodes}
-use Rattle.condition_codes.proofs.Walking.{on-ok, input-within, adds-six}
+use Rattle.condition_codes.proofs.Walking.{on-ok, inputs-fit, adds-six}
 use Rattle.condition_codes.proofs.book.add_phase.Goals as goal
 
 pub add-requires : goal.add-requires
 add-requires c =
     let terms = c.phase_terms-terms in
-    input-within c.args.book.now terms.ensures.sealed terms.result.now terms.ensures.value 0 terms.result.now.gnd refl
+    let fit = inputs-fit c.args.book.now terms.ensures.sealed terms.result.now terms.ensures.value in
+    omega (arith, fit.gnd, fit.run, fit.tp, fit.fast, fit.high, fit.low)
 
 pub add-requires-2 : goal.add-requires-2
 add-requires-2 c =
     let terms = c.phase_terms-terms in
-    input-within c.args.book.now terms.ensures.sealed terms.result.now terms.ensures.value 1 terms.result.now.run refl
+    let fit = inputs-fit c.args.book.now terms.ensures.sealed terms.result.now terms.ensures.value in
+    omega (arith, fit.gnd, fit.run, fit.tp, fit.fast, fit.high, fit.low)
 
 pub add-requires-3 : goal.add-requires-3
 add-requires-3 c =
     let terms = c.phase_terms-terms in
-    input-within c.args.book.now terms.ensures.sealed terms.result.now terms.ensures.value 2 terms.result.now.tp refl
+    let fit = inputs-fit c.args.book.now terms.ensures.sealed terms.result.now terms.ensures.value in
+    omega (arith, fit.gnd, fit.run, fit.tp, fit.fast, fit.high, fit.low)
 
 pub add-requires-4 : goal.add-requires-4
 add-requires-4 c =
     let terms = c.phase_terms-terms in
-    input-within c.args.book.now terms.ensures.sealed terms.result.now terms.ensures.value 3 terms.result.now.fast refl
+    let fit = inputs-fit c.args.book.now terms.ensures.sealed terms.result.now terms.ensures.value in
+    omega (arith, fit.gnd, fit.run, fit.tp, fit.fast, fit.high, fit.low)
 
 pub add-requires-5 : goal.add-requires-5
 add-requires-5 c =
     let terms = c.phase_terms-terms in
-    input-within c.args.book.now terms.ensures.sealed terms.result.now terms.ensures.value 4 terms.result.now.high refl
+    let fit = inputs-fit c.args.book.now terms.ensures.sealed terms.result.now terms.ensures.value in
+    omega (arith, fit.gnd, fit.run, fit.tp, fit.fast, fit.high, fit.low)
 
 pub add-requires-6 : goal.add-requires-6
 add-requires-6 c =
     let terms = c.phase_terms-terms in
-    input-within c.args.book.now terms.ensures.sealed terms.result.now terms.ensures.value 5 terms.result.now.low refl
+    let fit = inputs-fit c.args.book.now terms.ensures.sealed terms.result.now terms.ensures.value in
+    omega (arith, fit.gnd, fit.run, fit.tp, fit.fast, fit.high, fit.low)
 
 pub returns : goal.returns
 returns c =
