@@ -21,7 +21,7 @@ pub held-long : (c : Cockpit) (k : ℕ) (ends enters : Bool) → ends ≡ (histo
 unfolding long_recall
 held-long c k ends enters is same = is ∙ ap (λ b. historically_within 29 c.rcl_held k || b) same
 
-some-not : (o : Option ℕ) → is_some o ≡ not (is_none o)
+pub some-not : (o : Option ℕ) → is_some o ≡ not (is_none o)
 some-not None = refl
 some-not (Some x) = refl
 
@@ -37,6 +37,18 @@ module _ (b : Book) (c : Cockpit) (k : ℕ) (ups waits : List Bool) (keys : Keys
       stepped-stands b c k ups waits keys enters ends old new of_book sees up_long waits_long restoring stands step
       (ended.moments ∙ ap (λ n. n + 1) moments) (ended.target ∙ first) (ended.held_since ∙ is_held)
       (presses c.rcl (shows_nothing c) k (moments ∙ stands.moments) (ap (λ (y : Actions). y.rcl) does ∙ sees.rcl) quiet (press ∙ stands.quiet_press))
+
+-- where the marks and the first that is shown stay, and the target becomes that
+pub rested-fits : (b : Book) (old new : CrewMarks) → MarksFit b old → new.sets ≡ old.sets → new.first ≡ old.first → new.target ≡ old.first → MarksFit b new
+rested-fits b old new fits same first aims = record {
+  many = subst (λ (s : MarkSets). AreMany s (length b.alerts)) (sym same) fits.many;
+  target = subst (λ o. IfSome o (λ a. a < length b.alerts)) (sym aims) (first-fits b old fits);
+  first = first ∙ fits.first ∙ ap (λ (s : MarkSets). find (λ a. get_or s.shown a false) (order b)) (sym same);
+  hidden =
+      λ a cleared recalled.
+      ap (λ (s : MarkSets). get_or s.shown a false) same
+      ∙ fits.hidden a (ap (λ (s : MarkSets). get_or s.cleared a false) (sym same) ∙ cleared) (ap (λ (s : MarkSets). get_or s.recalled a false) (sym same) ∙ recalled);
+}
 
 -- ---- where each alert is up and waits as in the moment before
 
@@ -70,17 +82,7 @@ module _ (b : Book) (ups waits : List Bool) (x : Actions) (old new : CrewMarks) 
 
   fits-by : (t : Bool) → acts x ≡ t → new.target ≡ old.first → MarksFit b new
   fits-by true on aims = stepped-fits b ups waits x old new fits aims (record { many = many; marks = walked.marks on; first = walked.first on })
-  fits-by false off aims =
-      let same = (walked.rests off).0 in
-      record {
-        many = many;
-        target = subst (λ o. IfSome o (λ a. a < length b.alerts)) (sym aims) (first-fits b old fits);
-        first = (walked.rests off).1 ∙ fits.first ∙ ap (λ (s : MarkSets). find (λ a. get_or s.shown a false) (order b)) (sym same);
-        hidden =
-            λ a cleared recalled.
-            ap (λ (s : MarkSets). get_or s.shown a false) same
-            ∙ fits.hidden a (ap (λ (s : MarkSets). get_or s.cleared a false) (sym same) ∙ cleared) (ap (λ (s : MarkSets). get_or s.recalled a false) (sym same) ∙ recalled);
-      }
+  fits-by false off aims = rested-fits b old new fits (walked.rests off).0 (walked.rests off).1 aims
 
   pub walked-fits : new.target ≡ old.first → MarksFit b new
   walked-fits = fits-by (acts x) refl

@@ -7,3 +7,4 @@ pub mod Crews
 pub mod Stepping
 pub mod Resting
 pub mod Ending
+pub mod Quiet

@@ -219,6 +219,25 @@ module _ (b : Book) (ups waits : List Bool) (x : Actions) (old : CrewMarks) (set
       ∙ recalled-shape after.cancelled (get_or ups a false) (x.clr && is_alert a old.first) (is_cleared old a) x.rcl (get_or waits a false) (is_recalled old a) pressed waits_now
       ∙ ap (λ (z : Mark). not (x.clr && is_alert a old.first) && not z.cancelled) (sym m)
 
+-- where each mark stands for one moment more
+module _ (b : Book) (c : Cockpit) (k : ℕ) (new : CrewMarks) (of_book : IsCrewOf b c)
+    (each : (a : ℕ) → a < length b.alerts → MarkStands c a (suc k) (mark_at new.sets a)) (first : new.first ≡ find (is_shown new) (order b)) where
+  pub first-ahead : new.first ≡ crew.target (shown c) (suc k)
+  unfolding previous
+  first-ahead =
+      first
+      ∙ find-agree (is_shown new) (λ a. crew.is_shown c (shown c) a k) (order b)
+      (λ a h. (each a (let w : ltb a (length b.alerts) ≡ true = sym (mem-order b a) ∙ h in omega (arith, ltb-true a (length b.alerts) w))).shown)
+      ∙ sym (target-next c k ∙ ap (find (λ a. crew.is_shown c (shown c) a k)) of_book.order)
+
+  pub quiet-ahead : (r : Bool) → is_some new.first ≡ not r → r ≡ shows_nothing c k
+  quiet-ahead r h = not-same r (shows_nothing c k) (sym h ∙ ap is_some first-ahead ∙ target-some c k) where
+    not-same : (x y : Bool) → not x ≡ not y → x ≡ y
+    not-same true true e = refl
+    not-same false false e = refl
+    not-same true false e = cc
+    not-same false true e = cc
+
 module _ (b : Book) (c : Cockpit) (k : ℕ) (ups waits : List Bool) (keys : Keys) (enters ends : Bool) (old new : CrewMarks)
     (of_book : IsCrewOf b c) (sees : SeesCrew c k ups waits keys enters) (up_long : length ups ≡ length b.alerts) (waits_long : length waits ≡ length b.alerts)
     (restoring : ends ≡ (long_recall c k || c.enters_one k)) (stands : MarksStand b c k old) (step : IsStepped b ups waits (actions_of keys ends) old new.sets new.first) where
@@ -234,21 +253,11 @@ module _ (b : Book) (c : Cockpit) (k : ℕ) (ups waits : List Bool) (keys : Keys
       })
       (record { clr = sees.clr; rcl = sees.rcl; emer = sees.emer; restores = restoring }) (stands.marks a within))
 
-  pub first-next : new.first ≡ crew.target (shown c) (suc k)
-  unfolding previous
-  first-next =
-      step.first
-      ∙ find-agree (is_shown new) (λ a. crew.is_shown c (shown c) a k) (order b)
-      (λ a h. (each-stands a (let w : ltb a (length b.alerts) ≡ true = sym (mem-order b a) ∙ h in omega (arith, ltb-true a (length b.alerts) w))).shown)
-      ∙ sym (target-next c k ∙ ap (find (λ a. crew.is_shown c (shown c) a k)) of_book.order)
+  first-next : new.first ≡ crew.target (shown c) (suc k)
+  first-next = first-ahead b c k new of_book each-stands step.first
 
   pub quiet-now : (r : Bool) → is_some new.first ≡ not r → r ≡ shows_nothing c k
-  quiet-now r h = not-same r (shows_nothing c k) (sym h ∙ ap is_some first-next ∙ target-some c k) where
-    not-same : (x y : Bool) → not x ≡ not y → x ≡ y
-    not-same true true e = refl
-    not-same false false e = refl
-    not-same true false e = cc
-    not-same false true e = cc
+  quiet-now = quiet-ahead b c k new of_book each-stands step.first
 
   pub stepped-stands : new.moments ≡ old.moments + 1 → new.target ≡ old.first → new.held_since ≡ running_since c.rcl_held (suc k) → new.quiet_press ≡ last_since c.rcl (shows_nothing c) k
       → MarksStand b c (suc k) new

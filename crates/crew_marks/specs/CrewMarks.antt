@@ -1,5 +1,6 @@
 -- What is kept of the crew's actions, as plain data.
-use Rattle.std.specs.Prelude.{◌≡◌, ℕ, ◌+◌, ◌^◌, ◌<◌, Bool, false, ◌&&◌, Option, get_or}
+use Rattle.std.specs.Prelude.{◌≡◌, ℕ, ◌+◌, ◌-◌, ◌^◌, ◌<◌, Bool, false, ◌&&◌, nat_le, Option, get_or}
+use Rattle.std.specs.Option.{option_map_or}
 use Rattle.ecam_spec.specs.declared.kinds.Key.TheVariants.{Clr}
 use Rattle.ecam_spec.specs.Crew.{is_alert}
 use Rattle.ecam_kinds.specs.declared.keys.Keys.{Keys}
@@ -41,6 +42,11 @@ is_shown m a = get_or m.sets.shown a false
 -- CLR strikes the alert in the next moment, where these are its keys
 abbrev pub strikes : CrewMarks → Keys → ℕ → Bool
 strikes m keys a = is_pressed keys Clr && is_alert a m.first
+
+-- NORMAL stands after so many moments: it stands for thirty moments from the last press of RCL on since which nothing was
+-- shown, that of the press among them
+abbrev pub stands_normal : Option ℕ → ℕ → Bool
+stands_normal press moments = option_map_or (λ j. nat_le (moments - j) 30) press false
 
 -- a moment ends that found this, and before whose end RCL was held since then
 pub record EndsMoment (found : Walked) (held : Option ℕ) (old new : CrewMarks) : Type 0 where

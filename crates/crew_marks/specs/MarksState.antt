@@ -34,6 +34,14 @@ pub record AreStill (b : Book) (c : Cockpit) (k : ℕ) : Type 0 where
   pub up : (a : ℕ) → a < length b.alerts → c.up a k ≡ previous (c.up a) k
   pub waiting : (a : ℕ) → a < length b.alerts → c.waiting a k ≡ previous (c.waiting a) k
 
+-- in moment k the crew presses nothing that acts on an alert, RCL isn't held, and phase 1 doesn't start
+pub record NothingActs (c : Cockpit) (k : ℕ) : Type 0 where
+  pub clr : c.clr k ≡ false
+  pub rcl : c.rcl k ≡ false
+  pub emer : c.emer k ≡ false
+  pub rcl_held : c.rcl_held k ≡ false
+  pub enters_one : c.enters_one k ≡ false
+
 -- the marks are those of the book: there is one for each alert, the target is an alert, the first shown is the first in
 -- order, and an alert that is cleared and not recalled isn't shown
 pub record MarksFit (b : Book) (m : CrewMarks) : Type 0 where

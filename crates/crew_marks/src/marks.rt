@@ -1,13 +1,13 @@
 // The marks of a book's alerts, stepped moment by moment.
-ghost use Rattle.std.specs.Prelude.{◌≡◌, ◌↔◌, ℕ, suc, ◌+◌, ◌<◌, true, false, not, ◌&&◌, length, slice_index_or, IfOk, IfSome, is_none};
+ghost use Rattle.std.specs.Prelude.{◌≡◌, ◌↔◌, ℕ, suc, ◌+◌, ◌<◌, true, false, not, ◌&&◌, length, slice_index_or, IfOk, IfSome, None, is_none, if◌then◌else◌};
 ghost use Rattle.ecam_spec.specs.declared.kinds.Key.TheVariants.{Rcl};
 ghost use Rattle.ecam_spec.specs.Book as plain;
 ghost use Rattle.ecam_spec.specs.Past.{Signal, previous, previously, last_since};
 ghost use Rattle.ecam_spec.specs.Crew.{Cockpit, normal};
 ghost use Rattle.ecam_kinds.specs.KeyState.{is_pressed};
 ghost use Rattle.book_model.specs.Sealed.{the_book};
-ghost use Rattle.crew_marks.specs.CrewMarks.{CanGoOn, EndsMoment, is_shown, is_cancelled, strikes};
-ghost use Rattle.crew_marks.specs.MarksState.{IsCrewOf, SeesCrew, AreStill, MarksFit, MarksStand, OnlyCleared};
+ghost use Rattle.crew_marks.specs.CrewMarks.{CanGoOn, EndsMoment, is_shown, is_cancelled, strikes, stands_normal};
+ghost use Rattle.crew_marks.specs.MarksState.{IsCrewOf, SeesCrew, AreStill, NothingActs, MarksFit, MarksStand, OnlyCleared};
 
 use crate::mark::actions_of;
 use crate::sets::Sets;
@@ -173,6 +173,26 @@ impl Marks {
         self.end_moment(walked, actions.rcl, held_since);
     }
 
+    /// Takes one moment more in which nothing acts: each alert is up and waits as in the moment before, CLR, RCL and EMER
+    /// CANC aren't pressed, RCL isn't held, and phase 1 doesn't start. All that is marked and shown stays so, the target
+    /// becomes the first alert that is shown, and NORMAL doesn't begin. It looks at no alert: its cost is a few writes.
+    pub fn rest(&mut self)
+        requires { CanGoOn self.old }
+        ensures fits { (b : plain.Book) → MarksFit b self.old → MarksFit b self.new }
+        ensures moments { self.new.moments ≡ self.old.moments + 1 }
+        ensures sets { self.new.sets ≡ self.old.sets }
+        ensures first { self.new.first ≡ self.old.first }
+        ensures changed { self.new.changed ≡ false }
+        ensures normal { stands_normal self.old.quiet_press self.old.moments ≡ false
+            → stands_normal self.new.quiet_press self.new.moments ≡ false }
+        ensures stands { (b : plain.Book) (c : Cockpit) (k : ℕ) → MarksFit b self.old
+            → IsCrewOf b c → NothingActs c k → AreStill b c k → MarksStand b c k self.old
+            → MarksStand b c (suc k) self.new }
+    {
+        let walked = Walked::unchanged(self.first);
+        self.end_moment(walked, false, None);
+    }
+
     // Ends the moment in which the marks became what they are.
     fn end_moment(&mut self, walked: Walked, rcl: bool, held_since: Option<u64>)
         requires { CanGoOn self.old }
@@ -180,6 +200,8 @@ impl Marks {
         ensures press { (p q : Signal) (k : ℕ) → self.old.moments ≡ k → rcl ≡ p k
             → is_none walked.first ≡ q k → self.old.quiet_press ≡ previously (last_since p q) k
             → self.new.quiet_press ≡ previously (last_since p q) (suc k) }
+        ensures kept { rcl ≡ false → self.new.quiet_press
+            ≡ (if is_none walked.first then self.old.quiet_press else None) }
     {
         self.target = self.first;
         self.first = walked.first;
@@ -239,7 +261,8 @@ impl Marks {
 
     /// Whether NORMAL stands: RCL was pressed in the last three seconds, and nothing is shown since.
     pub fn normal(&self) -> bool
-        ensures { (b : plain.Book) (c : Cockpit) (k : ℕ) → MarksStand b c k self.now
+        ensures value { result ≡ stands_normal self.now.quiet_press self.now.moments }
+        ensures answer { (b : plain.Book) (c : Cockpit) (k : ℕ) → MarksStand b c k self.now
             → result ≡ previous (normal c) k }
     {
         is_normal(self.quiet_press, self.moments)

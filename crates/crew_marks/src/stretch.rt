@@ -1,7 +1,8 @@
 // Moments that are kept of RCL: since when it is held, and its last press since which nothing was shown.
-ghost use Rattle.std.specs.Prelude.{◌≡◌, ◌||◌, ℕ, suc};
+ghost use Rattle.std.specs.Prelude.{◌≡◌, ◌||◌, ℕ, suc, false, None, if◌then◌else◌};
 ghost use Rattle.ecam_spec.specs.Past.{Signal, previous, historically_within, running_since, last_since, previously};
 ghost use Rattle.ecam_spec.specs.Crew.{Cockpit, shows_nothing, normal};
+ghost use Rattle.crew_marks.specs.CrewMarks.{stands_normal};
 
 /// For how many moments after its first RCL is held until the recall is a long one: it is three seconds then.
 const LONG_RECALL: u64 = 29;
@@ -39,9 +40,10 @@ pub fn restores(held_since: Option<u64>, now: u64, enters_one: bool) -> bool
 
 /// The last press since which it was quiet, by that of the moment before `now`.
 pub fn press_after(was: Option<u64>, pressed: bool, quiet: bool, now: u64) -> Option<u64>
-    ensures { (p q : Signal) (k : ℕ) → now ≡ k → pressed ≡ p k → quiet ≡ q k
+    ensures press { (p q : Signal) (k : ℕ) → now ≡ k → pressed ≡ p k → quiet ≡ q k
         → was ≡ previously (last_since p q) k
         → result ≡ previously (last_since p q) (suc k) }
+    ensures kept { pressed ≡ false → result ≡ (if quiet then was else None) }
 {
     if !quiet {
         None
@@ -54,7 +56,8 @@ pub fn press_after(was: Option<u64>, pressed: bool, quiet: bool, now: u64) -> Op
 
 /// Whether NORMAL stands in the last of so many moments.
 pub fn is_normal(press: Option<u64>, moments: u64) -> bool
-    ensures { (c : Cockpit) (k : ℕ) → moments ≡ k
+    ensures value { result ≡ stands_normal press moments }
+    ensures answer { (c : Cockpit) (k : ℕ) → moments ≡ k
         → press ≡ previously (last_since c.rcl (shows_nothing c)) k
         → result ≡ previous (normal c) k }
 {

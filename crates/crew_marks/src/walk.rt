@@ -20,6 +20,19 @@ pub struct Walked {
     pub changed: bool,
 }
 
+impl Walked {
+    /// No mark changed, and this is still the first alert that is shown.
+    pub fn unchanged(first: Option<u32>) -> Walked
+        ensures first { result.first ≡ first }
+        ensures changed { result.changed ≡ false }
+    {
+        Walked {
+            first,
+            changed: false,
+        }
+    }
+}
+
 /// Steps the mark of each alert by one moment, where the target is shown before it. Its cost is one look at each alert, a
 /// few more at those that are up, wait or are marked, and a write for each mark that changes.
 pub fn walk(
@@ -84,10 +97,7 @@ pub fn walk_still(
     if actions.act() {
         return walk(sets, book, up, waiting, first, actions);
     }
-    Walked {
-        first,
-        changed: false,
-    }
+    Walked::unchanged(first)
 }
 
 // Steps the mark of one alert, and answers whether that changed it.
