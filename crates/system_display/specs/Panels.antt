@@ -40,3 +40,11 @@ pub record AreInputs (p : Panel) (k : ℕ) (i : Inputs) : Type 0 where
   pub sts : p.sts k ≡ i.sts
   pub clr : p.clr k ≡ i.clr
   pub cancels : p.cancels k ≡ i.cancels
+
+-- in moment k nothing is selected: ALL isn't held, and none of the keys that select is pressed
+pub record SelectsNothing (p : Panel) (k : ℕ) : Type 0 where
+  pub all_held : p.all_held k ≡ false
+  pub page_called : p.page_called k ≡ None
+  pub sts : p.sts k ≡ false
+  pub clr : p.clr k ≡ false
+  pub cancels : p.cancels k ≡ false

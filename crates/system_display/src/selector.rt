@@ -4,7 +4,7 @@ ghost use Rattle.ecam_spec.specs.Book as plain;
 ghost use Rattle.ecam_spec.specs.Past.{Signal, running_since};
 ghost use Rattle.ecam_spec.specs.Selection.{Panel};
 ghost use Rattle.book_model.specs.Sealed.{the_book};
-ghost use Rattle.system_display.specs.Panels.{AreInputs, CallsItsPages, Shows};
+ghost use Rattle.system_display.specs.Panels.{AreInputs, CallsItsPages, SelectsNothing, Shows};
 ghost use Rattle.system_display.specs.Selecting.{Stands, SelectorFits, CanGoOn, IsChoiceOf, IsKept};
 ghost use Rattle.ecam_spec.specs.Runs.{choice_before};
 
@@ -55,6 +55,22 @@ impl Selector {
         ensures moments { self.new.moments ≡ self.old.moments + 1 }
     {
         self.take(&Inputs::of(book, keys, target));
+    }
+
+    /// Takes one moment more in which nothing is selected: ALL isn't held, no key of a page, STS or CLR is pressed, and EMER
+    /// CANC calls off no caution. The choice stays as it is. The cost is three writes.
+    pub fn rest(&mut self)
+        requires { CanGoOn self.old }
+        ensures fits { (b : plain.Book) → SelectorFits b self.old → SelectorFits b self.new }
+        ensures moments { self.new.moments ≡ self.old.moments + 1 }
+        ensures selection { self.new.selection ≡ self.old.selection }
+        ensures changed { self.new.changed ≡ false }
+        ensures stands { (p : Panel) (k : ℕ) → SelectsNothing p k → Stands p k self.old
+            → Stands p (suc k) self.new }
+    {
+        self.moments += 1;
+        self.all_since = None;
+        self.changed = false;
     }
 
     fn take(&mut self, inputs: &Inputs)
