@@ -7,3 +7,4 @@ pub mod Idling
 pub mod Walking
 pub mod StandsOn
 pub mod Resting
+pub mod Steady

@@ -1,5 +1,5 @@
 -- What is kept after some moments, by the signals.
-use Rattle.std.specs.Prelude.{◌≡◌, ◌≢◌, ◌↔◌, true, is_some, ℕ, zero, suc, ◌^◌, ◌<◌, Bool, false, List, length, filter, get_or}
+use Rattle.std.specs.Prelude.{◌≡◌, ◌≢◌, ◌↔◌, true, is_some, ℕ, zero, suc, ◌^◌, ◌<◌, ◌≤◌, Bool, false, List, length, filter, get_or}
 use Rattle.std.specs.Box.{boxed_slice_items}
 use Rattle.ecam_spec.specs.declared.kinds.Key.TheVariants.{Mw, Mc, Emer}
 use Rattle.ecam_spec.specs.declared.kinds.Sound.TheVariants.{Quiet}
@@ -65,6 +65,10 @@ pub record AttentionStands (b : Book) (a : lamps.Attention) (k : ℕ) (t : Atten
 -- the lights and the sound by what it keeps
 abbrev pub lights_of : Attention → Lights
 lights_of t = record { warn = is_some t.calls.warning; caut = t.calls.caution; sound = sounding t.calls t.moments }
+
+-- as long as the calls stay, so does the sound: there is no chime that ends by itself
+abbrev pub IsSteady : Attention → Type 0
+IsSteady t = (j : ℕ) → t.moments ≤ j → sounding t.calls j ≡ sounding t.calls t.moments
 
 -- it tells whether they are other than they were
 pub record TellsChange (old new : Attention) : Type 0 where

@@ -1,5 +1,5 @@
 // Which alerts call for attention in a moment, as far as the lights and the sound go by it.
-ghost use Rattle.std.specs.Prelude.{◌≡◌, ℕ, suc, ◌+◌, ◌-◌, List, ◌∷◌, [], ◌++◌, ◌&&◌, ◌||◌, nat_le, Some, None, if◌then◌else◌};
+ghost use Rattle.std.specs.Prelude.{◌≡◌, ℕ, suc, ◌+◌, ◌-◌, List, ◌∷◌, [], ◌++◌, ◌&&◌, ◌||◌, ◌≤◌, true, nat_le, Some, None, if◌then◌else◌};
 ghost use Rattle.std.specs.Option.{option_or};
 ghost use Rattle.ecam_spec.specs.declared.kinds.Sound.TheVariants.{Chime, Quiet};
 ghost use Rattle.ecam_spec.specs.Levels.{is_three, is_two};
@@ -98,6 +98,14 @@ impl Calls {
             Some(sound) => sound,
             None => self.chime_sound(moments),
         }
+    }
+
+    /// Whether the sound after so many moments and after any more is the same, if these stay the calls: a warning sounds, or
+    /// no chime.
+    pub fn are_steady(self, moments: u64) -> bool
+        ensures { result ≡ true → (j : ℕ) → moments ≤ j → sounding self j ≡ sounding self moments }
+    {
+        self.warning.is_some() || self.chime_sound(moments) == Sound::Quiet
     }
 
     fn chime_sound(self, moments: u64) -> Sound

@@ -3,7 +3,7 @@ ghost use Rattle.std.specs.Prelude.{◌≡◌, ◌↔◌, ℕ, suc, ◌+◌, len
 ghost use Rattle.ecam_spec.specs.Book as plain;
 ghost use Rattle.ecam_spec.specs.Lamps as lamps;
 ghost use Rattle.book_model.specs.Sealed.{the_book};
-ghost use Rattle.attention.specs.State.{AttentionFits, CanGoOn, AreOfBook, Brings, AreStill, NothingComes, AttentionStands, lights_after, lights_of, TellsChange};
+ghost use Rattle.attention.specs.State.{AttentionFits, CanGoOn, AreOfBook, Brings, AreStill, NothingComes, AttentionStands, IsSteady, lights_after, lights_of, TellsChange};
 
 use crate::calls::Calls;
 use crate::moment::{Moment, Presses};
@@ -122,6 +122,30 @@ impl Attention {
             → AttentionStands b a (suc k) self.old → AttentionStands b a (suc (suc k)) self.new }
     {
         self.hear(self.calls);
+    }
+
+    /// Whether no chime can end by itself: a warning sounds, or nothing does. As long as nothing comes the sound then stays
+    /// as it is. Its cost is a few comparisons.
+    pub fn is_steady(&self) -> bool
+        ensures { result ≡ true → IsSteady self.now }
+    {
+        self.calls.are_steady(self.moments)
+    }
+
+    /// Takes one moment more in which nothing comes, like `rest`, where no chime can end by itself. Its cost is two writes:
+    /// the lights and the sound stay as they are, and so does that no chime can end by itself.
+    pub fn pass(&mut self)
+        requires goes_on { CanGoOn self.old }
+        requires steady { IsSteady self.old }
+        ensures fits { (b : plain.Book) → AttentionFits b self.old → AttentionFits b self.new }
+        ensures moments { self.new.moments ≡ self.old.moments + 1 }
+        ensures changed { self.new.changed ≡ false }
+        ensures steady { IsSteady self.new }
+        ensures stands { (b : plain.Book) (a : lamps.Attention) (k : ℕ) → NothingComes a k
+            → AttentionStands b a (suc k) self.old → AttentionStands b a (suc (suc k)) self.new }
+    {
+        self.moments += 1;
+        self.changed = false; // the calls stay, and so does the sound
     }
 
     /// Takes one moment more like `step`, where each alert is up and shown as in the moment before. It looks at no alert

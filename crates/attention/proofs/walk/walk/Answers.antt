@@ -1,4 +1,4 @@
-use Rattle.std.proofs.Common.{◌≡◌, ℕ, suc, false, length, get_or, refl, sym, ◌∙◌, ap, arith}
+use Rattle.std.proofs.Common.{◌≡◌, ℕ, suc, false, length, get_or, sym, ◌∙◌, ap, arith}
 use Rattle.ecam_spec.specs.Lamps as lamps
 use Rattle.attention.specs.Watches.{watch_after}
 use Rattle.attention.proofs.Walking.{half-start, half-read, half-more, half-idle, calls-shown, calls-hidden, all-walked, all-called}
