@@ -13,7 +13,7 @@ use Rattle.ecam_spec.proofs.PastWithin.{once_from-last}
 use Rattle.ecam_spec.proofs.ValueAgree.{source_value-below}
 use Rattle.param_table.specs.declared.received.Received.{Received}
 use Rattle.param_table.specs.TableState.{SourceStands, source_before}
-use Rattle.param_table.specs.HeldValues.{given, set_back}
+use Rattle.param_table.specs.HeldValues.{given, kept_word, set_back}
 use Rattle.param_table.proofs.Moments.{word_of-push, last-push, word_of-moment, last-moment, word_of-start, last-start}
 
 -- for how many moments more a word is fresh, by the clock, and by the moment in which it came
@@ -70,7 +70,7 @@ module _ (kind : Kind) (stale : ℕ) (s : Source) where
 
   pub word_stands : (old new : ℕ → List BusWord) (k clock : ℕ) (w : BusWord) (received : Option Received) → OneMore old new k w
       → SourceStands kind stale s old k clock received
-      → SourceStands kind stale s new k clock (cond (takes s w) (Some (record { value = reading kind s w.bits; end = clock + stale + 1 })) received)
+      → SourceStands kind stale s new k clock (cond (takes s w) (Some (kept_word kind stale s clock w.bits)) received)
   word_stands old new k clock w received on stands = elim (cases_Bool (takes s w)) [
     | inl so ↦ rw so (record {
       says = sym (ap (says_of kind s) (word_of-push s old new w k on ∙ ap (λ b. option_or (cond b (Some w.bits) None) (word_of s old k)) so));

@@ -1,8 +1,9 @@
 -- A table of a book as a whole, step by step.
-use Rattle.std.proofs.Common.{◌≡◌, ℕ, zero, suc, ◌+◌, ◌-◌, ◌*◌, ◌/◌, ◌^◌, ◌<◌, ◌≤◌, true, List, [], ◌∷◌, false, length, map, get_or, slice_index, set, replicate, Option, Some, None, All, cond, refl, sym, ap, ◌∙◌, subst, arith, inl, inr}
-use Rattle.std.specs.Prelude.{IfSome, MatchOption, is_some}
+use Rattle.std.proofs.Common.{◌≡◌, ℕ, zero, suc, ◌+◌, ◌-◌, ◌*◌, ◌/◌, ◌^◌, ◌<◌, ◌≤◌, true, ltb, List, [], ◌∷◌, false, length, map, get_or, slice_index, set, replicate, Option, Some, None, All, cond, refl, sym, ap, ◌∙◌, subst, arith, inl, inr}
+use Rattle.std.specs.Prelude.{IfSome, MatchOption, is_some, option_map, ◌==◌}
 use Rattle.std.specs.Option.{option_map_or}
-use Rattle.std.proofs.lemmas.Bool.{cases_Bool, and_parts, false≢true, cases_order}
+use Rattle.std.proofs.lemmas.Bool.{cases_Bool, and_parts, eqb-true, false≢true, cases_order}
+use Rattle.std.proofs.lemmas.Option.{same_Some, none-some}
 use Rattle.std.proofs.lemmas.List.{get_or-set_same, get_or-set_other, length-map}
 use Rattle.ecam_spec.specs.Book.{Source, Parameter, Book}
 use Rattle.ecam_spec.specs.Draft.{book_of}
@@ -21,7 +22,7 @@ use Rattle.param_table.specs.declared.held.Held.{Held}
 use Rattle.param_table.specs.declared.table.Params.{Params}
 use Rattle.param_table.specs.Places.{parameter_with, source_at, listens, takes_at, last_below}
 use Rattle.param_table.specs.Rules.{IsRule, AreRules}
-use Rattle.param_table.specs.HeldValues.{given, entry, is_ending, set_back}
+use Rattle.param_table.specs.HeldValues.{given, kept_word, entry, is_ending, is_repeated, repeated, set_back}
 use Rattle.param_table.specs.HeldState.{AreDue, Renews, WillLook}
 use Rattle.param_table.specs.TableState.{SourceStands, IsHeld, ParamsFit, ParamsStand, IsValueOf}
 use Rattle.param_table.proofs.Sources.{not_even}
@@ -37,8 +38,8 @@ unfolding book_of
 book_sound d sealed = sealed.sound.parameters
 
 -- nothing is held
-pub held_none : (params : List Parameter) (received : List (Option Received)) (n q : ℕ) → received ≡ replicate n None → IfSome (get_or received q None) (IsHeld params q)
-held_none params received n q blank = subst (λ o. IfSome o (IsHeld params q)) (sym (ap (λ l. get_or l q None) blank ∙ none_replicate n q)) tt
+pub held_none : (params : List Parameter) (clock : ℕ) (received : List (Option Received)) (n q : ℕ) → received ≡ replicate n None → IfSome (get_or received q None) (IsHeld params clock q)
+held_none params clock received n q blank = subst (λ o. IfSome o (IsHeld params clock q)) (sym (ap (λ l. get_or l q None) blank ∙ none_replicate n q)) tt
 
 -- before any word
 pub start : (b : Book) (words : ℕ → List BusWord) (p : Params) (n : ℕ) → ParamsFit b p → words 0 ≡ [] → p.held.received.items.items ≡ replicate n None
@@ -60,15 +61,41 @@ get_or-set_back [] q = refl
 get_or-set_back (r ∷ rs) zero = refl
 get_or-set_back (r ∷ rs) (suc q) = get_or-set_back rs q
 
-set_back_held : (params : List Parameter) (q : ℕ) (received : Option Received) → IfSome received (IsHeld params q) → IfSome (set_back received) (IsHeld params q)
+set_back_held : (params : List Parameter) (q : ℕ) (received : Option Received) → IfSome received (IsHeld params (2 ^ 32 - 1) q) → IfSome (set_back received) (IsHeld params (2 ^ 31 - 1) q)
 set_back_held params q None held = tt
-set_back_held params q (Some r) held = record { source = held.source; bound = held.bound }
+set_back_held params q (Some r) held = record {
+  source = held.source;
+  there = held.there;
+  sdi = held.sdi;
+  value = held.value;
+  stale = held.stale;
+  bound = held.bound;
+  limit = omega (arith, held.limit);
+}
+
+-- and when a moment begins
+pub later_held : (params : List Parameter) (clock q : ℕ) (received : Option Received) → IfSome received (IsHeld params clock q) → IfSome received (IsHeld params (clock + 1) q)
+later_held params clock q None held = tt
+later_held params clock q (Some r) held = record {
+  source = held.source;
+  there = held.there;
+  sdi = held.sdi;
+  value = held.value;
+  stale = held.stale;
+  bound = held.bound;
+  limit = omega (arith, held.limit);
+}
+
+-- no word is fresh for longer than if it came now
+pub held_limit : (params : List Parameter) (clock q : ℕ) (received : Option Received) → IfSome received (IsHeld params clock q) → IfSome received (λ r. r.end ≤ clock + r.stale + 1)
+held_limit params clock q None held = tt
+held_limit params clock q (Some r) held = held.limit
 
 -- the places fit when the clock is set back
 pub set_back_fits : (params : List Parameter) (q : ℕ) (received new : List (Option Received)) → new ≡ map set_back received
-    → IfSome (get_or received q None) (IsHeld params q) → IfSome (get_or new q None) (IsHeld params q)
+    → IfSome (get_or received q None) (IsHeld params (2 ^ 32 - 1) q) → IfSome (get_or new q None) (IsHeld params (2 ^ 31 - 1) q)
 set_back_fits params q received new same held =
-    subst (λ o. IfSome o (IsHeld params q)) (sym (ap (λ l. get_or l q None) same ∙ get_or-set_back received q)) (set_back_held params q (get_or received q None) held)
+    subst (λ o. IfSome o (IsHeld params (2 ^ 31 - 1) q)) (sym (ap (λ l. get_or l q None) same ∙ get_or-set_back received q)) (set_back_held params q (get_or received q None) held)
 
 due_soon : (clock : ℕ) (received : Option Received) (key : ℕ) → key ≡ 0 → IfSome received (λ r. clock < r.end → key ≤ r.end)
 due_soon clock None key soon = tt
@@ -127,7 +154,7 @@ moment b words k old new fits none counts same due marks others stands = record 
 -- what a place takes by a word, where its source does
 entry_taken : (params : List Parameter) (q clock : ℕ) (w : BusWord) (s : Source) (rule : Option Rule) (o : Option Received) → IsRule params q rule → source_at params q ≡ Some s
     → cond (takes s w) (entry clock w.bits rule) o
-    ≡ cond (takes s w) (Some (record { value = reading (parameter_with params q).kind s w.bits; end = clock + (parameter_with params q).stale + 1 })) o
+    ≡ cond (takes s w) (Some (kept_word (parameter_with params q).kind (parameter_with params q).stale s clock w.bits)) o
 unfolding takes
 entry_taken params q clock w s None o none there = absurd (false≢true (sym (ap is_some none) ∙ ap is_some there))
 entry_taken params q clock w s (Some r) o rule there = elim (cases_Bool (takes s w)) [
@@ -155,7 +182,7 @@ word b before after k w old new fits on clock places renews others stands = reco
       let stale = (parameter_with b.parameters q).stale in
       let was = get_or old.held.received.items.items q None in
       let rule = get_or old.rules.items.items q None in
-      let taken : get_or new.held.received.items.items q None ≡ cond (takes s w) (Some (record { value = reading kind s w.bits; end = old.clock + stale + 1 })) was =
+      let taken : get_or new.held.received.items.items q None ≡ cond (takes s w) (Some (kept_word kind stale s old.clock w.bits)) was =
       places q ∙ ap (λ o. cond (option_map_or (λ t. takes t w) o false) (entry old.clock w.bits rule) was) there
       ∙ entry_taken b.parameters q old.clock w s rule was (stands.fits.rules.each q) there in
       rw (clock, taken) (word_stands kind stale s before after k old.clock w was on (stands.sources q s there));
@@ -187,28 +214,75 @@ unheard_word b before after k w p on none stands =
     (record { marks = λ q off. (off, refl); due = λ due. due }) (λ p none. refl) stands
 
 -- the places fit after one took a word
-pub entered_fits : (params : List Parameter) (place : ℕ) (r : Received) (old new : List (Option Received)) → new ≡ set old place (Some r) → place < length old
-    → IsHeld params place r → ((q : ℕ) → IfSome (get_or old q None) (IsHeld params q)) → (q : ℕ) → IfSome (get_or new q None) (IsHeld params q)
-entered_fits params place r old new is within here each q = elim (cases_order q place) [
+pub entered_fits : (params : List Parameter) (clock place : ℕ) (r : Received) (old new : List (Option Received)) → new ≡ set old place (Some r) → place < length old
+    → IsHeld params clock place r → ((q : ℕ) → IfSome (get_or old q None) (IsHeld params clock q)) → (q : ℕ) → IfSome (get_or new q None) (IsHeld params clock q)
+entered_fits params clock place r old new is within here each q = elim (cases_order q place) [
   | inl same ↦
-      subst (λ i. IfSome (get_or new i None) (IsHeld params i)) (sym same)
-      (subst (λ o. IfSome o (IsHeld params place)) (sym (ap (λ l. get_or l place None) is ∙ get_or-set_same old place (Some r) None within)) here)
-  | inr (inl less) ↦ subst (λ o. IfSome o (IsHeld params q)) (sym (ap (λ l. get_or l q None) is ∙ get_or-set_other old place q (Some r) None (omega arith))) (each q)
-  | inr (inr more) ↦ subst (λ o. IfSome o (IsHeld params q)) (sym (ap (λ l. get_or l q None) is ∙ get_or-set_other old place q (Some r) None (omega arith))) (each q)
+      subst (λ i. IfSome (get_or new i None) (IsHeld params clock i)) (sym same)
+      (subst (λ o. IfSome o (IsHeld params clock place)) (sym (ap (λ l. get_or l place None) is ∙ get_or-set_same old place (Some r) None within)) here)
+  | inr (inl less) ↦ subst (λ o. IfSome o (IsHeld params clock q)) (sym (ap (λ l. get_or l q None) is ∙ get_or-set_other old place q (Some r) None (omega arith))) (each q)
+  | inr (inr more) ↦ subst (λ o. IfSome o (IsHeld params clock q)) (sym (ap (λ l. get_or l q None) is ∙ get_or-set_other old place q (Some r) None (omega arith))) (each q)
 ]
 
 -- what a place holds by its rule
-pub entry_held : (params : List Parameter) (place : ℕ) (rule : Option Rule) (r : Received) → IsRule params place rule → MatchOption rule ⊥ (λ t. IfSome r.value (IsValueOf t.kind)) → IsHeld params place r
-entry_held params place None r is bound = absurd bound
-entry_held params place (Some t) r is bound = record {
-  source = ap is_some is.source;
-  bound = subst (λ kind. IfSome r.value (IsValueOf kind)) is.kind bound;
-}
+pub entry_held : (params : List Parameter) (place clock bits : ℕ) (rule : Option Rule) (r : Received) → IsRule params place rule → entry clock bits rule ≡ Some r
+    → MatchOption rule ⊥ (λ t. IfSome r.value (IsValueOf t.kind)) → IsHeld params clock place r
+entry_held params place clock bits None r is e bound = absurd bound
+entry_held params place clock bits (Some t) r is e bound = elim (cases_Bool (has_sdi t.source.sdi bits)) [
+  | inl so ↦
+      let at : kept_word t.kind t.stale (source_of t.source) clock bits ≡ r =
+      same_Some (kept_word t.kind t.stale (source_of t.source) clock bits) r (sym (ap (λ b. cond b (Some (kept_word t.kind t.stale (source_of t.source) clock bits)) None) so) ∙ e) in
+      subst (IsHeld params clock place) at (record {
+        source = source_of t.source;
+        there = is.source;
+        sdi = so;
+        value = ap (λ kind. reading kind (source_of t.source) bits) is.kind;
+        stale = is.stale;
+        bound = subst (λ kind. IfSome (reading t.kind (source_of t.source) bits) (IsValueOf kind)) is.kind (subst (λ (x : Received). IfSome x.value (IsValueOf t.kind)) (sym at) bound);
+        limit = omega arith;
+      })
+  | inr not_so ↦ absurd (none-some r (sym (ap (λ b. cond b (Some (kept_word t.kind t.stale (source_of t.source) clock bits)) None) not_so) ∙ e))
+]
+
+-- a word that repeats the one before makes a place hold what any word does
+pub record IsRepeated (params : List Parameter) (place clock bits : ℕ) (rule : Option Rule) (received : Option Received) : Type 0 where
+  pub new : Received
+  pub here : option_map (repeated clock) received ≡ Some new
+  pub entry : entry clock bits rule ≡ Some new
+  pub held : IsHeld params clock place new
+
+pub repeated_is : (params : List Parameter) (place clock bits : ℕ) (rule : Option Rule) (received : Option Received) → IsRule params place rule
+    → IfSome received (IsHeld params clock place) → is_repeated clock bits received ≡ true → IsRepeated params place clock bits rule received
+repeated_is params place clock bits rule None is held so = absurd (false≢true so)
+repeated_is params place clock bits None (Some r) is held so = absurd (none-some held.source (sym is ∙ held.there))
+repeated_is params place clock bits (Some t) (Some r) is held so =
+    let parts = and_parts (r.bits == bits) (ltb clock r.end) so in
+    let same : r.bits ≡ bits = eqb-true r.bits bits parts.0 in
+    let source : source_of t.source ≡ held.source = same_Some (source_of t.source) held.source (sym is.source ∙ held.there) in
+    let sdi : has_sdi t.source.sdi bits ≡ true = ap (λ (s : Source). has_sdi s.sdi bits) source ∙ ap (has_sdi held.source.sdi) (sym same) ∙ held.sdi in
+    let value : reading t.kind (source_of t.source) bits ≡ r.value =
+    ap (λ kind. reading kind (source_of t.source) bits) is.kind ∙ ap (λ s. reading (parameter_with params place).kind s bits) source
+    ∙ ap (reading (parameter_with params place).kind held.source) (sym same) ∙ sym held.value in
+    let stale : t.stale ≡ r.stale = is.stale ∙ sym held.stale in
+    record {
+      new = repeated clock r;
+      here = refl;
+      entry = rw (sdi, value, stale, same) refl;
+      held = record {
+        source = held.source;
+        there = held.there;
+        sdi = held.sdi;
+        value = held.value;
+        stale = held.stale;
+        bound = held.bound;
+        limit = omega arith;
+      };
+    }
 
 -- the table fits when the clock is set back
-pub back_fits : (b : Book) (old new : Params) → new.index ≡ old.index → new.rules ≡ old.rules → new.held.received.items.items ≡ map set_back old.held.received.items.items
+pub back_fits : (b : Book) (old new : Params) → old.clock ≡ 2 ^ 32 - 1 → new.clock ≡ 2 ^ 31 - 1 → new.index ≡ old.index → new.rules ≡ old.rules → new.held.received.items.items ≡ map set_back old.held.received.items.items
     → new.held.changed ≡ old.held.changed → length new.held.dues ≡ length old.held.dues → ParamsFit b old → ParamsFit b new
-back_fits b old new index rules same marks dues fits = record {
+back_fits b old new full half index rules same marks dues fits = record {
   sound = fits.sound;
   index = subst (IsIndex b.parameters) (sym index) fits.index;
   rules = subst (λ rs. AreRules b.parameters rs.items.items) (sym rules) fits.rules;
@@ -216,6 +290,9 @@ back_fits b old new index rules same marks dues fits = record {
     places = ap length same ∙ length-map old.held.received.items.items set_back ∙ fits.held.places;
     room = ap room marks ∙ fits.held.room;
     dues = dues ∙ fits.held.dues;
-    each = λ q. set_back_fits b.parameters q old.held.received.items.items new.held.received.items.items same (fits.held.each q);
+    each = λ q.
+        subst (λ t. IfSome (get_or new.held.received.items.items q None) (IsHeld b.parameters t q)) (sym half)
+        (set_back_fits b.parameters q old.held.received.items.items new.held.received.items.items same
+        (subst (λ t. IfSome (get_or old.held.received.items.items q None) (IsHeld b.parameters t q)) full (fits.held.each q)));
   };
 }

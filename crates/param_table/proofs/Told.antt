@@ -1,6 +1,6 @@
 -- Which parameters are told: those of which a source took a word, or ended to be fresh.
 use Rattle.std.proofs.Common.{◌≡◌, ℕ, suc, ◌+◌, ◌*◌, ◌/◌, ◌%◌, ◌≤◌, Bool, true, false, ltb, ◌||◌, List, [], get_or, Option, Some, None, refl, sym, ap, ◌∙◌, subst, arith, inl, inr}
-use Rattle.std.specs.Prelude.{is_some, IfSome, ◌⊎◌}
+use Rattle.std.specs.Prelude.{IfSome, ◌⊎◌}
 use Rattle.std.specs.List.{list_any}
 use Rattle.std.proofs.lemmas.Bool.{cases_Bool, cases_lt, cases_order, false≢true}
 use Rattle.std.proofs.lemmas.Bool.Decides.{nat_tests}
@@ -100,32 +100,27 @@ word_told b old new k w p was now on others told marked = elim (one_of (takes_at
       record { place = m.place; source = m.source; there = m.there; why = why_push (parameter_at b p).stale m.source old new k w on m.why }
 ]
 
-some_there : (o : Option Source) → is_some o ≡ true → (s : Source) × (o ≡ Some s)
-some_there None e = absurd (false≢true e)
-some_there (Some s) e = (s, refl)
-
 -- a source whose freshness ends with a moment
 ended : (b : Book) (words : ℕ → List BusWord) (k clock p q : ℕ) (received : Option Received) → words (suc k) ≡ [] → q / 3 ≡ p → is_ending (suc clock) received ≡ true
-    → IfSome received (IsHeld b.parameters q)
+    → IfSome received (IsHeld b.parameters clock q)
     → ((s : Source) → source_at b.parameters q ≡ Some s → SourceStands (parameter_with b.parameters q).kind (parameter_with b.parameters q).stale s words k clock received)
     → MayDiffer (parameter_at b p) words (suc k)
 unfolding previous
 ended b words k clock p q None none row ends held stands = absurd (false≢true ends)
 ended b words k clock p q (Some r) none row ends held stands =
-    let source = some_there (source_at b.parameters q) held.source in
-    let s = source.0 in
+    let s = held.source in
     let kind = (parameter_with b.parameters q).kind in
     let stale = (parameter_with b.parameters q).stale in
-    let was = stands s source.1 in
+    let was = stands s held.there in
     let now = moment_stands kind stale s words k clock (Some r) none was in
     let before : ltb clock r.end ≡ true = grind (arith, nat_tests) in
     let after : ltb (suc clock) r.end ≡ false = grind (arith, nat_tests) in
-    may_differ b words (suc k) p q s row source.1
+    may_differ b words (suc k) p q s row held.there
     (inr (sym (fresh_by_clock kind stale s words k clock r was) ∙ before, sym (fresh_by_clock kind stale s words (suc k) (suc clock) r now) ∙ after))
 
 pub moment_told : (b : Book) (words : ℕ → List BusWord) (k clock p : ℕ) (received : List (Option Received)) (now : Bool) → words (suc k) ≡ []
     → (((q : ℕ) → q / 3 ≡ p → is_ending (suc clock) (get_or received q None) ≡ false) → now ≡ false)
-    → ((q : ℕ) → IfSome (get_or received q None) (IsHeld b.parameters q))
+    → ((q : ℕ) → IfSome (get_or received q None) (IsHeld b.parameters clock q))
     → ((q : ℕ) (s : Source) → source_at b.parameters q ≡ Some s
     → SourceStands (parameter_with b.parameters q).kind (parameter_with b.parameters q).stale s words k clock (get_or received q None))
     → now ≡ true → MayDiffer (parameter_at b p) words (suc k)

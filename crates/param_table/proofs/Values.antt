@@ -1,9 +1,9 @@
 -- The value of a parameter, by its sources in order, now and in the moment before.
 use Rattle.std.proofs.Common.{◌≡◌, ℕ, zero, suc, ◌+◌, ◌*◌, ◌/◌, ◌%◌, ◌<◌, ◌≤◌, false, List, [], ◌∷◌, length, map, get_or, Option, Some, None, ℤ, All, refl, sym, ap, ◌∙◌, subst, arith, add-zero}
-use Rattle.std.specs.Prelude.{is_some, IfSome}
+use Rattle.std.specs.Prelude.{IfSome}
 use Rattle.std.specs.Option.{option_or, option_and_then}
 use Rattle.std.specs.List.{slice_get}
-use Rattle.std.proofs.lemmas.Bool.{false≢true}
+use Rattle.std.proofs.lemmas.Option.{none-some}
 use Rattle.std.proofs.lemmas.List.Elements.{All-get_or}
 use Rattle.ecam_spec.specs.KeepsLimits.{IsSoundParameter}
 use Rattle.ecam_spec.specs.Book.{Source, Parameter, Book}
@@ -39,9 +39,9 @@ at_place b p j small =
     ap (λ r. slice_get (get_or b.parameters r no_parameter).sources ((3 * p + j) % 3)) row ∙ ap (slice_get (parameter_at b p).sources) column
 
 -- a place without a source gives nothing
-gives_none : (params : List Parameter) (q clock : ℕ) (received : Option Received) → source_at params q ≡ None → IfSome received (IsHeld params q) → given clock received ≡ None
+gives_none : (params : List Parameter) (q clock : ℕ) (received : Option Received) → source_at params q ≡ None → IfSome received (IsHeld params clock q) → given clock received ≡ None
 gives_none params q clock None none held = refl
-gives_none params q clock (Some r) none held = absurd (false≢true (sym (ap is_some none) ∙ held.source))
+gives_none params q clock (Some r) none held = absurd (none-some held.source (sym none ∙ held.there))
 
 module _ (b : Book) (words : ℕ → List BusWord) (k : ℕ) (t : Params) (p : ℕ) (stands : ParamsStand b words k t) where
   -- what a place gives, by the source that may be there

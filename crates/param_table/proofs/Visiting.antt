@@ -1,5 +1,5 @@
 -- A word comes: the sources that listen to its bus and label are visited, from the last place down.
-use Rattle.std.proofs.Common.{◌≡◌, ℕ, suc, ◌+◌, ◌*◌, ◌<◌, ◌≤◌, Bool, true, false, ltb, ◌==◌, ◌&&◌, List, length, get_or, set, Option, Some, None, cond, refl, sym, ap, ◌∙◌, subst, arith, inl, inr}
+use Rattle.std.proofs.Common.{◌≡◌, ℕ, suc, ◌*◌, ◌<◌, ◌≤◌, Bool, true, false, ltb, ◌==◌, ◌&&◌, List, length, get_or, set, Option, Some, None, cond, refl, sym, ap, ◌∙◌, subst, arith, inl, inr}
 use Rattle.std.specs.Prelude.{IfSome, is_some}
 use Rattle.std.specs.Option.{option_map_or}
 use Rattle.std.proofs.lemmas.Bool.{cases_Bool, cases_lt, cases_order, and_parts, eqb-true, and_left, and_right}
@@ -7,7 +7,7 @@ use Rattle.std.proofs.lemmas.Bool.Decides.{nat_tests}
 use Rattle.std.proofs.lemmas.List.{get_or-set_same, get_or-set_other, length-set}
 use Rattle.ecam_spec.specs.Book.{Source, Parameter}
 use Rattle.ecam_spec.specs.Word.{label, is_odd}
-use Rattle.ecam_spec.specs.Value.{BusWord, takes, has_sdi, reading}
+use Rattle.ecam_spec.specs.Value.{BusWord, takes, has_sdi}
 use Rattle.book_model.specs.View.{source_of}
 use Rattle.param_table.specs.Places.{source_at, passes, listens, takes_at, last_below}
 use Rattle.param_table.specs.Listening.{IsIndex}
@@ -15,7 +15,7 @@ use Rattle.param_table.specs.declared.index.Index.{Index}
 use Rattle.param_table.specs.declared.received.Received.{Received}
 use Rattle.param_table.specs.declared.rules.Rule.{Rule}
 use Rattle.param_table.specs.Rules.{IsRule, AreRules}
-use Rattle.param_table.specs.HeldValues.{entry, entered}
+use Rattle.param_table.specs.HeldValues.{kept_word, entry, entered}
 use Rattle.param_table.proofs.Chains.{is_past, past_fails, found_passes}
 use Rattle.param_table.proofs.Sources.{no_source, source_there, place_within, takes_listens, takes_sdi}
 
@@ -173,10 +173,10 @@ module _ (params : List Parameter) (w : BusWord) (clock : ℕ) (rules : List (Op
     by (Some r) is rule =
         let says : takes_at params w h ≡ has_sdi r.source.sdi w.bits = at.taken odd ∙ ap (λ o. option_map_or (λ (s : Source). has_sdi s.sdi w.bits) o false) rule.source in
         elim (cases_Bool (has_sdi r.source.sdi w.bits)) [
-          | inl so ↦ taken (Some r) (record { value = reading r.kind (source_of r.source) w.bits; end = clock + r.stale + 1 }) is (says ∙ so)
-              (ap (λ b. cond b (Some (record { value = reading r.kind (source_of r.source) w.bits; end = clock + r.stale + 1 })) None) so)
+          | inl so ↦ taken (Some r) (kept_word r.kind r.stale (source_of r.source) clock w.bits) is (says ∙ so)
+              (ap (λ b. cond b (Some (kept_word r.kind r.stale (source_of r.source) clock w.bits)) None) so)
           | inr not_so ↦ left (Some r) is (says ∙ not_so)
-              (ap (λ b. cond b (Some (record { value = reading r.kind (source_of r.source) w.bits; end = clock + r.stale + 1 })) None) not_so)
+              (ap (λ b. cond b (Some (kept_word r.kind r.stale (source_of r.source) clock w.bits)) None) not_so)
         ]
 
   -- a source that doesn't take it leaves nothing at its place
@@ -186,4 +186,4 @@ module _ (params : List Parameter) (w : BusWord) (clock : ℕ) (rules : List (Op
     by None none = refl
     by (Some r) rule =
         let says : takes_at params w h ≡ has_sdi r.source.sdi w.bits = at.taken odd ∙ ap (λ o. option_map_or (λ (s : Source). has_sdi s.sdi w.bits) o false) rule.source in
-        ap (λ b. is_some {T = Received} (cond b (Some (record { value = reading r.kind (source_of r.source) w.bits; end = clock + r.stale + 1 })) None)) (sym says ∙ off)
+        ap (λ b. is_some {T = Received} (cond b (Some (kept_word r.kind r.stale (source_of r.source) clock w.bits)) None)) (sym says ∙ off)

@@ -1,6 +1,8 @@
 -- What the parts of a table's calls answer, of which its contracts are made.
 use Rattle.std.specs.Prelude.{ℕ, ◌+◌, ◌-◌, ◌^◌, nat_lt, nat_le, Bool, false, ◌&&◌, ◌==◌, ℤ, List, get_or, slice_set, Option, Some, None, if◌then◌else◌}
 use Rattle.std.specs.Option.{option_and_then, option_or}
+use Rattle.ecam_spec.specs.declared.kinds.Kind.{Kind}
+use Rattle.ecam_spec.specs.Book.{Source}
 use Rattle.ecam_spec.specs.Value.{reading, has_sdi}
 use Rattle.book_model.specs.View.{source_of}
 use Rattle.wakes.specs.Tournament.{never}
@@ -32,12 +34,25 @@ abbrev pub next_look : ℕ → Option Received → ℕ
 next_look clock None = never
 next_look clock (Some r) = if nat_lt clock r.end then r.end else never
 
+-- what is kept of a word that a source of a parameter takes
+abbrev pub kept_word : Kind → ℕ → Source → ℕ → ℕ → Received
+kept_word kind stale s clock bits = record { bits = bits; stale = stale; value = reading kind s bits; end = clock + stale + 1 }
+
 -- what a place holds once this word came, to which its source listens
 abbrev pub entry_of : ℕ → ℕ → Rule → Option Received
-entry_of clock bits r = if has_sdi r.source.sdi bits then Some (record { value = reading r.kind (source_of r.source) bits; end = clock + r.stale + 1 }) else None
+entry_of clock bits r = if has_sdi r.source.sdi bits then Some (kept_word r.kind r.stale (source_of r.source) clock bits) else None
 
 abbrev pub entry : ℕ → ℕ → Option Rule → Option Received
 entry clock bits rule = option_and_then (entry_of clock bits) rule
+
+-- a word repeats the one that a place took last, which is fresh
+abbrev pub is_repeated : ℕ → ℕ → Option Received → Bool
+is_repeated clock bits None = false
+is_repeated clock bits (Some r) = r.bits == bits && nat_lt clock r.end
+
+-- it is fresh for longer by the word that repeats it
+abbrev pub repeated : ℕ → Received → Received
+repeated clock r = record r { end = clock + r.stale + 1 }
 
 -- a place that took a word holds what it says
 abbrev pub entered : Option Received → ℕ → List (Option Received) → List (Option Received)

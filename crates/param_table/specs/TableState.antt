@@ -1,5 +1,5 @@
 -- What a table of parameters says of the words so far.
-use Rattle.std.specs.Prelude.{◌≡◌, ℕ, zero, suc, ◌+◌, ◌-◌, ◌*◌, ◌/◌, false, ℤ, pos, neg_ℤ, ◌≤ℤ◌, ◌⊎◌, List, length, get_or, Option, Some, None, All, IfSome, option_map, is_some, true}
+use Rattle.std.specs.Prelude.{◌≡◌, ℕ, zero, suc, ◌+◌, ◌-◌, ◌*◌, ◌/◌, ◌≤◌, false, ℤ, pos, neg_ℤ, ◌≤ℤ◌, ◌⊎◌, List, length, get_or, Option, Some, None, All, IfSome, option_map, true}
 use Rattle.ecam_spec.specs.declared.limits.TheConstants.{NUMBER}
 use Rattle.ecam_spec.specs.declared.kinds.Kind.{Kind}
 use Rattle.ecam_spec.specs.declared.kinds.Kind.TheVariants.{Disc, Bnr, Bcd}
@@ -8,7 +8,7 @@ use Rattle.ecam_spec.specs.Past.{last, previous}
 use Rattle.ecam_spec.specs.Situation.{parameter_at}
 use Rattle.ecam_spec.specs.Book.{Source, Parameter, Book}
 use Rattle.ecam_spec.specs.KeepsLimits.{IsSoundParameter}
-use Rattle.ecam_spec.specs.Value.{BusWord, arrives, word_of, is_fresh, reading, source_value, value}
+use Rattle.ecam_spec.specs.Value.{BusWord, arrives, word_of, is_fresh, has_sdi, reading, source_value, value}
 use Rattle.wakes.specs.Marks.{is_marked, room}
 use Rattle.param_table.specs.Places.{parameter_with, source_at}
 use Rattle.param_table.specs.Listening.{IsIndex}
@@ -47,24 +47,30 @@ pub record SourceStands (kind : Kind) (stale : ℕ) (s : Source) (words : ℕ �
   pub says : option_map (λ r. r.value) received ≡ option_map (reading kind s) (word_of s words k)
   pub left : option_map (λ r. r.end - clock) received ≡ option_map (λ m. m + stale + 1 - k) (last (arrives s words) k)
 
--- only a place with a source holds something, and no more than its parameter can have
-pub record IsHeld (params : List Parameter) (place : ℕ) (r : Received) : Type 0 where
-  pub source : is_some (source_at params place) ≡ true
+-- Only a place with a source holds something: a word of the source's SDI, what it says to the source, which is no more
+-- than the parameter can have, and how long it stays fresh, which is no longer than if it came now.
+pub record IsHeld (params : List Parameter) (clock place : ℕ) (r : Received) : Type 0 where
+  pub source : Source
+  pub there : source_at params place ≡ Some source
+  pub sdi : has_sdi source.sdi r.bits ≡ true
+  pub value : r.value ≡ reading (parameter_with params place).kind source r.bits
+  pub stale : r.stale ≡ (parameter_with params place).stale
   pub bound : IfSome r.value (IsValueOf (parameter_with params place).kind)
+  pub limit : r.end ≤ clock + r.stale + 1
 
 -- the places are those of the parameters' sources
-pub record HeldFits (params : List Parameter) (h : Held) : Type 0 where
+pub record HeldFits (params : List Parameter) (clock : ℕ) (h : Held) : Type 0 where
   pub places : length h.received.items.items ≡ 3 * length params
   pub room : room h.changed ≡ 64 * (length params / 64 + 1)
   pub dues : length h.dues ≡ 3 * length params
-  pub each : (q : ℕ) → IfSome (get_or h.received.items.items q None) (IsHeld params q)
+  pub each : (q : ℕ) → IfSome (get_or h.received.items.items q None) (IsHeld params clock q)
 
 -- the table was made for the book: it has the places of the book's sources, and finds them by bus and label
 pub record ParamsFit (b : Book) (p : Params) : Type 0 where
   pub sound : All IsSoundParameter b.parameters
   pub index : IsIndex b.parameters p.index
   pub rules : AreRules b.parameters p.rules.items.items
-  pub held : HeldFits b.parameters p.held
+  pub held : HeldFits b.parameters p.clock p.held
 
 -- the table stands for the words of the moments up to k, which hasn't ended
 pub record ParamsStand (b : Book) (words : ℕ → List BusWord) (k : ℕ) (p : Params) : Type 0 where

@@ -1,11 +1,11 @@
 // What the sources of a book hold, by place, and which parameters may have another value by it.
-ghost use Rattle.std.specs.Prelude.{◌≡◌, ◌≢◌, ℕ, ◌/◌, ◌<◌, ◌≤◌, ◌==◌, ◌&&◌, ◌||◌, false, length, slice_index, slice_index_or, slice_set, replicate, None, Some, IfOk};
+ghost use Rattle.std.specs.Prelude.{◌≡◌, ◌≢◌, ℕ, ◌/◌, ◌+◌, ◌<◌, ◌≤◌, ◌==◌, ◌&&◌, ◌||◌, false, length, slice_index, slice_index_or, slice_set, replicate, None, Some, IfOk, IfSome, option_map, if◌then◌else◌};
 ghost use Rattle.std.specs.Box.{boxed_slice_items};
 ghost use Rattle.wakes.specs.Marks.{is_marked, room};
-ghost use Rattle.param_table.specs.HeldValues.{is_ending, next_look};
+ghost use Rattle.param_table.specs.HeldValues.{is_ending, is_repeated, next_look, repeated};
 ghost use Rattle.param_table.specs.HeldState.{AreDue, Renews, WillLook};
 
-use crate::received::{Received, ends_by, given, is_ending, next_look};
+use crate::received::{Received, ends_by, given, is_ending, next_look, repeat};
 use std::alloc::{AllocError, Global};
 use std::boxed::BoxedSlice;
 use wakes::{Marked, Wakes};
@@ -44,6 +44,26 @@ impl Held {
         if !ends_by(before, clock, received.end) {
             self.dues.set(place, received.end);
         }
+    }
+
+    /// A place takes a word that repeats the one that it took last, while that is fresh. It is looked at when it would
+    /// have been for the word before. `false` where it isn't so, and nothing is taken.
+    #[inline(always)]
+    pub fn repeat(&mut self, clock: u32, place: usize, bits: u32) -> bool
+        requires place { place < length self.old.received.items.items }
+        requires limit { IfSome (slice_index_or self.old.received.items.items place None)
+            (λ r. r.end ≤ clock + r.stale + 1) }
+        ensures result { result
+            ≡ is_repeated clock bits (slice_index_or self.old.received.items.items place None) }
+        ensures received { self.new.received.items.items ≡ (if result
+            then slice_set self.old.received.items.items place (option_map (repeated clock)
+            (slice_index_or self.old.received.items.items place None))
+            else self.old.received.items.items) }
+        ensures changed { self.new.changed ≡ self.old.changed }
+        ensures dues { self.new.dues ≡ self.old.dues }
+        ensures renews { Renews clock self.old self.new }
+    {
+        repeat(&mut self.received[place], clock, bits)
     }
 
     /// A moment begins, in which nothing is other than before yet. Its cost is a write for each 64 parameters.

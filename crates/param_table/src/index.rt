@@ -1,11 +1,12 @@
 // Which sources listen to a bus and a label.
-ghost use Rattle.std.specs.Prelude.{◌≡◌, ◌*◌, ◌+◌, ◌<◌, ◌≤◌, map, length, vec_len, slice_index_or, slice_set, None, Some, IfOk, All, MatchOption, ⊤};
+ghost use Rattle.std.specs.Prelude.{◌≡◌, ◌*◌, ◌+◌, ◌<◌, ◌≤◌, ◌%◌, map, length, vec_len, slice_index_or, slice_set, None, Some, IfOk, All, MatchOption, ⊤};
 ghost use Rattle.ecam_spec.specs.declared.limits.TheConstants.{PARAMETERS};
 ghost use Rattle.ecam_spec.specs.KeepsLimits.{IsSoundParameter};
 ghost use Rattle.book_model.specs.View.{parameter_of};
-ghost use Rattle.param_table.specs.Listening.{key_of};
+ghost use Rattle.param_table.specs.Listening.{key_of, turned};
 
 use crate::place::source_at;
+use arinc_words::Word;
 use book_model::{Param, WordSource};
 use std::alloc::{AllocError, Global};
 use std::boxed::BoxedSlice;
@@ -17,7 +18,7 @@ const KEYS: usize = 4096;
 /// first. It is made once for a table.
 #[derive(Drop)]
 pub struct Index {
-    // By 256 times the bus and the label: the last place.
+    // By 256 times the bus and the first eight bits of a word, which tell its label: the last place.
     last: BoxedSlice<Option<u16>>,
     // By place: the place before it in its chain.
     before: BoxedSlice<Option<u16>>,
@@ -45,37 +46,42 @@ impl Index {
         })
     }
 
-    /// The last place of a source that listens to this bus and label, at the cost of one look-up.
-    pub fn last(&self, bus: u8, label: u8) -> Option<u16>
-        ensures { result ≡ slice_index_or self.now.last.items.items (256 * bus + label) None }
+    /// The last place of a source that listens to this bus and the word's label, at the cost of one look-up: by the
+    /// word's bits as they stand, so that the label needn't be turned round.
+    #[inline(always)]
+    pub fn last(&self, bus: u8, word: &Word) -> Option<u16>
+        ensures { result
+            ≡ slice_index_or self.now.last.items.items (key_of bus (word.now % 256)) None }
     {
-        at(&self.last, 256 * usize::from(bus) + usize::from(label))
+        let key = 256 * usize::from(bus) + (word.bits() % 256) as usize;
+        if key < self.last.len() {
+            self.last[key]
+        } else {
+            None
+        }
     }
 
     /// The place before this one of a source that listens to the same bus and label.
+    #[inline(always)]
     pub fn before(&self, place: usize) -> Option<u16>
+        requires { place < length self.now.before.items.items }
         ensures { result ≡ slice_index_or self.now.before.items.items place None }
     {
-        at(&self.before, place)
+        self.before[place]
     }
-}
-
-fn at(places: &[Option<u16>], i: usize) -> Option<u16>
-    ensures { result ≡ slice_index_or places.now i None }
-{
-    if i < places.len() { places[i] } else { None }
 }
 
 // Puts a place in front of the chain of its source, and answers what was in front.
 fn enter(last: &mut Vec<Option<u16>>, source: Option<WordSource>, place: u16) -> Option<u16>
-    requires { MatchOption source ⊤ (λ s. key_of s.bus s.label < vec_len last.old) }
+    requires { MatchOption source ⊤ (λ s. key_of s.bus (turned s.label) < vec_len last.old) }
     ensures result { MatchOption source (result ≡ None)
-        (λ s. result ≡ slice_index_or last.old.items (key_of s.bus s.label) None) }
+        (λ s. result ≡ slice_index_or last.old.items (key_of s.bus (turned s.label)) None) }
     ensures last { MatchOption source (last.new.items ≡ last.old.items)
-        (λ s. last.new.items ≡ slice_set last.old.items (key_of s.bus s.label) (Some place)) }
+        (λ s. last.new.items
+        ≡ slice_set last.old.items (key_of s.bus (turned s.label)) (Some place)) }
 {
     let source = source?;
-    let key = 256 * usize::from(source.bus) + usize::from(source.label);
+    let key = 256 * usize::from(source.bus) + usize::from(source.label.reverse_bits());
     let front = last[key];
     last[key] = Some(place);
     front

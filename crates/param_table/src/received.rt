@@ -1,6 +1,6 @@
 // What the places of a table hold.
-ghost use Rattle.std.specs.Prelude.{◌≡◌};
-ghost use Rattle.param_table.specs.HeldValues.{given, set_back, is_ending, next_look, ends_by};
+ghost use Rattle.std.specs.Prelude.{◌≡◌, option_map, if◌then◌else◌};
+ghost use Rattle.param_table.specs.HeldValues.{given, set_back, is_ending, next_look, ends_by, is_repeated, repeated};
 
 /// How far the clock is set back at its end.
 pub const HALF: u32 = 0x8000_0000;
@@ -8,9 +8,12 @@ pub const HALF: u32 = 0x8000_0000;
 /// The time of what is never looked at.
 const NEVER: u64 = u64::MAX;
 
-/// What the last word that a source took says, and the first time by the clock at which it is no longer fresh.
+/// The last word that a source took, for how many moments a word of it stays fresh, what the word says, and the first
+/// time by the clock at which it is no longer fresh.
 #[derive(Clone, Copy)]
 pub struct Received {
+    pub bits: u32,
+    pub stale: u32,
     pub value: Option<i64>,
     pub end: u64,
 }
@@ -24,6 +27,26 @@ pub fn given(received: Option<Received>, clock: u32) -> Option<i64>
         received.value
     } else {
         None
+    }
+}
+
+/// Takes a word that repeats the one that was taken last, while that is fresh: it says the same, and only its end moves
+/// on. `false` where it isn't so, and nothing is taken.
+#[inline(always)]
+pub fn repeat(received: &mut Option<Received>, clock: u32, bits: u32) -> bool
+    ensures result { result ≡ is_repeated clock bits received.old }
+    ensures received { received.new
+        ≡ (if result then option_map (repeated clock) received.old else received.old) }
+{
+    match received {
+        None => false,
+        Some(last) => {
+            if last.bits != bits || u64::from(clock) >= last.end {
+                return false;
+            }
+            last.end = u64::from(clock) + u64::from(last.stale) + 1;
+            true
+        }
     }
 }
 
@@ -69,6 +92,8 @@ pub fn set_back(received: Option<Received>) -> Option<Received>
 {
     let received = received?;
     Some(Received {
+        bits: received.bits,
+        stale: received.stale,
         value: received.value,
         end: received.end.saturating_sub(u64::from(HALF)),
     })

@@ -61,6 +61,8 @@ pub fn entry(rule: Option<Rule>, word: &Word, clock: u32) -> Option<Received>
         return None;
     }
     Some(Received {
+        bits: word.bits(),
+        stale: rule.stale,
         value: reading(rule.kind, &rule.source, word),
         end: u64::from(clock) + u64::from(rule.stale) + 1,
     })

@@ -85,7 +85,8 @@ impl Params {
     }
 
     /// A word comes on a bus in the moment that hasn't ended. Its cost is one look-up by bus and label, and, where the
-    /// parity is odd, a visit of each source that listens to them.
+    /// parity is odd, a visit of each source that listens to them: two comparisons and a write, where the word repeats
+    /// the one that the source took last, while that is fresh.
     // (It stands in its caller, so that a word that no source listens to costs no call. The look-up comes before the
     // parity, since which words a book listens to is easier to foresee.)
     #[inline(always)]
@@ -98,7 +99,7 @@ impl Params {
             → ParamsStand (the_book book.now) new k self.new }
     {
         let word = Word::new(bits);
-        if self.index.last(bus, word.label()).is_none() {
+        if self.index.last(bus, &word).is_none() {
             return;
         }
         if word.odd() {

@@ -32,8 +32,8 @@ pub fn receive(
     requires sound { All IsSoundParameter (the_book _book.now).parameters }
     requires index { IsIndex (the_book _book.now).parameters index.now }
     requires rules { AreRules (the_book _book.now).parameters rules.now }
-    requires fits { HeldFits (the_book _book.now).parameters held.old }
-    ensures fits { HeldFits (the_book _book.now).parameters held.new }
+    requires fits { HeldFits (the_book _book.now).parameters clock held.old }
+    ensures fits { HeldFits (the_book _book.now).parameters clock held.new }
     ensures received { (q : ℕ) → slice_index_or held.new.received.items.items q None
         ≡ (if takes_at (the_book _book.now).parameters (record { bus = bus; bits = word.now }) q
         then entry clock word.now (slice_index_or rules.now q None)
@@ -43,7 +43,7 @@ pub fn receive(
         (record { bus = bus; bits = word.now }) q ≡ false)
         → is_marked held.new.changed p ≡ is_marked held.old.changed p }
 {
-    let mut next = index.last(bus, word.label());
+    let mut next = index.last(bus, word);
     while let Some(place) = next {
         let place = usize::from(place);
         visit(held, rules, _book, clock, place, word);
@@ -51,8 +51,8 @@ pub fn receive(
     }
 }
 
-// A word comes to which the source at a place listens. (It stands by itself, so that `receive` stays small.)
-#[inline(never)]
+// A word comes to which the source at a place listens. One that repeats the word before isn't read again.
+#[inline(always)]
 fn visit(
     held: &mut Held,
     rules: &[Option<Rule>],
@@ -64,8 +64,8 @@ fn visit(
     requires sound { All IsSoundParameter (the_book _book.now).parameters }
     requires rules { AreRules (the_book _book.now).parameters rules.now }
     requires place { place < length rules.now }
-    requires fits { HeldFits (the_book _book.now).parameters held.old }
-    ensures fits { HeldFits (the_book _book.now).parameters held.new }
+    requires fits { HeldFits (the_book _book.now).parameters clock held.old }
+    ensures fits { HeldFits (the_book _book.now).parameters clock held.new }
     ensures received { held.new.received.items.items ≡ entered (entry clock word.now
         (slice_index_or rules.now place None)) place held.old.received.items.items }
     ensures renews { Renews clock held.old held.new }
@@ -73,7 +73,36 @@ fn visit(
         (slice_index_or rules.now place None)) ≡ false)
         → is_marked held.new.changed p ≡ is_marked held.old.changed p }
 {
-    if let Some(received) = entry(rules[place], word, clock) {
+    if held.repeat(clock, place, word.bits()) {
+        return;
+    }
+    visit_anew(held, rules, _book, clock, place, *word);
+}
+
+// The same for any word: it is read. (It stands by itself, so that `receive` stays small. The word comes by value, so
+// that a word that no source listens to needs no room in memory.)
+#[inline(never)]
+fn visit_anew(
+    held: &mut Held,
+    rules: &[Option<Rule>],
+    _book: &Book,
+    clock: u32,
+    place: usize,
+    word: Word,
+)
+    requires sound { All IsSoundParameter (the_book _book.now).parameters }
+    requires rules { AreRules (the_book _book.now).parameters rules.now }
+    requires place { place < length rules.now }
+    requires fits { HeldFits (the_book _book.now).parameters clock held.old }
+    ensures fits { HeldFits (the_book _book.now).parameters clock held.new }
+    ensures received { held.new.received.items.items ≡ entered (entry clock word
+        (slice_index_or rules.now place None)) place held.old.received.items.items }
+    ensures renews { Renews clock held.old held.new }
+    ensures others { (p : ℕ) → (p ≡ place / 3 → is_some (entry clock word
+        (slice_index_or rules.now place None)) ≡ false)
+        → is_marked held.new.changed p ≡ is_marked held.old.changed p }
+{
+    if let Some(received) = entry(rules[place], &word, clock) {
         held.renew(clock, place, received);
     }
 }

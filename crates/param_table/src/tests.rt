@@ -129,6 +129,28 @@ fn words_give_values(rt: HostRuntime) -> Result<(), Fail> {
 }
 
 #[test]
+fn a_repeated_word_is_fresh_for_longer(rt: HostRuntime) -> Result<(), Fail> {
+    let alloc = rt.alloc();
+    let book = Book::build(alloc, draft(alloc)?)?;
+    assert_eq!(rt; book.params().len(), 2);
+    let mut table = Params::new(alloc, &book)?;
+    table.take(&book, 0, 0x0000041d);
+    table.tick(&book);
+    table.tick(&book);
+    // In the last moment in which the word is fresh.
+    table.take(&book, 0, 0x0000041d);
+    assert_eq!(rt; table.changed(&book, 0), None);
+    table.tick(&book);
+    table.tick(&book);
+    assert_eq!(rt; table.value(&book, 1), Some(1));
+    assert_eq!(rt; table.changed(&book, 0), None);
+    table.tick(&book);
+    assert_eq!(rt; table.value(&book, 1), None);
+    assert_eq!(rt; table.changed(&book, 0), Some(1));
+    Ok(())
+}
+
+#[test]
 fn a_copy_has_the_same_values(rt: HostRuntime) -> Result<(), Fail> {
     let alloc = rt.alloc();
     let book = Book::build(alloc, draft(alloc)?)?;

@@ -1,4 +1,4 @@
-use Rattle.std.proofs.Common.{◌≡◌, ◌*◌, ◌/◌, refl, ◌+◌, ◌<◌, true, length, get_or, Some, None, sym, ap, ◌∙◌, subst, arith}
+use Rattle.std.proofs.Common.{◌≡◌, ◌/◌, refl, ◌<◌, true, length, get_or, Some, None, sym, ap, ◌∙◌, subst, arith}
 use Rattle.std.specs.Prelude.{IfSome, is_some}
 use Rattle.ecam_spec.specs.Word.{label}
 use Rattle.ecam_spec.specs.Value.{BusWord}
@@ -14,10 +14,9 @@ pub loop-next-init : goal.loop-next-init
 loop-next-init c =
     let params = (the_book c.args._book.now).parameters in
     let word : BusWord = record { bus = c.args.bus; bits = c.args.word.now } in
-    let small : label c.args.word.now < 256 = subst (λ n. n < 256) c.label.ensures c.label.type_inv in
     record {
       visited = visited_none params word (λ q. entry c.args.clock c.args.word.now (get_or c.args.rules.now q None)) c.args.held.now.received.items.items c.last-next.result
-          (c.last-next.ensures ∙ ap (λ l. get_or c.args.index.now.last.items.items (256 * c.args.bus + l) None) c.label.ensures ∙ c.requires.index.last c.args.bus (label c.args.word.now) small);
+          (c.last-next.ensures ∙ c.requires.index.last c.args.bus c.args.word.now);
       fits = c.requires.fits;
       renews = renews_none c.args.clock c.args.held.now;
       others = λ p none. refl;
@@ -37,6 +36,12 @@ visited c =
 
 next_is : (c : After-before-next) → c.before-next.result ≡ get_or c.args.index.now.before.items.items c.in-Some.place None
 next_is c = c.before-next.ensures ∙ ap (λ i. get_or c.args.index.now.before.items.items i None) c.from-place.ensures
+
+pub before-next-requires : goal.before-next-requires
+before-next-requires c =
+    let at = next_listens (the_book c.args._book.now).parameters (record { bus = c.args.bus; bits = c.args.word.now }) c.args.index.now c.requires.index c.in-Some.place
+    (subst (λ o. IfSome o (λ h. listens (the_book c.args._book.now).parameters c.args.bus (label c.args.word.now) h ≡ true)) c.in-Some.is c.loop-next.invariant.visited.listening) in
+    omega (arith, at.within, c.requires.index.count, c.from-place.ensures)
 
 pub loop-next-smaller : goal.loop-next-smaller
 loop-next-smaller c =

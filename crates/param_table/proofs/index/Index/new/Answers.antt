@@ -1,26 +1,28 @@
 use Rattle.std.proofs.Common.{◌≡◌, ◌+◌, ◌<◌, ℕ, List, [], ◌∷◌, ◌++◌, map, replicate, get_or, set, Option, Some, None, All, MatchOption, refl, sym, ◌∙◌, subst, arith}
 use Rattle.std.specs.Prelude.{⊤, option_map}
+use Rattle.std.proofs.lemmas.List.{length-map}
 use Rattle.ecam_spec.specs.Book.{Parameter}
 use Rattle.ecam_spec.specs.KeepsLimits.{IsSoundParameter, IsSoundSource}
 use Rattle.book_model.specs.declared.draft.WordSource.{WordSource}
 use Rattle.book_model.specs.View.{source_of, parameter_of}
 use Rattle.param_table.specs.Places.{source_at}
-use Rattle.param_table.specs.Listening.{key_of}
+use Rattle.param_table.specs.Listening.{key_of, turned}
 use Rattle.param_table.proofs.Sources.{sound_source}
-use Rattle.param_table.proofs.Entering.{IsEntered, entered_none, enter_none, enter_some}
+use Rattle.param_table.proofs.Labels.{turned-small}
+use Rattle.param_table.proofs.Entering.{IsEntered, entered_none, enter_none, enter_some, entered_all}
 use Rattle.param_table.proofs.index.Index.new.Goals as goal
 
 key_within : (params : List Parameter) (n keys : ℕ) (o : Option WordSource) → All IsSoundParameter params → option_map source_of o ≡ source_at params n → keys ≡ 4096
-    → MatchOption o ⊤ (λ s. key_of s.bus s.label < keys)
+    → MatchOption o ⊤ (λ s. key_of s.bus (turned s.label) < keys)
 key_within params n keys None sound e all = tt
 key_within params n keys (Some s) sound e all =
     let is : IsSoundSource (source_of s) = sound_source params n (source_of s) sound (sym e) in
-    omega (arith, is.bus, is.label)
+    omega (arith, is.bus, turned-small s.label)
 
 entered : (params : List Parameter) (n : ℕ) (last before last' before' : List (Option ℕ)) (r : Option ℕ) (o : Option WordSource)
     → All IsSoundParameter params → option_map source_of o ≡ source_at params n
-    → MatchOption o (r ≡ None) (λ s. r ≡ get_or last (key_of s.bus s.label) None)
-    → MatchOption o (last' ≡ last) (λ s. last' ≡ set last (key_of s.bus s.label) (Some n))
+    → MatchOption o (r ≡ None) (λ s. r ≡ get_or last (key_of s.bus (turned s.label)) None)
+    → MatchOption o (last' ≡ last) (λ s. last' ≡ set last (key_of s.bus (turned s.label)) (Some n))
     → before' ≡ before ++ r ∷ [] → IsEntered params n last before → IsEntered params (n + 1) last' before'
 entered params n last before last' before' r None sound e front kept pushed is =
     rw (pushed, kept, front) (enter_none params n last before is (sym e))
@@ -42,3 +44,8 @@ pub loop-place-preserved : goal.loop-place-preserved
 loop-place-preserved c =
     entered (map parameter_of c.args.params.now) c.loop-place.place c.loop-place.last.items c.loop-place.before.items c.enter-earlier.new.last.items c.push.new.self.items
     c.enter-earlier.result c.source_at.result c.requires.sound c.source_at.ensures c.enter-earlier.ensures.result c.enter-earlier.ensures.last c.in_ok-push.ensures.items c.loop-place.invariant
+
+pub returns : goal.returns
+returns c =
+    entered_all (map parameter_of c.args.params.now) c.loop-place.place (record { last = c.into_boxed_slice.result; before = c.into_boxed_slice-2.result }) c.loop-place.last.items c.loop-place.before.items
+    c.into_boxed_slice.ensures.items c.into_boxed_slice-2.ensures.items (omega (arith, c.loop-place-test.false, c.loop-place.auto.place-end, length-map c.args.params.now parameter_of)) c.loop-place.invariant

@@ -22,7 +22,7 @@ returns-clause-stands c = λ b words fits none.
         places = ap length wiped ∙ length-replicate (length held.items.items) None ∙ fits.held.places;
         room = c.clear.ensures.room ∙ fits.held.room;
         dues = ap length c.clear-2.ensures ∙ length-replicate _ _ ∙ fits.held.dues;
-        each = λ q. held_none b.parameters new.held.received.items.items (length held.items.items) q wiped;
+        each = λ q. held_none b.parameters 0 new.held.received.items.items (length held.items.items) q wiped;
       };
     } in
     start b words new (length held.items.items) kept none wiped c.clear.ensures.none

@@ -49,7 +49,7 @@ fits c = record {
     places = ap length (blank c) ∙ length-replicate (3 * length c.params-params.result.now) None ∙ ap (λ n. 3 * n) (many c);
     room = c.in_ok-changed.ensures.size ∙ ap (λ n. 64 * (n / 64 + 1)) (many c);
     dues = ap length c.in_ok-dues.ensures ∙ length-replicate (3 * length c.params-params.result.now) never ∙ ap (λ n. 3 * n) (many c);
-    each = λ q. held_none (the_book c.args.book.now).parameters c.in_ok-received.received.items.items (3 * length c.params-params.result.now) q (blank c);
+    each = λ q. held_none (the_book c.args.book.now).parameters 0 c.in_ok-received.received.items.items (3 * length c.params-params.result.now) q (blank c);
   };
 }
 

@@ -1,10 +1,11 @@
-use Rattle.std.proofs.Common.{◌≡◌, ℕ, ◌+◌, ◌*◌, ◌<◌, false, Option, Some, None, length, get_or, refl, sym, ap, ◌∙◌, subst}
+use Rattle.std.proofs.Common.{◌≡◌, ℕ, ◌*◌, ◌%◌, false, Option, Some, None, length, get_or, refl, sym, ap, ◌∙◌}
 use Rattle.std.specs.Prelude.{is_some}
 use Rattle.ecam_spec.specs.Word.{label, is_odd}
 use Rattle.ecam_spec.specs.Value.{BusWord}
 use Rattle.book_model.specs.Sealed.{the_book}
 use Rattle.param_table.specs.declared.table.Params.{Params}
 use Rattle.param_table.specs.Places.{listens, last_below}
+use Rattle.param_table.specs.Listening.{key_of}
 use Rattle.param_table.specs.TableState.{ParamsFit}
 use Rattle.param_table.proofs.Tables.{word, even_word, unheard_word}
 use Rattle.param_table.proofs.table.Params.take.Goals as goal
@@ -18,8 +19,8 @@ returns-then-is_none-clause-stands c = λ old new k on stands.
     let w : BusWord = record { bus = c.args.bus; bits = c.args.bits } in
     let lookup : c.last.result ≡ last_below (listens (the_book c.args.book.now).parameters w.bus (label w.bits)) (3 * length (the_book c.args.book.now).parameters) =
     c.last.ensures
-    ∙ ap (λ l. get_or c.args.self.now.index.last.items.items (256 * c.args.bus + l) None) (c.label.ensures ∙ ap label c.new-word.ensures)
-    ∙ stands.fits.index.last c.args.bus (label c.args.bits) (subst (λ n. n < 256) (c.label.ensures ∙ ap label c.new-word.ensures) c.label.type_inv) in
+    ∙ ap (λ n. get_or c.args.self.now.index.last.items.items (key_of c.args.bus (n % 256)) None) c.new-word.ensures
+    ∙ stands.fits.index.last c.args.bus c.args.bits in
     unheard_word (the_book c.args.book.now) old new k w c.args.self.now on (nothing c.last.result c.if-is_none.ensures ∙ lookup) stands
 
 pub returns-then-odd-clause-stands : goal.returns-then-odd-clause-stands

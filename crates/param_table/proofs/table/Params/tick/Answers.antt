@@ -5,7 +5,7 @@ use Rattle.param_table.specs.declared.table.Params.{Params}
 use Rattle.param_table.specs.HeldValues.{is_ending}
 use Rattle.param_table.specs.HeldState.{WillLook}
 use Rattle.param_table.specs.TableState.{IsHeld, ParamsFit, ParamsStand}
-use Rattle.param_table.proofs.Tables.{moment, clock_back, back_fits, will_look}
+use Rattle.param_table.proofs.Tables.{moment, clock_back, back_fits, later_held, will_look}
 use Rattle.param_table.proofs.table.Params.tick.Goals as goal
 use Rattle.param_table.proofs.table.Params.tick.Goals.{After-look_at_due, then-self, else-self}
 
@@ -16,7 +16,7 @@ mid_fits c = elim c.if-self.branch [
       let set = w.set_clock_back.new.self in
       let was = w.set_clock_back.ensures in
       subst (ParamsFit (the_book c.args._book.now)) (sym w.self-is)
-      (back_fits (the_book c.args._book.now) c.args.self.now set was.index was.rules was.received was.changed was.count c.requires)
+      (back_fits (the_book c.args._book.now) c.args.self.now set w.if-self.true was.clock was.index was.rules was.received was.changed was.count c.requires)
   | else-self w ↦ subst (ParamsFit (the_book c.args._book.now)) (sym w.self-is) c.requires
 ]
 
@@ -32,7 +32,9 @@ fits_after c =
         places = ap (λ v. length v.items.items) (c.look_at_due.ensures.received ∙ c.forget_changes.ensures.received) ∙ fits.held.places;
         room = c.look_at_due.ensures.room ∙ c.forget_changes.ensures.room ∙ fits.held.room;
         dues = c.look_at_due.ensures.dues ∙ ap length c.forget_changes.ensures.dues ∙ fits.held.dues;
-        each = λ q. subst (λ v. IfSome (get_or v.items.items q None) (IsHeld (the_book c.args._book.now).parameters q)) (sym (c.look_at_due.ensures.received ∙ c.forget_changes.ensures.received)) (fits.held.each q);
+        each = λ q.
+            later_held (the_book c.args._book.now).parameters c.if-self.self.clock q (get_or c.look_at_due.new.self.received.items.items q None)
+            (subst (λ v. IfSome (get_or v.items.items q None) (IsHeld (the_book c.args._book.now).parameters c.if-self.self.clock q)) (sym (c.look_at_due.ensures.received ∙ c.forget_changes.ensures.received)) (fits.held.each q));
       };
     }
 
@@ -48,7 +50,7 @@ returns-clause-stands c = λ words k none stands.
           let set = w.set_clock_back.new.self in
           let was = w.set_clock_back.ensures in
           subst (ParamsStand b words k) (sym w.self-is)
-          (clock_back b words k c.args.self.now set (back_fits b c.args.self.now set was.index was.rules was.received was.changed was.count c.requires)
+          (clock_back b words k c.args.self.now set (back_fits b c.args.self.now set w.if-self.true was.clock was.index was.rules was.received was.changed was.count c.requires)
           w.if-self.true was.clock was.received was.changed was.soon stands)
       | else-self w ↦ subst (ParamsStand b words k) (sym w.self-is) stands
     ] in
