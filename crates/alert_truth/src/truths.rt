@@ -173,6 +173,8 @@ impl Truths {
             self.old
             → TruthsStand (the_book book.now) conditions phases (suc k) self.new }
         ensures moments { self.new.moments ≡ self.old.moments + 1 }
+        ensures restless { self.new.restless ≡ self.old.restless }
+        ensures changed { self.new.changed ≡ self.old.changing }
     {
         if self.changing {
             self.stars.settle(&self.active, book);

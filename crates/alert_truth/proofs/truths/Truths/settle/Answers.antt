@@ -53,3 +53,17 @@ returns-clause-stands c = λ conditions phases k half.
           settled-stands b conditions phases k old c.if-self.self old.stars w.self-is all all.fits.stars
           (still-stars b conditions phases k old.stars (all.changing.0 w.if-self.false) all.stars)
     ]
+
+pub returns-clause-restless : goal.returns-clause-restless
+returns-clause-restless c =
+    elim c.if-self.branch [
+      | then-self w ↦ ap (λ (t : Truths). t.restless) w.self-is
+      | else-self w ↦ ap (λ (t : Truths). t.restless) w.self-is
+    ]
+
+pub returns-clause-changed : goal.returns-clause-changed
+returns-clause-changed c =
+    elim c.if-self.branch [
+      | then-self w ↦ ap (λ (t : Truths). t.changing) w.self-is
+      | else-self w ↦ ap (λ (t : Truths). t.changing) w.self-is
+    ]
