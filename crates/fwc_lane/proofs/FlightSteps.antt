@@ -23,7 +23,6 @@ use Rattle.flight_phases.specs.Inputs.{AreInputs}
 use Rattle.term_eval.specs.declared.env.Env.{Env}
 use Rattle.term_eval.specs.Shown.{Shows}
 use Rattle.term_eval.specs.Woken.{operands, moved}
-use Rattle.wakes.specs.Marks.{is_marked}
 use Rattle.fwc_lane.specs.declared.terms.Terms.{Terms}
 use Rattle.fwc_lane.specs.Conditions.{StepsTerm, TellsMoved, BookHalf, known_world}
 use Rattle.fwc_lane.specs.Given.{Lends}
@@ -40,33 +39,24 @@ module _ (d : Draft) (sealed : IsSealed d) (p : PhaseTerms) (same : p ≡ d.phas
   pub input-names : (c : plain.Tree) → slice_get (phase_trees p) i ≡ Some c → IsWithin (length d.params.items) 0 c
   input-names c is = phase-names d sealed i c (ap (λ q. slice_get (phase_trees q) i) (sym same) ∙ is)
 
+tells : (d : Draft) (m : ℕ → Moment) (k i : ℕ) → i < alerts_from → (t : Placed) → TellsMoved (moved (known_world (the_book d) m 0) k) (world_of (the_book d) m i) k t
+tells d m k i lt t = ap (λ w. list_any (moved w k) (operands t.tree)) (sym (phase-world (the_book d) m i lt))
+
 module _ (d : Draft) (sealed : IsSealed d) (p : PhaseTerms) (same : p ≡ d.phase) (m : ℕ → Moment) (k : ℕ) (env : Env) (lends : Lends (the_book d) m k env)
     (one : env.phase.number ≡ 1) (none : length env.active.now ≡ 0) where
   shows : (i : ℕ) → i < alerts_from → Shows env (world_of (the_book d) m i) k
   shows i lt = subst (λ w. Shows env w k) (sym (phase-world (the_book d) m i lt)) (shows-flight (the_book d) m k env lends one none)
 
-  tells : (i : ℕ) → i < alerts_from → (t : Placed) → TellsMoved (moved (known_world (the_book d) m 0) k) (world_of (the_book d) m i) k t
-  tells i lt t = ap (λ w. list_any (moved w k) (operands t.tree)) (sym (phase-world (the_book d) m i lt))
-
   module _ (i : ℕ) (lt : i < alerts_from) (t : Placed) (is : slice_get (phase_places p) i ≡ Some t) (visited : ℕ) (old new : Terms) (answer : Bool) (steps : StepsTerm env k i t old new answer)
       (half : BookHalf (the_book d) m k i 0 visited old) where
     pub input-truth : answer ≡ holds (flight_world (the_book d) m) t.tree k
     input-truth =
-        steps.truth (places (the_book d)) (world_of (the_book d) m) (moved (known_world (the_book d) m 0) k) visited (input-place d sealed p same i t is) (shows i lt) (tells i lt t) half
+        steps.truth (places (the_book d)) (world_of (the_book d) m) (moved (known_world (the_book d) m 0) k) visited (input-place d sealed p same i t is) (shows i lt) (tells d m k i lt t) half
         ∙ ap (λ w. holds w t.tree k) (phase-world (the_book d) m i lt)
 
     pub input-stands : BookHalf (the_book d) m k (suc i) 0 visited new
     input-stands =
-        steps.stands (places (the_book d)) (world_of (the_book d) m) (moved (known_world (the_book d) m 0) k) visited (input-place d sealed p same i t is) (ranges-apart (the_book d)) (shows i lt) (tells i lt t) half
-
--- a condition that isn't woken holds where it held
-rest-steps : (env : Env) (k i : ℕ) (p : Placed) (t : Terms) → k < 2 ^ 63 → is_marked t.woken i ≡ false
-    → StepsTerm env k i p t t (slice_index_or t.truths.items i false)
-rest-steps env k i p t small off = record {
-  truth = λ ps worlds hit visited here shows tells half.
-      (rest-asked (worlds i) hit k i p t small tells (half.left i p (omega arith) here) off).told;
-  stands = λ ps worlds hit visited here apart shows tells half. half-rest ps worlds k i p here hit visited t small tells off half;
-}
+        steps.stands (places (the_book d)) (world_of (the_book d) m) (moved (known_world (the_book d) m 0) k) visited (input-place d sealed p same i t is) (ranges-apart (the_book d)) (shows i lt) (tells d m k i lt t) half
 
 -- the answers are the inputs of the moment
 pub record SixAnswers (d : Draft) (m : ℕ → Moment) (k : ℕ) (p : PhaseTerms) (gnd run tp fast high low : Bool) : Type 0 where
@@ -92,19 +82,20 @@ inputs-are d m k p gnd run tp fast high low same six =
     }
 
 -- where none of the six is woken, each is what it was
-module _ (d : Draft) (sealed : IsSealed d) (p : PhaseTerms) (same : p ≡ d.phase) (m : ℕ → Moment) (k : ℕ) (env : Env) (lends : Lends (the_book d) m k env)
-    (one : env.phase.number ≡ 1) (none : length env.active.now ≡ 0) (small : k < 2 ^ 63) (visited : ℕ) (t : Terms) (off : NoneMarked t.woken 0 alerts_from)
-    (half : BookHalf (the_book d) m k 0 0 visited t) where
-  steps : (i : ℕ) → i < alerts_from → (q : Placed) → StepsTerm env k i q t t (slice_index_or t.truths.items i false)
-  steps i lt q = rest-steps env k i q t small (off i (omega arith) lt)
-
+module _ (d : Draft) (sealed : IsSealed d) (p : PhaseTerms) (same : p ≡ d.phase) (m : ℕ → Moment) (k : ℕ) (small : k < 2 ^ 63) (visited : ℕ) (t : Terms)
+    (off : NoneMarked t.woken 0 alerts_from) (half : BookHalf (the_book d) m k 0 0 visited t) where
   truth : (i : ℕ) → i < alerts_from → (q : Placed) → slice_get (phase_places p) i ≡ Some q → BookHalf (the_book d) m k i 0 visited t
       → slice_index_or t.truths.items i false ≡ holds (flight_world (the_book d) m) q.tree k
-  truth i lt q is before = input-truth d sealed p same m k env lends one none i lt q is visited t t _ (steps i lt q) before
+  truth i lt q is before =
+      (rest-asked (world_of (the_book d) m i) (moved (known_world (the_book d) m 0) k) k i q t small (tells d m k i lt q)
+      (before.left i q (omega arith) (input-place d sealed p same i q is)) (off i (omega arith) lt)).told
+      ∙ ap (λ w. holds w q.tree k) (phase-world (the_book d) m i lt)
 
   stand : (i : ℕ) → i < alerts_from → (q : Placed) → slice_get (phase_places p) i ≡ Some q → BookHalf (the_book d) m k i 0 visited t
       → BookHalf (the_book d) m k (suc i) 0 visited t
-  stand i lt q is before = input-stands d sealed p same m k env lends one none i lt q is visited t t _ (steps i lt q) before
+  stand i lt q is before =
+      half-rest (places (the_book d)) (world_of (the_book d) m) k i q (input-place d sealed p same i q is) (moved (known_world (the_book d) m 0) k) visited t small
+      (tells d m k i lt q) (off i (omega arith) lt) before
 
   stand-1 : BookHalf (the_book d) m k 1 0 visited t
   stand-1 = stand 0 (omega arith) (placed_of p.gnd) refl half

@@ -15,6 +15,7 @@ use Rattle.ecam_kinds.specs.KeyState.{KeysStand}
 use Rattle.param_table.specs.declared.table.Params.{Params}
 use Rattle.param_table.specs.TableState.{ParamsFit, ParamsStand}
 use Rattle.fwc_lane.specs.declared.lane.Lane.{Lane}
+use Rattle.fwc_lane.specs.Calm.{IsCalm}
 use Rattle.fwc_lane.specs.LaneFits.{LaneFits}
 use Rattle.fwc_lane.specs.LaneStands.{WholeStands, Continues, HasWords, HasStrokes, LaneStands, AreUp}
 use Rattle.fwc_lane.specs.Given.{Came}
@@ -78,6 +79,10 @@ module _ (b : Book) (e : Era) (x : Event) (quiet : is_tick x ≡ false) where
       whole = whole-kept;
     }
 
+-- a calm lane stays calm with other words and keys
+pub calm-with : (old : Lane) (p : Params) (q : Keys) → IsCalm old → IsCalm (record old { params = p; keys = q })
+calm-with old p q calm = record { ticked = calm.ticked; restless = calm.restless; steady = calm.steady; normal = calm.normal; changed = calm.changed }
+
 -- the parts of a lane that came into being fit as the lane did before
 pub fits-with : (b : Book) (old : Lane) (p : Params) (q : Keys) → LaneFits b old → ParamsFit b p → LaneFits b (record old { params = p; keys = q })
 fits-with b old p q fits own = record {
@@ -95,6 +100,7 @@ fits-with b old p q fits own = record {
   marks_moments = fits.marks_moments;
   attention_moments = fits.attention_moments;
   selector_moments = fits.selector_moments;
+  calm = λ on. calm-with old p q (fits.calm on);
 }
 
 -- a word

@@ -11,7 +11,9 @@ pub mod AlertSteps
 pub mod FlagSteps
 pub mod ProcedureSteps
 pub mod MemoSteps
+pub mod ConditionsRest
 pub mod CrewMoments
+pub mod CrewRest
 pub mod ZoneRest
 pub mod PageChoice
 pub mod ZonePictures
@@ -20,3 +22,5 @@ pub mod FreshLanes
 pub mod ValueSteps
 pub mod ZoneSteps
 pub mod Ticks
+pub mod PictureRest
+pub mod Resting

@@ -1,5 +1,5 @@
 -- The end of a moment: what turned in it, and what a lane is then.
-use Rattle.std.proofs.Common.{Bor, ◌≡◌, ℕ, zero, suc, ◌<◌, Bool, false, not, List, length, get_or, slice_index, Option, None, sym, ap, subst, ◌∙◌, arith, ltb, eqb}
+use Rattle.std.proofs.Common.{Bor, Vec, Global, ◌≡◌, ℕ, zero, suc, ◌<◌, Bool, false, not, List, length, get_or, slice_index, Option, None, sym, ap, subst, ◌∙◌, arith, ltb, eqb}
 use Rattle.std.specs.Prelude.{ℤ}
 use Rattle.std.proofs.lemmas.Bool.{lt-ltb, ne_eqb}
 use Rattle.ecam_spec.specs.Book.{Book}
@@ -22,7 +22,7 @@ use Rattle.book_model.specs.Conditions.{world_of}
 use Rattle.term_eval.specs.Due.{staying, IsDue}
 use Rattle.fwc_lane.specs.declared.terms.Terms.{Terms}
 use Rattle.fwc_lane.specs.TermsFit.{TermsFit}
-use Rattle.fwc_lane.specs.Conditions.{TermsStand, AllStepped}
+use Rattle.fwc_lane.specs.Conditions.{TermsStand, BookHalf, AllStepped}
 use Rattle.crew_marks.specs.CrewMarks.{CrewMarks}
 use Rattle.crew_marks.specs.MarkSets.{MarkSets}
 use Rattle.crew_marks.specs.MarksState.{MarksStand}
@@ -30,6 +30,7 @@ use Rattle.fwc_lane.specs.declared.lane.Lane.{Lane}
 use Rattle.fwc_lane.specs.declared.scene.Turned.{Turned}
 use Rattle.fwc_lane.specs.Scenes.{AreTurned}
 use Rattle.fwc_lane.specs.LaneStands.{WholeStands}
+use Rattle.fwc_lane.specs.Begun.{HasBegun}
 use Rattle.fwc_lane.specs.Given.{Lends, Came, AreBefore}
 use Rattle.fwc_lane.proofs.CrewMoments.{shown-told, cancelled-told}
 
@@ -43,16 +44,15 @@ first-is zero ticked first was is = is ∙ ap not was
 first-is (suc k) ticked first was is = is ∙ ap not (was ∙ lt-ltb 0 (suc k) (omega arith)) ∙ sym (ne_eqb (suc k) 0 (λ e. absurd (omega arith)))
 
 -- what turned, by what the lane held before and what the moment made of it
-pub record TurnedFrom (b : Book) (m : ℕ → Moment) (k : ℕ) (old : Lane) (t : Turned) (phase : Phase) (values : List (Option ℤ)) (lines memos : List Bool) (marks : CrewMarks) (was calm : Bool) : Type 0 where
+pub record TurnedFrom (b : Book) (m : ℕ → Moment) (k : ℕ) (old : Lane) (t : Turned) (phase : Phase) (others : Bool) (lines memos : List Bool) (marks : CrewMarks) (was calm : Bool) : Type 0 where
   pub first : t.first ≡ not old.ticked
   pub phase_kept : t.phase ≡ false → phase ≡ old.phase
-  pub values_kept : t.values ≡ false → values ≡ old.values.items
+  pub values : t.values ≡ others
   pub lines_kept : t.lines ≡ false → lines ≡ old.lines.items
   pub memos_kept : t.memos ≡ false → memos ≡ old.memos.items
   pub marks_kept : t.marks ≡ false → marks.sets ≡ old.marks.sets
   pub normal_kept : t.normal ≡ false → calm ≡ was
   pub phase_is : phase.number ≡ phase_in b m k
-  pub values_are : (p : ℕ) → p < length b.parameters → get_or values p None ≡ value_in b m p k
   pub lines_are : TellsOf lines (lines_of b.alerts) (line_stands b m k)
   pub memos_are : TellsOf memos b.memos (λ x. holds (world b m) x.when k)
   pub marks_are : MarksStand b (cockpit b m) (suc k) marks
@@ -65,13 +65,13 @@ pub value-before : (b : Book) (m : ℕ → Moment) (k : ℕ) (values : List (Opt
 unfolding value_before value_in
 value-before b m k values before j e p lt = before p lt ∙ ap (value_before (parameter_at b p) (words_in b m)) e
 
-pub are-turned : (b : Book) (m : ℕ → Moment) (k : ℕ) (old : Lane) (t : Turned) (phase : Phase) (values : List (Option ℤ)) (lines memos : List Bool) (marks : CrewMarks) (was calm : Bool)
-    → WholeStands b m k old → TurnedFrom b m k old t phase values lines memos marks was calm → AreTurned b m k t
+pub are-turned : (b : Book) (m : ℕ → Moment) (k : ℕ) (one two : Bool) (old : Lane) (t : Turned) (phase : Phase) (values : Bool) (lines memos : List Bool) (marks : CrewMarks) (was calm : Bool)
+    → HasBegun b m k one two values old → TurnedFrom b m k old t phase values lines memos marks was calm → AreTurned b m k t
 unfolding previous
-are-turned b m k old t phase values lines memos marks was calm stands from = record {
+are-turned b m k one two old t phase values lines memos marks was calm stands from = record {
   first = first-is k old.ticked t.first stands.ticked from.first;
   phase = λ j e off. sym from.phase_is ∙ ap (λ (p : Phase). p.number) (from.phase_kept off) ∙ stands.phase j e;
-  values = λ j e off p lt. sym (from.values_are p lt) ∙ ap (λ vs. get_or vs p None) (from.values_kept off) ∙ value-before b m k old.values.items stands.values j e p lt;
+  values = λ j e off p lt. stands.kept (sym from.values ∙ off) j e p lt;
   lines = λ j e off i l is. sym (from.lines_are i l is) ∙ ap (λ fs. get_or fs i false) (from.lines_kept off) ∙ stands.lines j e i l is;
   memos = λ j e off i x is. sym (from.memos_are i x is) ∙ ap (λ fs. get_or fs i false) (from.memos_kept off) ∙ stands.memos j e i x is;
   shown = λ j e off a lt.
@@ -121,3 +121,28 @@ terms-after b m k visited t params keys kept one two same all came =
 
 pub fits-after : (b : Book) (t : Terms) (keys : Keys) (one two : Bool) → TermsFit b t → TermsFit b (record t { keys = keys; one_up = one; two_up = two })
 fits-after b t keys one two fits = record { codes = fits.codes; totals = fits.totals; slots = fits.slots; visits = fits.visits; truths = fits.truths; dues = fits.dues; room = fits.room; watch = fits.watch }
+
+-- a moment has begun in a lane that stood for those before it
+pub has-begun : (b : Book) (m : ℕ → Moment) (k : ℕ) (one two turned : Bool) (old : Lane) (t : Terms) (values : Vec (Option ℤ) Global) → WholeStands b m k old → Came b m k old.params old.keys one two
+    → BookHalf b m k 0 0 t.cells.visits t → ((p : ℕ) → p < length b.parameters → get_or values.items p None ≡ value_in b m p k) → (turned ≡ false → values.items ≡ old.values.items)
+    → HasBegun b m k one two turned (record old { terms = t; values = values })
+has-begun b m k one two turned old t values was came half told kept = record {
+  came = came;
+  values = told;
+  kept = λ off j e p lt. sym (told p lt) ∙ ap (λ vs. get_or vs p None) (kept off) ∙ value-before b m k old.values.items was.values j e p lt;
+  terms = half;
+  ticked = was.ticked;
+  phases = was.phases;
+  truths = was.truths;
+  marks = was.marks;
+  attention = was.attention;
+  selector = was.selector;
+  phase = was.phase;
+  lines = was.lines;
+  memos = was.memos;
+  drawn = was.drawn;
+}
+
+-- where no value turned
+pub none-turned : (b : Book) (m : ℕ → Moment) (k : ℕ) (one two turned : Bool) (l : Lane) → turned ≡ false → HasBegun b m k one two turned l → HasBegun b m k one two false l
+none-turned b m k one two turned l is begun = subst (λ t. HasBegun b m k one two t l) is begun

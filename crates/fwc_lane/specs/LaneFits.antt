@@ -1,5 +1,5 @@
 -- When a lane was made for a book.
-use Rattle.std.specs.Prelude.{◌≡◌, ◌<◌, ◌^◌, length}
+use Rattle.std.specs.Prelude.{◌≡◌, ◌<◌, ◌^◌, true, length}
 use Rattle.ecam_spec.specs.Book.{Book}
 use Rattle.ecam_spec.specs.BookTerms.{lines_of}
 use Rattle.param_table.specs.TableState.{ParamsFit}
@@ -9,9 +9,11 @@ use Rattle.attention.specs.State.{AttentionFits}
 use Rattle.system_display.specs.Selecting.{SelectorFits}
 use Rattle.system_display.specs.Pages.{AreShort}
 use Rattle.fwc_lane.specs.TermsFit.{TermsFit}
+use Rattle.fwc_lane.specs.Calm.{IsCalm}
 use Rattle.fwc_lane.specs.declared.lane.Lane.{Lane}
 
--- its parts were made for the book, and have counted the same moments. Nothing is said of any history
+-- its parts were made for the book, and have counted the same moments, and it is calm where it says so. Nothing is said of
+-- any history
 pub record LaneFits (b : Book) (l : Lane) : Type 0 where
   pub params : ParamsFit b l.params
   pub truths : TruthsFit b l.truths
@@ -27,6 +29,7 @@ pub record LaneFits (b : Book) (l : Lane) : Type 0 where
   pub marks_moments : l.marks.moments ≡ l.moments
   pub attention_moments : l.attention.moments ≡ l.moments
   pub selector_moments : l.selector.moments ≡ l.moments
+  pub calm : l.calm ≡ true → IsCalm l
 
 -- the number of moments can grow: there are 2 ^ 63 moments of 100 ms in 29 thousand million years
 abbrev pub CanGoOn : Lane → Type 0

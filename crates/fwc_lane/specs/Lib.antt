@@ -9,5 +9,7 @@ pub mod ChangedRows
 pub mod CrewStands
 pub mod Drawn
 pub mod Scenes
+pub mod Calm
 pub mod LaneFits
+pub mod Begun
 pub mod LaneStands

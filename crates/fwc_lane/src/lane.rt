@@ -8,6 +8,7 @@ ghost use Rattle.ecam_spec.specs.Keys.{IsEvent};
 ghost use Rattle.book_model.specs.Sealed.{the_book};
 ghost use Rattle.fwc_lane.specs.LaneFits.{LaneFits, CanGoOn};
 ghost use Rattle.fwc_lane.specs.LaneStands.{LaneStands, WholeStands, AreUp};
+ghost use Rattle.fwc_lane.specs.Begun.{HasBegun};
 ghost use Rattle.fwc_lane.specs.Given.{Came};
 ghost use Rattle.fwc_lane.specs.Visits.{visits};
 ghost use Rattle.ecam_kinds.specs.KeyState.{KeysStand};
@@ -17,6 +18,7 @@ use crate::begin::begin_moment;
 use crate::counts::FlagCounts;
 use crate::crew::{enters_one, step_crew};
 use crate::drawing::draw;
+use crate::rest::leaves_calm;
 use crate::scene::{Scene, Turned};
 use crate::step::step_conditions;
 use crate::strokes::Strokes;
@@ -62,6 +64,9 @@ pub struct Lane {
     pub memos: Vec<bool>,
     /// There was a moment.
     pub ticked: bool,
+    /// The last moment left all at rest: no alert is restless, no chime or NORMAL can end, and no row changed. Where it isn't
+    /// set it says nothing.
+    pub calm: bool,
     /// How many moments there were: the number of the one that hasn't ended.
     pub moments: u64,
     /// The picture of the last moment, blank before the first.
@@ -103,6 +108,7 @@ impl Lane {
             lines,
             memos,
             ticked: false,
+            calm: false,
             moments: 0,
             picture: Picture::blank(),
             changed: [false; ROWS],
@@ -130,13 +136,14 @@ impl Lane {
         self.selector = Selector::new();
         self.keys = Strokes::new();
         self.ticked = false;
+        self.calm = false;
         self.moments = 0;
         self.picture.copy_from(&Picture::blank());
         self.changed = [false; ROWS];
     }
 
-    /// Takes over all that another lane of the same book holds, but for the count of visits. Its cost is a copy of each of
-    /// its lists.
+    /// Takes over all that another lane of the same book holds, but for the count of visits, and for `calm`, which the next
+    /// moment says again. Its cost is a copy of each of its lists.
     pub fn copy_from(&mut self, other: &Lane)
         requires { (b : plain.Book) × LaneFits b self.old × LaneFits b other.now }
         ensures fits { (b : plain.Book) → LaneFits b self.old → LaneFits b other.now
@@ -159,6 +166,7 @@ impl Lane {
         self.lines.copy_from_slice(&other.lines);
         self.memos.copy_from_slice(&other.memos);
         self.ticked = other.ticked;
+        self.calm = false;
         self.moments = other.moments;
         self.picture.copy_from(&other.picture);
         self.changed = other.changed;
@@ -169,7 +177,9 @@ impl Lane {
     /// key one write or two; what becomes of the computers themselves changes nothing here. A Tick costs a look at each
     /// condition and at the sources of the parameters that may have another value, two at each key, one visit of each node
     /// of the conditions that the moment wakes, and a few looks at each alert, line and memo; a zone of the picture is filled
-    /// only where something that it shows turned.
+    /// only where something that it shows turned. A Tick in which nothing changes, after one that left all at rest, costs a
+    /// look for each 64 parameters, conditions and due moments, one at each source of the parameters that may have another
+    /// value, a copy of the keys and a few writes: it looks at no alert, line, memo or row.
     // (It stands in its caller, so that a word goes to its sources at once.)
     #[inline(always)]
     pub fn event(&mut self, book: &Book, event: &Event, one_up: bool, two_up: bool)
@@ -238,6 +248,33 @@ impl Lane {
             two_up,
             self.moments,
         );
+        match self.resting(book, values) {
+            Some(state) => self.rest(book, state, one_up, two_up),
+            None => self.step(book, values, one_up, two_up),
+        }
+    }
+
+    // The moment that has begun, whatever it wakes. (It stands by itself, so that a moment at rest takes none of the room
+    // that this needs.)
+    #[inline(never)]
+    fn step(&mut self, book: &Book, values: bool, one_up: bool, two_up: bool)
+        requires fits { LaneFits (the_book book.now) self.old }
+        requires goes_on { CanGoOn self.old }
+        ensures fits { LaneFits (the_book book.now) self.new }
+        ensures moments { self.new.moments ≡ self.old.moments + 1 }
+        ensures params { (words : ℕ → List BusWord) (k : ℕ) → words (suc k) ≡ []
+            → ParamsStand (the_book book.now) words k self.old.params
+            → ParamsStand (the_book book.now) words (suc k) self.new.params }
+        ensures keys { (strokes : ℕ → List Stroke) (k : ℕ) → strokes (suc k) ≡ []
+            → KeysStand strokes k self.old.keys → KeysStand strokes (suc k) self.new.keys }
+        ensures whole { (m : ℕ → Moment)
+            → HasBegun (the_book book.now) m self.old.moments one_up two_up values self.old
+            → WholeStands (the_book book.now) m (suc self.old.moments) self.new }
+        ensures visits { (m : ℕ → Moment)
+            → HasBegun (the_book book.now) m self.old.moments one_up two_up values self.old
+            → self.new.terms.cells.visits ≡ min (self.old.terms.cells.visits
+            + visits (the_book book.now) m self.old.moments) (2 ^ 64 - 1) }
+    {
         let lent = Env {
             values: &self.values,
             phase: Phase { number: 1 },
@@ -302,5 +339,6 @@ impl Lane {
         self.terms.two_up = two_up;
         self.params.tick(book);
         self.keys.tick();
+        self.calm = leaves_calm(&self.truths, &self.attention, &self.marks, &self.changed);
     }
 }

@@ -1,8 +1,9 @@
 // The next of some items that has a woken condition.
-ghost use Rattle.std.specs.Prelude.{◌≡◌, ◌+◌, ◌<◌, ◌≤◌, true, length, take};
+ghost use Rattle.std.specs.Prelude.{◌≡◌, ◌+◌, ◌<◌, ◌≤◌, ℕ, true, false, length, take};
 ghost use Rattle.ecam_spec.specs.BookTerms.{lines_of};
 ghost use Rattle.book_model.specs.Sealed.{the_book};
 ghost use Rattle.book_model.specs.Conditions.{alerts_from};
+ghost use Rattle.wakes.specs.Marks.{is_marked};
 ghost use Rattle.fwc_lane.specs.Waking.{NoneMarked, FindsNext, lines_start, memo_start};
 
 use crate::numbers::{first_memo, line_number};
@@ -31,6 +32,13 @@ pub fn inputs_rest(woken: &Marked) -> bool
     ensures { result ≡ true → NoneMarked woken.now 0 alerts_from }
 {
     next_or(woken, 0, 6) == 6
+}
+
+/// Whether no condition is woken. Its cost is a look for each 64 conditions up to the first that is.
+pub fn none_woken(woken: &Marked) -> bool
+    ensures { result ≡ true → (j : ℕ) → is_marked woken.now j ≡ false }
+{
+    woken.first_from(0).is_none()
 }
 
 // The first number of the set from one on, or an end where there is none before it.

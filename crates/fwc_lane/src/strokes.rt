@@ -2,7 +2,8 @@
 ghost use Rattle.std.specs.Prelude.{◌≡◌, ℕ, suc, List, [], true, false};
 ghost use Rattle.ecam_spec.specs.History.{Stroke, OneMore};
 ghost use Rattle.ecam_spec.specs.Keys.{IsKey};
-ghost use Rattle.ecam_kinds.specs.KeyState.{KeysStand};
+ghost use Rattle.ecam_spec.specs.declared.kinds.Key.TheVariants.{Rcl, All};
+ghost use Rattle.ecam_kinds.specs.KeyState.{KeysStand, is_held};
 ghost use Rattle.fwc_lane.specs.Strokes.{NonePressed};
 
 use ecam_kinds::{Key, Keys};
@@ -92,5 +93,14 @@ impl Strokes {
         ensures { result ≡ false → NonePressed self.now }
     {
         self.any
+    }
+
+    /// Whether no key counts as pressed, and neither RCL nor ALL, which act by being held, is held. Its cost is a few looks.
+    pub fn are_idle(&self) -> bool
+        ensures pressed { result ≡ true → NonePressed self.now }
+        ensures rcl { result ≡ true → is_held self.now Rcl ≡ false }
+        ensures all { result ≡ true → is_held self.now All ≡ false }
+    {
+        !self.any && !self.keys.held(Key::Rcl) && !self.keys.held(Key::All)
     }
 }

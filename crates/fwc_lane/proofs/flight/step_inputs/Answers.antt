@@ -15,12 +15,12 @@ pub returns-then-inputs_rest-clause-inputs : goal.returns-then-inputs_rest-claus
 returns-then-inputs_rest-clause-inputs c = λ m visited lends half.
     let d = c.args.book.now in
     subst (AreInputs (flight (the_book d) m) c.args.now) (sym (c.kept_inputs.ensures ∙ ap inputs_by c.deref.ensures.value))
-    (inputs-kept d c.phase_terms-inputs.ensures.sealed c.phase_terms-inputs.result.now c.phase_terms-inputs.ensures.value m c.args.now c.args.env.now lends c.requires.phase c.requires.active c.requires.now visited c.args.terms.now
+    (inputs-kept d c.phase_terms-inputs.ensures.sealed c.phase_terms-inputs.result.now c.phase_terms-inputs.ensures.value m c.args.now c.requires.now visited c.args.terms.now
     (c.inputs_rest.ensures c.if-inputs_rest.true) half)
 
 pub returns-then-inputs_rest-clause-stands : goal.returns-then-inputs_rest-clause-stands
 returns-then-inputs_rest-clause-stands c = λ m visited lends half.
-    inputs-rest c.args.book.now c.phase_terms-inputs.ensures.sealed c.phase_terms-inputs.result.now c.phase_terms-inputs.ensures.value m c.args.now c.args.env.now lends c.requires.phase c.requires.active c.requires.now visited c.args.terms.now
+    inputs-rest c.args.book.now c.phase_terms-inputs.ensures.sealed c.phase_terms-inputs.result.now c.phase_terms-inputs.ensures.value m c.args.now c.requires.now visited c.args.terms.now
     (c.inputs_rest.ensures c.if-inputs_rest.true) half
 
 pub step_term-gnd-requires-clause-place : goal.step_term-gnd-requires-clause-place

@@ -24,7 +24,7 @@ unfolding previous
 returns-clause-rows c = λ m k scene turned was.
     let d = c.args.book.now in
     let b = the_book d in
-    left-drawn b m k c.normal.result c.fill_left.result _ _ (c.normal.ensures b (cockpit b m) (suc k) scene.marks)
+    left-drawn b m k c.normal.result c.fill_left.result _ _ (c.normal.ensures.answer b (cockpit b m) (suc k) scene.marks)
     (c.fill_left.ensures.rows (λ a. is_shown_in b m a k) (line_stands b m k) (λ x. holds (world b m) x.when k)
     (λ a lt. ap (λ xs. get_or xs a false) c.shown.ensures ∙ shown-told b m k _ scene.marks a (omega (arith, many-alerts d)))
     scene.lines scene.memos)

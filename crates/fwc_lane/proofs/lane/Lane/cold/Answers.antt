@@ -25,6 +25,7 @@ returns-clause-fits c = record {
   marks_moments = c.clear-4.ensures.moments;
   attention_moments = c.clear-5.ensures.moments;
   selector_moments = c.new-self-2.ensures.moments;
+  calm = λ on. absurd (let w : ⊥ = cc in w);
 }
 
 pub returns-clause-stands : goal.returns-clause-stands
