@@ -178,8 +178,8 @@ impl Lane {
     /// condition and at the sources of the parameters that may have another value, two at each key, one visit of each node
     /// of the conditions that the moment wakes, and a few looks at each alert, line and memo; a zone of the picture is filled
     /// only where something that it shows turned. A Tick in which nothing changes, after one that left all at rest, costs a
-    /// look for each 64 parameters, conditions and due moments, one at each source of the parameters that may have another
-    /// value, a copy of the keys and a few writes: it looks at no alert, line, memo or row.
+    /// look for each 64 parameters and each 64 conditions, one at each source of the parameters that may have another value,
+    /// a copy of the keys and a few writes: it looks at no alert, line, memo or row.
     // (It stands in its caller, so that a word goes to its sources at once.)
     #[inline(always)]
     pub fn event(&mut self, book: &Book, event: &Event, one_up: bool, two_up: bool)

@@ -34,11 +34,11 @@ pub fn inputs_rest(woken: &Marked) -> bool
     next_or(woken, 0, 6) == 6
 }
 
-/// Whether no condition is woken. Its cost is a look for each 64 conditions up to the first that is.
-pub fn none_woken(woken: &Marked) -> bool
-    ensures { result ≡ true → (j : ℕ) → is_marked woken.now j ≡ false }
+/// Whether the set has no number. Its cost is a look for each 64 numbers up to the first that it has.
+pub fn none_marked(marked: &Marked) -> bool
+    ensures { result ≡ true → (j : ℕ) → is_marked marked.now j ≡ false }
 {
-    woken.first_from(0).is_none()
+    marked.first_from(0).is_none()
 }
 
 // The first number of the set from one on, or an end where there is none before it.

@@ -18,7 +18,7 @@ ghost use Rattle.fwc_lane.specs.Visits.{visits};
 
 use crate::flight::kept_inputs;
 use crate::lane::Lane;
-use crate::next::none_woken;
+use crate::next::none_marked;
 use crate::waking::is_other_phase;
 use alert_truth::Truths;
 use attention::Attention;
@@ -31,7 +31,7 @@ impl Lane {
     /// What the phases leave after the moment that has begun, where nothing changes in it: the moment before left all at
     /// rest, no value turned, no condition is woken, the crew does nothing, and the phase stays. Its cost is a look for each
     /// 64 conditions, and a few more.
-    pub fn resting(&self, book: &Book, values: bool) -> Option<PhaseState>
+    pub(crate) fn resting(&self, book: &Book, values: bool) -> Option<PhaseState>
         requires { LaneFits (the_book book.now) self.now }
         ensures values { IfSome result (λ state. values ≡ false) }
         ensures rest { IfSome result (λ state. IsAtRest self.now) }
@@ -57,13 +57,13 @@ impl Lane {
         requires { (b : plain.Book) × LaneFits b self.now }
         ensures { result ≡ true → IsAtRest self.now }
     {
-        self.calm && none_woken(&self.terms.woken) && self.keys.are_idle()
+        self.calm && none_marked(&self.terms.woken) && self.keys.are_idle()
     }
 
     /// Ends the moment that has begun, where nothing changes in it, and this is what the phases leave. No condition, alert,
     /// line, memo or row is looked at: its cost is a few writes, what the parameters do at the end of a moment, and a copy of
     /// the keys.
-    pub fn rest(&mut self, book: &Book, state: PhaseState, one_up: bool, two_up: bool)
+    pub(crate) fn rest(&mut self, book: &Book, state: PhaseState, one_up: bool, two_up: bool)
         requires fits { LaneFits (the_book book.now) self.old }
         requires goes_on { CanGoOn self.old }
         requires rest { IsAtRest self.old }
@@ -106,7 +106,8 @@ fn whole(_rows: &[Row], _changed: &[bool])
 {}
 
 /// Whether a moment left all at rest: no alert is restless, no chime or NORMAL can end, and no row changed. Its cost is a
-/// look for each 64 alerts, a few more, and, where these tell of no change to come, a few at many flags at once.
+/// look for each 64 alerts, a few more, and, where these tell of no change to come, a few at the flags of the rows, of which
+/// each takes in many at once.
 pub fn leaves_calm(
     truths: &Truths,
     attention: &Attention,
@@ -119,7 +120,7 @@ pub fn leaves_calm(
         → stands_normal marks.now.quiet_press marks.now.moments ≡ false }
     ensures changed { result ≡ true → (i : ℕ) → i < ROWS → get_or changed.now i false ≡ false }
 {
-    none_woken(truths.restless()) && attention.is_steady() && !marks.normal() && !has_any(changed)
+    none_marked(truths.restless()) && attention.is_steady() && !marks.normal() && !has_any(changed)
 }
 
 // Whether a flag is set.
