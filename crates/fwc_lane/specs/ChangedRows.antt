@@ -17,3 +17,7 @@ row_changed pictures (suc k) i = row_differs (picture_before pictures k) (pictur
 -- the flags tell which rows changed
 abbrev pub TellsRows : (ℕ → Picture) → ℕ → List Bool → Type 0
 TellsRows pictures k flags = (i : ℕ) → i < PICTURE_ROWS → get_or flags i false ≡ row_changed pictures k i
+
+-- no row is told as changed
+abbrev pub NoneChanged : List Bool → Type 0
+NoneChanged flags = (i : ℕ) → i < PICTURE_ROWS → get_or flags i false ≡ false

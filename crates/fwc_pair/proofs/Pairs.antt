@@ -15,7 +15,7 @@ use Rattle.ecam_spec.proofs.ReplaySteps.{last_picture_kept, last_picture_tick, p
 use Rattle.ecam_spec.proofs.PictureAgree.{picture_causal}
 use Rattle.ecam_kinds.specs.Shown.{picture_of}
 use Rattle.zone_rows.proofs.Same.{same_row-equal}
-use Rattle.fwc_lane.specs.ChangedRows.{row_differs, row_changed, TellsRows}
+use Rattle.fwc_lane.specs.ChangedRows.{row_differs, row_changed, TellsRows, NoneChanged}
 use Rattle.fwc_lane.specs.LaneStands.{LaneStands, AreUp}
 use Rattle.fwc_lane.specs.declared.lane.Lane.{Lane}
 use Rattle.fwc_pair.specs.declared.pair.Pair.{Pair}
@@ -83,6 +83,12 @@ are-up h x one two same = flags_next h x ∙ sym same
 
 pub stepped : (b : Book) (h : List Event) (x : Event) (up : Bool) (l : Lane) → (up ≡ true → LaneStands b (era_with (begun h x) x) l) → up ≡ true → LaneStands b (era (h ++ x ∷ [])) l
 stepped b h x up l stands is = subst (λ e. LaneStands b e l) (sym (era_next h x)) (stands is)
+
+-- what is known of the rows that the last Tick changed
+pub kept-still : (tick was still : Bool) (before changed : List Bool) → (was ≡ true → NoneChanged before) → (tick ≡ false → still ≡ was)
+    → (tick ≡ false → changed ≡ before) → (tick ≡ true → still ≡ true → NoneChanged changed) → still ≡ true → NoneChanged changed
+kept-still true was still before changed old same rows new on = new refl on
+kept-still false was still before changed old same rows new on = subst NoneChanged (sym (rows refl)) (old (sym (same refl) ∙ on))
 
 -- ---- the picture
 

@@ -5,7 +5,7 @@ use Rattle.ecam_spec.specs.Book.{Book}
 use Rattle.ecam_spec.specs.History.{Flags, flags_after, Era, era}
 use Rattle.ecam_spec.specs.Replay.{tick_count, picture, last_picture}
 use Rattle.ecam_kinds.specs.Shown.{picture_of}
-use Rattle.fwc_lane.specs.ChangedRows.{TellsRows}
+use Rattle.fwc_lane.specs.ChangedRows.{TellsRows, NoneChanged}
 use Rattle.fwc_lane.specs.LaneFits.{LaneFits}
 use Rattle.fwc_lane.specs.LaneStands.{LaneStands}
 use Rattle.fwc_pair.specs.declared.pair.Pair.{Pair}
@@ -13,12 +13,13 @@ use Rattle.fwc_pair.specs.declared.pair.Pair.{Pair}
 abbrev pub flags_of : Pair → Flags
 flags_of p = record { one = p.one_up; two = p.two_up }
 
--- its lanes were made for the book, and those that are up have counted the same moments. Nothing
--- is said of any history
+-- its lanes were made for the book, those that are up have counted the same moments, and no row is told as changed where none
+-- is known to have. Nothing is said of any history
 pub record PairFits (b : Book) (p : Pair) : Type 0 where
   pub one : LaneFits b p.one
   pub two : LaneFits b p.two
   pub together : p.one_up ≡ true → p.two_up ≡ true → p.two.moments ≡ p.one.moments
+  pub still : p.still ≡ true → NoneChanged p.changed
 
 -- how many whole moments the first computer that is up has counted
 abbrev pub moments_of : Pair → ℕ

@@ -6,6 +6,7 @@ ghost use Rattle.ecam_kinds.specs.Shown.{row_of, rows_of, picture_of};
 ghost use Rattle.zone_rows.specs.Tracked.{tracked, IsWhole};
 ghost use Rattle.zone_rows.specs.Mended.{Mends};
 ghost use Rattle.zone_rows.specs.Zones.{IsMended};
+ghost use Rattle.fwc_lane.specs.ChangedRows.{NoneChanged};
 ghost use Rattle.fwc_pair.specs.Faces.{IsShown, OthersStand, NamesChanges};
 
 use ecam_kinds::{Colour, Event, Picture, ROWS, Row};
@@ -26,16 +27,26 @@ fn mend_row(rows: &mut [Row], changed: &mut [bool], place: usize, row: &Row, nam
     }
 }
 
-// Whether any row is named, or all are meant. Its cost is a few looks at many flags at once.
-fn has_any(named: &[bool; ROWS], all: bool) -> bool
+// Whether any row is named, or all are meant. Its cost is a few looks at many flags at once, and none where it is known
+// that no row is named.
+fn has_any(named: &[bool; ROWS], all: bool, none: bool) -> bool
+    requires { none ≡ true → NoneChanged named.now }
     ensures all { result ≡ false → all ≡ false }
-    ensures named { result ≡ false → (i : ℕ) → i < ROWS → get_or named.now i false ≡ false }
+    ensures named { result ≡ false → NoneChanged named.now }
+    ensures none { none ≡ true → all ≡ false → result ≡ false }
 {
-    all || named.contains(&true)
+    all || (!none && named.contains(&true))
 }
 
-// Puts the named rows of a picture, or all of them, in their places. Where no row is named none is looked at.
-fn mend(rows: &mut [Row], changed: &mut [bool], picture: &[Row], named: &[bool; ROWS], all: bool)
+// Puts the named rows of a picture, or all of them, in their places.
+#[inline(never)]
+fn mend_rows(
+    rows: &mut [Row],
+    changed: &mut [bool],
+    picture: &[Row],
+    named: &[bool; ROWS],
+    all: bool,
+)
     requires whole { IsWhole (tracked rows.old changed.old) }
     requires picture { length picture.now ≡ ROWS }
     ensures whole { IsWhole (tracked rows.new changed.new) }
@@ -43,11 +54,32 @@ fn mend(rows: &mut [Row], changed: &mut [bool], picture: &[Row], named: &[bool; 
         → IsMended (rows_of picture.now) (tracked rows.old changed.old)
         (tracked rows.new changed.new) }
 {
-    if !has_any(named, all) {
-        return;
-    }
     for i in 0..ROWS {
         mend_row(rows, changed, i, &picture[i], all | named[i]);
+    }
+}
+
+// The same, where no row is looked at if none is named, and no flag if it is known that none is.
+#[inline(always)]
+fn mend(
+    rows: &mut [Row],
+    changed: &mut [bool],
+    picture: &[Row],
+    named: &[bool; ROWS],
+    all: bool,
+    none: bool,
+)
+    requires whole { IsWhole (tracked rows.old changed.old) }
+    requires picture { length picture.now ≡ ROWS }
+    requires none { none ≡ true → NoneChanged named.now }
+    ensures whole { IsWhole (tracked rows.new changed.new) }
+    ensures mended { (all ≡ false → OthersStand named.now (rows_of rows.old) (rows_of picture.now))
+        → IsMended (rows_of picture.now) (tracked rows.old changed.old)
+        (tracked rows.new changed.new) }
+    ensures kept { none ≡ true → all ≡ false → changed.new ≡ changed.old }
+{
+    if has_any(named, all, none) {
+        mend_rows(rows, changed, picture, named, all);
     }
 }
 
@@ -70,22 +102,27 @@ fn mend_dead(rows: &mut [Row], changed: &mut [bool])
     blank_rest(rows, changed, 0, ROWS, count);
 }
 
-// Shows what a lane shows. Only the rows that it names as changed are compared, but for the first moment of an era:
-// what stood before that is none of its pictures.
-#[inline(never)]
-fn show_lane(face: &mut Picture, changed: &mut [bool; ROWS], lane: &Lane)
-    requires { changed.old ≡ replicate ROWS false }
-    ensures { NamesChanges lane.now (picture_of face.old)
+// Shows what a lane shows, and answers whether it is known that no row changed. Only the rows that the lane names as changed
+// are compared, but for the first moment of an era: what stood before that is none of its pictures.
+#[inline(always)]
+fn show_lane(face: &mut Picture, changed: &mut [bool; ROWS], lane: &Lane) -> bool
+    requires none { changed.old ≡ replicate ROWS false }
+    requires calm { lane.now.calm ≡ true → NoneChanged lane.now.changed }
+    ensures shown { NamesChanges lane.now (picture_of face.old)
         → IsShown (picture_of lane.now.picture) (picture_of face.old) (picture_of face.new)
         changed.new }
+    ensures still { result ≡ true → NoneChanged changed.new }
 {
+    let begins = lane.moments < 2;
     mend(
         &mut face.rows,
         changed,
         &lane.picture.rows,
         &lane.changed,
-        lane.moments < 2,
+        begins,
+        lane.calm,
     );
+    lane.calm && !begins
 }
 
 #[inline(never)]
@@ -96,21 +133,26 @@ fn show_dead(face: &mut Picture, changed: &mut [bool; ROWS])
     mend_dead(&mut face.rows, changed);
 }
 
-/// At a Tick, shows what the first computer that is up shows, or that none is. Other events leave what stands. Costs at
-/// most the comparison of each row, and a copy of those that differ; after the first moment of an era no row is looked
-/// at but those that the computer changed, and where it changed none the cost is a few looks.
+/// At a Tick, shows what the first computer that is up shows, or that none is, and notes in `still` whether it is known that
+/// no row changed. Other events leave what stands. Costs at most the comparison of each row, and a copy of those that differ;
+/// after the first moment of an era no row is looked at but those that the computer changed, and where it is calm none.
 #[inline(always)]
 pub(crate) fn show(
     face: &mut Picture,
     changed: &mut [bool; ROWS],
+    still: &mut bool,
     event: &Event,
     one: &Lane,
     one_up: bool,
     two: &Lane,
     two_up: bool,
 )
+    requires one { one.now.calm ≡ true → NoneChanged one.now.changed }
+    requires two { two.now.calm ≡ true → NoneChanged two.now.changed }
     ensures face { is_tick event.now ≡ false → face.new ≡ face.old }
     ensures changed { is_tick event.now ≡ false → changed.new ≡ changed.old }
+    ensures kept { is_tick event.now ≡ false → still.new ≡ still.old }
+    ensures still { is_tick event.now ≡ true → still.new ≡ true → NoneChanged changed.new }
     ensures one { is_tick event.now ≡ true → one_up ≡ true
         → NamesChanges one.now (picture_of face.old)
         → IsShown (picture_of one.now.picture) (picture_of face.old) (picture_of face.new)
@@ -125,11 +167,12 @@ pub(crate) fn show(
     if let Event::Tick = event {
         *changed = [false; ROWS];
         if one_up {
-            show_lane(face, changed, one);
+            *still = show_lane(face, changed, one);
         } else if two_up {
-            show_lane(face, changed, two);
+            *still = show_lane(face, changed, two);
         } else {
             show_dead(face, changed);
+            *still = false;
         }
     }
 }

@@ -9,7 +9,7 @@ ghost use Rattle.ecam_spec.specs.Replay.{is_tick, tick_count, picture, last_pict
 ghost use Rattle.ecam_spec.specs.Replay as replay;
 ghost use Rattle.ecam_kinds.specs.Shown.{picture_of};
 ghost use Rattle.book_model.specs.Sealed.{the_book};
-ghost use Rattle.fwc_lane.specs.ChangedRows.{TellsRows};
+ghost use Rattle.fwc_lane.specs.ChangedRows.{TellsRows, NoneChanged};
 ghost use Rattle.fwc_lane.specs.LaneStands.{LaneStands};
 ghost use Rattle.fwc_pair.specs.PairState.{flags_of, moments_of, PairFits, UpStand, PairStands};
 ghost use Rattle.fwc_pair.specs.PairVisits.{Visits, NoVisits, tick_visits};
@@ -36,6 +36,8 @@ pub struct Pair {
     pub face: Picture,
     /// Which of its rows the last Tick changed.
     pub changed: [bool; ROWS],
+    /// It is known that the last Tick changed none.
+    pub still: bool,
 }
 
 impl Pair {
@@ -51,6 +53,7 @@ impl Pair {
             two_up: true,
             face: Picture::blank(),
             changed: [false; ROWS],
+            still: false,
         })
     }
 
@@ -67,6 +70,7 @@ impl Pair {
         self.two_up = true;
         self.face = Picture::blank();
         self.changed = [false; ROWS];
+        self.still = false;
     }
 
     /// Takes the next event of a history. A word costs a visit of the sources that listen to it, a stroke a write. A
@@ -94,6 +98,31 @@ impl Pair {
             self.new.two }
         ensures unvisited { is_tick event.now ≡ false → NoVisits self.old self.new }
     {
+        match event {
+            Event::Word { bus: _, bits: _ } => self.take(book, event),
+            Event::Tick => self.take(book, event),
+            _ => self.take(book, event),
+        }
+    }
+
+    // The same, in a place where it is known what the event is: so that it is asked once, and not by each computer.
+    #[inline(always)]
+    fn take(&mut self, book: &Book, event: &Event)
+        requires fits { PairFits (the_book book.now) self.old }
+        requires event { IsEvent event.now }
+        requires moments { is_tick event.now ≡ true → moments_of self.old < 2 ^ 63 }
+        ensures fits { PairFits (the_book book.now) self.new }
+        ensures stands { (h : List Event) → PairStands (the_book book.now) h self.old
+            → PairStands (the_book book.now) (h ++ event.now ∷ []) self.new }
+        ensures end { event.now ≡ End → (h : List Event) → PairStands (the_book book.now) h self.old
+            → PairStands (the_book book.now) h self.new }
+        ensures visits { (h : List Event) → PairStands (the_book book.now) h self.old
+            → is_tick event.now ≡ true
+            → Visits self.old.one_up (tick_visits (the_book book.now) h) self.old.one self.new.one
+            × Visits self.old.two_up (tick_visits (the_book book.now) h) self.old.two
+            self.new.two }
+        ensures unvisited { is_tick event.now ≡ false → NoVisits self.old self.new }
+    {
         self.note_health(book, event);
         step(
             &mut self.one,
@@ -114,6 +143,7 @@ impl Pair {
         show(
             &mut self.face,
             &mut self.changed,
+            &mut self.still,
             event,
             &self.one,
             self.one_up,
@@ -130,6 +160,7 @@ impl Pair {
         ensures flags { flags_of self.new ≡ flags_with (flags_of self.old) event.now }
         ensures face { self.new.face ≡ self.old.face }
         ensures changed { self.new.changed ≡ self.old.changed }
+        ensures still { self.new.still ≡ self.old.still }
         ensures kept { changes_computers event.now ≡ false → self.new ≡ self.old }
         ensures stands { (h : List Event) → flags_of self.old ≡ flags_after h
             → UpStand (the_book book.now) (era h) self.old
@@ -169,6 +200,7 @@ impl Pair {
         ensures flags { flags_of self.new ≡ set_flag computer true (flags_of self.old) }
         ensures face { self.new.face ≡ self.old.face }
         ensures changed { self.new.changed ≡ self.old.changed }
+        ensures still { self.new.still ≡ self.old.still }
         ensures stands { (h : List Event) → flags_of self.old ≡ flags_after h
             → UpStand (the_book book.now) (era h) self.old
             → UpStand (the_book book.now) (begun h (Up computer)) self.new }
@@ -200,6 +232,15 @@ impl Pair {
             → TellsRows (picture b h) (tick_count h) result.now }
     {
         &self.changed
+    }
+
+    /// Whether it is known that the last Tick changed no row.
+    pub fn still(&self) -> bool
+        ensures value { result ≡ self.now.still }
+        ensures tells { (b : plain.Book) → PairFits b self.now → result ≡ true
+            → NoneChanged self.now.changed }
+    {
+        self.still
     }
 
     /// The first computer that is up.

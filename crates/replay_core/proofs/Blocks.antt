@@ -1,5 +1,5 @@
 -- The lines of a block, row by row.
-use Rattle.std.proofs.Common.{◌≡◌, ℕ, suc, ◌+◌, ◌<◌, ◌≤◌, Bool, true, false, not, ◌&&◌, ◌||◌, List, [], ◌∷◌, ◌++◌, length, get_or, drop, leb, cond, ◌∙◌, refl, sym, ap, arith, add-one, drop-cons, append_assoc}
+use Rattle.std.proofs.Common.{◌≡◌, ℕ, zero, suc, ◌+◌, ◌<◌, ◌≤◌, Bool, true, false, not, ◌&&◌, ◌||◌, List, [], ◌∷◌, ◌++◌, length, get_or, drop, leb, cond, ◌∙◌, refl, sym, ap, arith, add-one, drop-cons, append_assoc}
 use Rattle.std.specs.Prelude.{decimal, if◌then◌else◌}
 use Rattle.std.specs.List.{list_any}
 use Rattle.std.proofs.lemmas.Bool.{leb-true}
@@ -30,6 +30,13 @@ any-set flags = ap (λ test. list_any test flags) (fun_ext is-set) where
   is-set : (f : Bool) → beq f true ≡ f
   is-set true = refl
   is-set false = refl
+
+-- of flags that are all false none is set
+pub none-any : (n : ℕ) (flags : List Bool) → length flags ≡ n → ((i : ℕ) → i < n → get_or flags i false ≡ false) → list_any (λ f. f) flags ≡ false
+none-any n [] long none = refl
+none-any zero (f ∷ flags) long none = absurd (let w : ⊥ = omega (arith, long) in w)
+none-any (suc n) (true ∷ flags) long none = absurd (let w : ⊥ = cc (none 0 (omega arith)) in w)
+none-any (suc n) (false ∷ flags) long none = none-any n flags (omega (arith, long)) (λ i within. none (suc i) (omega (arith, within)))
 
 module _ (flags : List Bool) (rows : List code.Row) (i : ℕ) where
   -- the line of one more row

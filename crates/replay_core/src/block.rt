@@ -1,10 +1,11 @@
 // The block that a Tick writes: the rows that changed.
-ghost use Rattle.std.specs.Prelude.{◌≡◌, ◌≤◌, ◌<◌, ◌+◌, ◌^◌, ◌*◌, ◌++◌, [], ◌∷◌, length, decimal, slice_index_or, map, ℕ, Bool, List, if◌then◌else◌};
+ghost use Rattle.std.specs.Prelude.{◌≡◌, ◌≤◌, ◌<◌, ◌+◌, ◌^◌, ◌*◌, ◌++◌, [], ◌∷◌, length, decimal, slice_index_or, map, ℕ, Bool, true, List, if◌then◌else◌};
 ghost use Rattle.std.specs.List.{list_any};
 ghost use Rattle.std.specs.Borrow.{Bor};
 ghost use Rattle.ecam_spec.specs.Picture as spec;
 ghost use Rattle.ecam_spec.specs.Output as output;
 ghost use Rattle.ecam_kinds.specs.Shown.{row_of, rows_of, picture_of};
+ghost use Rattle.fwc_lane.specs.ChangedRows.{NoneChanged};
 ghost use Rattle.replay_core.specs.Flagged.{flagged_lines, NamesRows};
 
 use arrayvec::ArrayVec;
@@ -37,11 +38,12 @@ fn letter_of(colour: Colour) -> &'static str
     }
 }
 
-// Whether a flag is set. Its cost is a few looks at many flags at once.
-fn has_any(flags: &[bool; ROWS]) -> bool
+// Whether a flag is set. Its cost is a few looks at many flags at once, and none where it is known that none is set.
+fn has_any(flags: &[bool; ROWS], none: bool) -> bool
+    requires { none ≡ true → NoneChanged flags.now }
     ensures { result ≡ list_any (λ f. f) flags.now }
 {
-    flags.contains(&true)
+    !none && flags.contains(&true)
 }
 
 // Appends bytes for which there is room.
@@ -124,6 +126,7 @@ fn put_number(out: &mut Block, tick: u64)
 }
 
 // Appends the lines of the rows whose flag is set.
+#[inline(never)]
 fn put_changes(out: &mut Block, changed: &[bool], rows: &[Row])
     requires room { length out.old.items + 47 * ROWS ≤ BLOCK }
     requires changed { length changed.now ≡ ROWS }
@@ -137,12 +140,14 @@ fn put_changes(out: &mut Block, changed: &[bool], rows: &[Row])
 }
 
 // Appends the block of a Tick that changed the rows whose flag is set.
-fn put_block(out: &mut Block, tick: u64, picture: &Picture, changed: &[bool; ROWS])
-    requires { length out.old.items + 42 + 47 * ROWS ≤ BLOCK }
+#[inline(always)]
+fn put_block(out: &mut Block, tick: u64, picture: &Picture, changed: &[bool; ROWS], still: bool)
+    requires room { length out.old.items + 42 + 47 * ROWS ≤ BLOCK }
+    requires still { still ≡ true → NoneChanged changed.now }
     ensures { (old : spec.Picture) → NamesRows old (picture_of picture.now) changed.now
         → out.new.items ≡ out.old.items ++ output.block tick old (picture_of picture.now) }
 {
-    if !has_any(changed) {
+    if !has_any(changed, still) {
         return;
     }
     put_number(out, tick);
@@ -150,14 +155,22 @@ fn put_block(out: &mut Block, tick: u64, picture: &Picture, changed: &[bool; ROW
 }
 
 // Puts in place of what was there the block of Tick number `tick`, whose picture is this one and which changed the rows
-// whose flag is set. Its cost is a few looks where no flag is set, else one at each flag, and a copy of each row that
-// changed.
-pub(crate) fn renew(block: &mut Block, tick: u64, picture: &Picture, changed: &[bool; ROWS])
+// whose flag is set. Where it is still no flag is set, and none is looked at. Its cost is a few looks where no flag is set, else
+// one at each flag, and a copy of each row that changed.
+#[inline(always)]
+pub(crate) fn renew(
+    block: &mut Block,
+    tick: u64,
+    picture: &Picture,
+    changed: &[bool; ROWS],
+    still: bool,
+)
+    requires { still ≡ true → NoneChanged changed.now }
     ensures { (old : spec.Picture) → NamesRows old (picture_of picture.now) changed.now
         → block.new.items ≡ output.block tick old (picture_of picture.now) }
 {
     block.clear();
-    put_block(block, tick, picture, changed);
+    put_block(block, tick, picture, changed, still);
 }
 
 // The line that ends the output.

@@ -77,7 +77,13 @@ impl View for Changes {
             return Ok(());
         }
         let tick = self.number();
-        renew(&mut self.block, tick, pair.picture(), pair.changed());
+        renew(
+            &mut self.block,
+            tick,
+            pair.picture(),
+            pair.changed(),
+            pair.still(),
+        );
         put_all(out, self.block.as_slice())
     }
 

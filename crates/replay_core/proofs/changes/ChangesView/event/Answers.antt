@@ -3,6 +3,7 @@ use Rattle.std.specs.Prelude.{OnOk, OnErr}
 use Rattle.ecam_io.specs.Outside.{Appended, AppendedPrefix}
 use Rattle.ecam_spec.specs.Output.{block}
 use Rattle.ecam_kinds.specs.Shown.{picture_of}
+use Rattle.fwc_lane.specs.ChangedRows.{NoneChanged}
 use Rattle.replay_core.specs.Flagged.{NamesRows}
 use Rattle.book_model.specs.Sealed.{the_book}
 use Rattle.replay_core.proofs.Feeding.{quiet-adds, quiet-count, tick-count, few-ticks, tick-block, adds-block, adds-part, on-ok}
@@ -22,6 +23,11 @@ pub number-tick-requires : goal.number-tick-requires
 number-tick-requires g c =
     let (h, seen) = c.requires.next in
     few-ticks (the_book c.args._book.now) h c.args.event.now c.args._fresh c.args.pair.now seen.1 g.O.Sink.agrees (sym c.is_tick.ensures ∙ c.if-not-is_tick.false) c.args.self.now.ticks seen.0
+
+pub renew-requires : goal.renew-requires
+renew-requires g c = λ so.
+    let (h, seen) = c.requires.next in
+    subst NoneChanged (sym c.changed.ensures.value) (c.still.ensures.tells (the_book c.args._book.now) seen.1.pair.fits so)
 
 pub returns-clause-stands : goal.returns-clause-stands
 returns-clause-stands g c = λ h stood next.

@@ -3,7 +3,7 @@ use Rattle.ecam_kinds.specs.Shown.{rows_of}
 use Rattle.zone_rows.specs.Tracked.{tracked, IsWhole}
 use Rattle.zone_rows.specs.Mended.{Mends}
 use Rattle.fwc_pair.specs.Faces.{OthersStand}
-use Rattle.fwc_pair.proofs.face.mend.Given as goal
+use Rattle.fwc_pair.proofs.face.mend_rows.Given as goal
 
 abbrev pub invariant-loop-i : goal.invariant-loop-i
 invariant-loop-i l = record {

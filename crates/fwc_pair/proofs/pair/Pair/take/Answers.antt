@@ -5,10 +5,22 @@ use Rattle.ecam_kinds.specs.Shown.{picture_of}
 use Rattle.book_model.specs.Sealed.{the_book}
 use Rattle.fwc_pair.specs.PairState.{PairStands}
 use Rattle.fwc_pair.specs.declared.pair.Pair.{Pair}
-use Rattle.fwc_pair.proofs.Pairs.{ShowsUp, are-up, went-on, ended}
+use Rattle.fwc_pair.proofs.Pairs.{ShowsUp, are-up, kept-still, went-on, ended}
 use Rattle.fwc_pair.specs.PairVisits.{Visits, tick_visits}
 use Rattle.fwc_pair.proofs.VisitSteps.{is-tick, visits-are}
-use Rattle.fwc_pair.proofs.pair.Pair.event.Goals as goal
+use Rattle.fwc_pair.proofs.pair.Pair.take.Goals as goal
+
+pub returns-clause-fits : goal.returns-clause-fits
+returns-clause-fits c =
+    let x = c.args.event.now in
+    let mid = c.note_health.new.self in
+    record {
+      one = c.step.ensures.fits;
+      two = c.step-2.ensures.fits;
+      together = λ e f. c.step-2.ensures.moments f ∙ ap (λ n. n + cond (is_tick x) 1 0) (c.note_health.ensures.fits.together e f) ∙ sym (c.step.ensures.moments e);
+      still =
+          kept-still (is_tick x) mid.still c.show.new.still mid.changed c.show.new.changed c.note_health.ensures.fits.still c.show.ensures.kept c.show.ensures.changed c.show.ensures.still;
+    }
 
 pub returns-clause-stands : goal.returns-clause-stands
 returns-clause-stands c = λ h st.
@@ -16,7 +28,7 @@ returns-clause-stands c = λ h st.
     let x = c.args.event.now in
     let old = c.args.self.now in
     let mid = c.note_health.new.self in
-    let new : Pair = record { one = c.step.new.lane; two = c.step-2.new.lane; one_up = mid.one_up; two_up = mid.two_up; face = c.show.new.face; changed = c.show.new.changed } in
+    let new : Pair = record { one = c.step.new.lane; two = c.step-2.new.lane; one_up = mid.one_up; two_up = mid.two_up; face = c.show.new.face; changed = c.show.new.changed; still = c.show.new.still } in
     let up = c.note_health.ensures.stands h st.flags st.up in
     let flags = c.note_health.ensures.flags in
     let here = are-up h x mid.one_up mid.two_up (flags ∙ ap (λ f. flags_with f x) st.flags) in
@@ -25,6 +37,8 @@ returns-clause-stands c = λ h st.
       one = c.step.ensures.fits;
       two = c.step-2.ensures.fits;
       together = λ e f. c.step-2.ensures.moments f ∙ ap (λ n. n + cond (is_tick x) 1 0) (c.note_health.ensures.fits.together e f) ∙ sym (c.step.ensures.moments e);
+      still =
+          kept-still (is_tick x) mid.still c.show.new.still mid.changed c.show.new.changed c.note_health.ensures.fits.still c.show.ensures.kept c.show.ensures.changed c.show.ensures.still;
     })
     flags refl
     (λ e. c.step.ensures.stands (begun h x) here up.one e)
@@ -39,7 +53,7 @@ pub returns-clause-end : goal.returns-clause-end
 returns-clause-end c = λ is h st.
     let b = the_book c.args.book.now in
     let mid = c.note_health.new.self in
-    let new : Pair = record { one = c.step.new.lane; two = c.step-2.new.lane; one_up = mid.one_up; two_up = mid.two_up; face = c.show.new.face; changed = c.show.new.changed } in
+    let new : Pair = record { one = c.step.new.lane; two = c.step-2.new.lane; one_up = mid.one_up; two_up = mid.two_up; face = c.show.new.face; changed = c.show.new.changed; still = c.show.new.still } in
     ended b h new (subst (λ x. PairStands b (h ++ x ∷ []) new) is (returns-clause-stands c h st))
 
 pub returns-clause-visits : goal.returns-clause-visits
