@@ -112,7 +112,7 @@ lowered Initial = Initial
 lowered Above = Below
 lowered Below = Below
 
-lowered-of : (passed latest : Bool) → climb_of passed false ≡ lowered (climb_of passed latest)
+pub lowered-of : (passed latest : Bool) → climb_of passed false ≡ lowered (climb_of passed latest)
 lowered-of false latest = refl
 lowered-of true true = refl
 lowered-of true false = refl

@@ -2,3 +2,4 @@ pub mod Trips
 pub mod Stretches
 pub mod Climbing
 pub mod Numbers
+pub mod Resting

@@ -1,5 +1,5 @@
 -- The inputs of a moment as values of a flight's signals.
-use Rattle.std.specs.Prelude.{◌≡◌, ℕ}
+use Rattle.std.specs.Prelude.{◌≡◌, ℕ, suc}
 use Rattle.ecam_spec.specs.Phase.{Flight}
 use Rattle.flight_phases.specs.declared.inputs.PhaseInputs.{PhaseInputs}
 
@@ -11,3 +11,12 @@ pub record AreInputs (f : Flight) (k : ℕ) (inputs : PhaseInputs) : Type 0 wher
   pub fast : inputs.fast ≡ f.fast k
   pub high : inputs.high ≡ f.high k
   pub low : inputs.low ≡ f.low k
+
+-- the moment after moment k has the inputs of moment k
+pub record SameInputs (f : Flight) (k : ℕ) : Type 0 where
+  pub gnd : f.gnd (suc k) ≡ f.gnd k
+  pub run : f.run (suc k) ≡ f.run k
+  pub tp : f.tp (suc k) ≡ f.tp k
+  pub fast : f.fast (suc k) ≡ f.fast k
+  pub high : f.high (suc k) ≡ f.high k
+  pub low : f.low (suc k) ≡ f.low k

@@ -1,8 +1,8 @@
 // How one moment stands among those before it, and what follows for the next.
-ghost use Rattle.std.specs.Prelude.{◌≡◌, ◌≤◌, ℕ, suc, IsTrue};
+ghost use Rattle.std.specs.Prelude.{◌≡◌, ◌≤◌, ℕ, suc, true, IsTrue};
 ghost use Rattle.ecam_spec.specs.Phase.{Flight, parked, airborne, trip, ground_phase, phase};
 ghost use Rattle.flight_phases.specs.Climbs.{climb_at};
-ghost use Rattle.flight_phases.specs.Inputs.{AreInputs};
+ghost use Rattle.flight_phases.specs.Inputs.{AreInputs, SameInputs};
 ghost use Rattle.flight_phases.specs.Regimes.{StandsAs};
 
 use crate::climb::Climb;
@@ -56,6 +56,30 @@ impl Regime {
             }
         } else {
             self.next_parked()
+        }
+    }
+
+    /// Whether the next moment has the phase of this one if it has its inputs. It has another only where the
+    /// five minutes after shutdown end.
+    pub fn stays(self) -> bool
+        ensures { result ≡ true → (f : Flight) (k : ℕ) → StandsAs f k self → SameInputs f k
+            → phase f (suc k) ≡ phase f k }
+    {
+        match self {
+            Regime::Parked { age, after_trip } => !after_trip || age != SHUTDOWN_MOMENTS - 1,
+            Regime::Airborne { .. } | Regime::Running { .. } => true,
+        }
+    }
+
+    /// The regime of the next moment if that has the inputs of this one. Only for an aircraft that is parked
+    /// is something counted.
+    pub fn rested(self) -> Regime
+        ensures { (f : Flight) (k : ℕ) → SameInputs f k → StandsAs f k self
+            → StandsAs f (suc k) result }
+    {
+        match self {
+            Regime::Parked { .. } => self.next_parked(),
+            Regime::Running { .. } | Regime::Airborne { .. } => self,
         }
     }
 

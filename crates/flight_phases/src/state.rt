@@ -1,7 +1,7 @@
 // The automaton.
-ghost use Rattle.std.specs.Prelude.{◌≡◌, ◌≤◌, ℕ, suc};
+ghost use Rattle.std.specs.Prelude.{◌≡◌, ◌≤◌, ℕ, suc, true};
 ghost use Rattle.ecam_spec.specs.Phase.{Flight, phase};
-ghost use Rattle.flight_phases.specs.Inputs.{AreInputs};
+ghost use Rattle.flight_phases.specs.Inputs.{AreInputs, SameInputs};
 ghost use Rattle.flight_phases.specs.Regimes.{StandsAs};
 ghost use Rattle.flight_phases.specs.State.{Stands};
 
@@ -38,6 +38,32 @@ impl PhaseState {
         self.last = Some(regime);
         Phase {
             number: regime.number(inputs),
+        }
+    }
+
+    /// Whether one moment more with the inputs of the last one has its phase too, in a few comparisons. The
+    /// phase turns there only if the aircraft has been parked after a trip for so long that the five minutes
+    /// end. Before the first moment the answer is no.
+    pub fn stays(&self) -> bool
+        // Whatever the moments before were, the definition over all of them has the same phase once more.
+        ensures { result ≡ true → (f : Flight) (k : ℕ) → Stands f (suc k) self.now → SameInputs f k
+            → phase f (suc k) ≡ phase f k }
+    {
+        match self.last {
+            Some(last) => last.stays(),
+            None => false,
+        }
+    }
+
+    /// Takes one moment more, of 100 ms, whose inputs are those of the last one, in a few comparisons: the
+    /// state is then as `step` would leave it. Only on ground with no engine running is something counted.
+    /// Before the first moment it changes nothing.
+    pub fn rest(&mut self)
+        ensures { (f : Flight) (k : ℕ) → SameInputs f k → Stands f (suc k) self.old
+            → Stands f (suc (suc k)) self.new }
+    {
+        if let Some(last) = self.last {
+            self.last = Some(last.rested());
         }
     }
 
