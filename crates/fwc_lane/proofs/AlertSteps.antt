@@ -6,7 +6,7 @@ use Rattle.ecam_spec.specs.Past.{previous}
 use Rattle.ecam_spec.specs.Term.{holds}
 use Rattle.ecam_spec.specs.History.{Moment}
 use Rattle.ecam_spec.specs.Situation as situation
-use Rattle.ecam_spec.specs.Situation.{alert_at, condition_in, phase_in, active_in, alert_world, known_below}
+use Rattle.ecam_spec.specs.Situation.{condition_in, phase_in, active_in, alert_world, known_below}
 use Rattle.book_model.specs.declared.draft.Alert.{Alert}
 use Rattle.book_model.specs.declared.draft.Draft.{Draft}
 use Rattle.book_model.specs.View.{placed_of, tree_in}
@@ -78,7 +78,7 @@ alert-known d sealed m k a visited t marks other now was lt is now-is was-is wak
     more-known d sealed m k (alerts_from + suc a) (suc a) visited t marks (λ o. other && eqb o (length (the_book d).parameters + a)) wakes
     (λ h e. alert-moves (the_book d) m k h a other now was e is now-is (was-is h e) lt) half
 
-differ-self : (b : Bool) → differ b b ≡ false
+pub differ-self : (b : Bool) → differ b b ≡ false
 differ-self true = refl
 differ-self false = refl
 

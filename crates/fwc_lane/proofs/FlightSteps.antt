@@ -24,7 +24,7 @@ use Rattle.term_eval.specs.declared.env.Env.{Env}
 use Rattle.term_eval.specs.Shown.{Shows}
 use Rattle.term_eval.specs.Woken.{operands, moved}
 use Rattle.fwc_lane.specs.declared.terms.Terms.{Terms}
-use Rattle.fwc_lane.specs.Conditions.{StepsTerm, TellsMoved, BookHalf, known_world}
+use Rattle.fwc_lane.specs.Conditions.{StepsTerm, TellsMoved, TermsStand, BookHalf, known_world}
 use Rattle.fwc_lane.specs.Given.{Lends}
 use Rattle.fwc_lane.specs.PhaseTruths.{inputs_by}
 use Rattle.fwc_lane.specs.Waking.{NoneMarked}
@@ -123,4 +123,20 @@ module _ (d : Draft) (sealed : IsSealed d) (p : PhaseTerms) (same : p ≡ d.phas
     fast_is = truth 3 (omega arith) (placed_of p.fast) refl stand-3;
     high_is = truth 4 (omega arith) (placed_of p.high) refl stand-4;
     low_is = truth 5 (omega arith) (placed_of p.low) refl stand-5;
+  }
+
+-- what the conditions said in the moment before are its inputs
+module _ (d : Draft) (sealed : IsSealed d) (m : ℕ → Moment) (k h : ℕ) (later : k ≡ suc h) (t : Terms) (stands : TermsStand (the_book d) m k t) where
+  said : (i : ℕ) → i < alerts_from → (q : Placed) → slice_get (phase_places d.phase) i ≡ Some q
+      → slice_index_or t.truths.items i false ≡ holds (flight_world (the_book d) m) q.tree h
+  said i lt q is = stands.told h later i q (input-place d sealed d.phase refl i q is) ∙ ap (λ w. holds w q.tree h) (phase-world (the_book d) m i lt)
+
+  pub inputs-before : AreInputs (flight (the_book d) m) h (inputs_by t.truths.items)
+  inputs-before = inputs-are d m h d.phase _ _ _ _ _ _ refl record {
+    gnd_is = said 0 (omega arith) (placed_of d.phase.gnd) refl;
+    run_is = said 1 (omega arith) (placed_of d.phase.run) refl;
+    tp_is = said 2 (omega arith) (placed_of d.phase.tp) refl;
+    fast_is = said 3 (omega arith) (placed_of d.phase.fast) refl;
+    high_is = said 4 (omega arith) (placed_of d.phase.high) refl;
+    low_is = said 5 (omega arith) (placed_of d.phase.low) refl;
   }

@@ -23,4 +23,5 @@ pub mod ValueSteps
 pub mod ZoneSteps
 pub mod Ticks
 pub mod PictureRest
+pub mod RestBegins
 pub mod Resting

@@ -9,7 +9,8 @@ use Rattle.ecam_spec.specs.Term.{holds}
 use Rattle.ecam_spec.specs.Crew.{normal}
 use Rattle.ecam_spec.specs.History.{Moment}
 use Rattle.ecam_spec.specs.Value.{value}
-use Rattle.ecam_spec.specs.Keys.{pressed}
+use Rattle.ecam_spec.specs.declared.kinds.Key.{Key}
+use Rattle.ecam_spec.specs.Keys.{IsKey, pressed}
 use Rattle.ecam_spec.specs.Situation.{words_in, strokes_in, computer_up, parameter_at, phase_in, value_in, world}
 use Rattle.ecam_kinds.specs.declared.keys.Keys.{Keys}
 use Rattle.ecam_kinds.specs.KeyState.{is_pressed}
@@ -21,7 +22,6 @@ use Rattle.book_model.specs.Told.{TellsOf}
 use Rattle.book_model.specs.Conditions.{world_of}
 use Rattle.term_eval.specs.Due.{staying, IsDue}
 use Rattle.fwc_lane.specs.declared.terms.Terms.{Terms}
-use Rattle.fwc_lane.specs.TermsFit.{TermsFit}
 use Rattle.fwc_lane.specs.Conditions.{TermsStand, BookHalf, AllStepped}
 use Rattle.crew_marks.specs.CrewMarks.{CrewMarks}
 use Rattle.crew_marks.specs.MarkSets.{MarkSets}
@@ -106,7 +106,8 @@ unfolding value_before value_in
 values-before b m k values told = told
 
 -- what is kept of the conditions after a moment
-pub terms-after : (b : Book) (m : ℕ → Moment) (k visited : ℕ) (t : Terms) (params : Params) (keys kept : Keys) (one two : Bool) → kept ≡ keys → AllStepped b m k visited t → Came b m k params keys one two
+pub terms-after : (b : Book) (m : ℕ → Moment) (k visited : ℕ) (t : Terms) (params : Params) (keys kept : Keys) (one two : Bool)
+    → ((key : Key) → IsKey key → is_pressed kept key ≡ is_pressed keys key) → AllStepped b m k visited t → Came b m k params keys one two
     → TermsStand b m (suc k) (record t { keys = kept; one_up = one; two_up = two })
 terms-after b m k visited t params keys kept one two same all came =
     let back : (h : ℕ) → suc k ≡ suc h → k ≡ h = λ h e. omega (arith, e) in
@@ -114,13 +115,10 @@ terms-after b m k visited t params keys kept one two same all came =
       cells = λ j p is. (all.asked j p is).stands;
       told = λ h e j p is. (all.asked j p is).told ∙ ap (holds (world_of b m j) p.tree) (back h e);
       next = λ h e j p is. subst (λ n. IsDue (staying (world_of b m j) n) p.tree n (slice_index t.dues j)) (back h e) (all.asked j p is).next;
-      keys = λ h e x at. ap (λ (q : Keys). is_pressed q x) same ∙ came.strokes.pressed x at ∙ ap (pressed (strokes_in b m) x) (back h e);
+      keys = λ h e x at. same x at ∙ came.strokes.pressed x at ∙ ap (pressed (strokes_in b m) x) (back h e);
       one_up = λ h e. came.one_up ∙ ap (computer_up b m 1) (back h e);
       two_up = λ h e. came.two_up ∙ ap (computer_up b m 2) (back h e);
     }
-
-pub fits-after : (b : Book) (t : Terms) (keys : Keys) (one two : Bool) → TermsFit b t → TermsFit b (record t { keys = keys; one_up = one; two_up = two })
-fits-after b t keys one two fits = record { codes = fits.codes; totals = fits.totals; slots = fits.slots; visits = fits.visits; truths = fits.truths; dues = fits.dues; room = fits.room; watch = fits.watch }
 
 -- a moment has begun in a lane that stood for those before it
 pub has-begun : (b : Book) (m : ℕ → Moment) (k : ℕ) (one two turned : Bool) (old : Lane) (t : Terms) (values : Vec (Option ℤ) Global) → WholeStands b m k old → Came b m k old.params old.keys one two
@@ -142,7 +140,3 @@ has-begun b m k one two turned old t values was came half told kept = record {
   memos = was.memos;
   drawn = was.drawn;
 }
-
--- where no value turned
-pub none-turned : (b : Book) (m : ℕ → Moment) (k : ℕ) (one two turned : Bool) (l : Lane) → turned ≡ false → HasBegun b m k one two turned l → HasBegun b m k one two false l
-none-turned b m k one two turned l is begun = subst (λ t. HasBegun b m k one two t l) is begun

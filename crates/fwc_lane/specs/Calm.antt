@@ -1,17 +1,21 @@
 -- When a lane is at rest.
-use Rattle.std.specs.Prelude.{◌≡◌, ℕ, suc, ◌<◌, true, false, get_or}
+use Rattle.std.specs.Prelude.{◌≡◌, ℕ, suc, ◌<◌, true, false, List, length, get_or, slice_index}
 use Rattle.ecam_spec.specs.declared.kinds.Key.TheVariants.{Rcl, All}
 use Rattle.ecam_spec.specs.declared.limits.TheConstants.{PICTURE_ROWS}
+use Rattle.ecam_spec.specs.Book.{Book}
+use Rattle.ecam_spec.specs.Value.{BusWord, value}
 use Rattle.ecam_spec.specs.Phase.{Flight, phase}
+use Rattle.ecam_spec.specs.Situation.{parameter_at}
 use Rattle.ecam_kinds.specs.KeyState.{is_held}
 use Rattle.wakes.specs.Marks.{is_marked}
-use Rattle.flight_phases.specs.Inputs.{AreInputs}
+use Rattle.param_table.specs.declared.table.Params.{Params}
+use Rattle.param_table.specs.TableState.{ParamsStand, value_before}
+use Rattle.flight_phases.specs.Inputs.{SameInputs}
 use Rattle.flight_phases.specs.State.{Stands}
 use Rattle.flight_phases.specs.declared.state.PhaseState.{PhaseState}
 use Rattle.crew_marks.specs.CrewMarks.{stands_normal}
 use Rattle.attention.specs.State.{IsSteady}
 use Rattle.fwc_lane.specs.Strokes.{NonePressed}
-use Rattle.fwc_lane.specs.PhaseTruths.{inputs_by}
 use Rattle.fwc_lane.specs.declared.lane.Lane.{Lane}
 
 -- there was a moment, and nothing that it left turns by itself: no alert is restless, no chime ends, NORMAL doesn't stand. No
@@ -23,15 +27,21 @@ pub record IsCalm (l : Lane) : Type 0 where
   pub normal : stands_normal l.marks.quiet_press l.marks.moments ≡ false
   pub changed : (i : ℕ) → i < PICTURE_ROWS → get_or l.changed i false ≡ false
 
--- after these inputs the phase is the same, with this state
-pub record StaysInPhase (l : Lane) (state : PhaseState) : Type 0 where
-  pub stays : (f : Flight) (k : ℕ) → Stands f k l.phase_state → AreInputs f k (inputs_by l.terms.truths.items) → l.phase.number ≡ phase f k
-  pub leaves : (f : Flight) (k : ℕ) → Stands f k l.phase_state → AreInputs f k (inputs_by l.terms.truths.items) → Stands f (suc k) state
-
--- the moment that has begun in a calm lane wakes no condition, and the crew does nothing in it
-pub record IsAtRest (l : Lane) : Type 0 where
+-- nothing changes in the moment that hasn't ended, in a calm lane: no condition is due, and no key acts in it or was pressed in
+-- the one before
+pub record RestsNow (l : Lane) : Type 0 where
   pub calm : IsCalm l
-  pub woken : (j : ℕ) → is_marked l.terms.woken j ≡ false
+  pub dues : (j : ℕ) → j < length l.terms.dues → l.moments < slice_index l.terms.dues j
   pub pressed : NonePressed l.keys
   pub rcl : is_held l.keys Rcl ≡ false
   pub all : is_held l.keys All ≡ false
+  pub before : NonePressed l.terms.keys
+
+-- one moment more with the inputs of the last one has its phase too
+abbrev pub PhaseStays : PhaseState → Type 0
+PhaseStays state = (f : Flight) (k : ℕ) → Stands f (suc k) state → SameInputs f k → phase f (suc k) ≡ phase f k
+
+-- each parameter has the value of the moment before
+abbrev pub ValuesStay : Book → Params → Type 0
+ValuesStay b params = (words : ℕ → List BusWord) (k : ℕ) → ParamsStand b words k params
+    → (p : ℕ) → p < length b.parameters → value (parameter_at b p) words k ≡ value_before (parameter_at b p) words k

@@ -20,8 +20,8 @@ use ecam_kinds::Phase;
 use flight_phases::{PhaseInputs, PhaseState};
 use term_eval::Env;
 
-/// What six conditions in the place of the inputs said in the last moment.
-pub fn kept_inputs(truths: &[bool]) -> PhaseInputs
+// What six conditions in the place of the inputs said in the last moment.
+fn kept_inputs(truths: &[bool]) -> PhaseInputs
     requires { alerts_from ≤ length truths.now }
     ensures { result ≡ inputs_by truths.now }
 {

@@ -177,9 +177,9 @@ impl Lane {
     /// key one write or two; what becomes of the computers themselves changes nothing here. A Tick costs a look at each
     /// condition and at the sources of the parameters that may have another value, two at each key, one visit of each node
     /// of the conditions that the moment wakes, and a few looks at each alert, line and memo; a zone of the picture is filled
-    /// only where something that it shows turned. A Tick in which nothing changes, after one that left all at rest, costs a
-    /// look for each 64 parameters and each 64 conditions, one at each source of the parameters that may have another value,
-    /// a copy of the keys and a few writes: it looks at no alert, line, memo or row.
+    /// only where something that it shows turned. A Tick in which no parameter may have another value, no condition is due
+    /// and no key acts, after one that left all at rest, costs a few looks and writes, besides what the end of a moment costs
+    /// the parameters: it looks at no condition, alert, line, memo or row.
     // (It stands in its caller, so that a word goes to its sources at once.)
     #[inline(always)]
     pub fn event(&mut self, book: &Book, event: &Event, one_up: bool, two_up: bool)
@@ -238,6 +238,38 @@ impl Lane {
             → self.new.terms.cells.visits ≡ min (self.old.terms.cells.visits
             + visits (the_book book.now) m self.old.moments) (2 ^ 64 - 1) }
     {
+        if self.rests(book, one_up, two_up) {
+            self.rest(book);
+            return;
+        }
+        self.step(book, one_up, two_up)
+    }
+
+    // The moment ends, whatever changes in it. (It stands by itself, so that a moment at rest takes none of the room that
+    // this needs.)
+    #[inline(never)]
+    fn step(&mut self, book: &Book, one_up: bool, two_up: bool)
+        requires fits { LaneFits (the_book book.now) self.old }
+        requires goes_on { CanGoOn self.old }
+        ensures fits { LaneFits (the_book book.now) self.new }
+        ensures moments { self.new.moments ≡ self.old.moments + 1 }
+        ensures params { (words : ℕ → List BusWord) (k : ℕ) → words (suc k) ≡ []
+            → ParamsStand (the_book book.now) words k self.old.params
+            → ParamsStand (the_book book.now) words (suc k) self.new.params }
+        ensures keys { (strokes : ℕ → List Stroke) (k : ℕ) → strokes (suc k) ≡ []
+            → KeysStand strokes k self.old.keys → KeysStand strokes (suc k) self.new.keys }
+        ensures whole { (m : ℕ → Moment)
+            → Came (the_book book.now) m self.old.moments self.old.params self.old.keys one_up
+            two_up
+            → WholeStands (the_book book.now) m self.old.moments self.old
+            → WholeStands (the_book book.now) m (suc self.old.moments) self.new }
+        ensures visits { (m : ℕ → Moment)
+            → Came (the_book book.now) m self.old.moments self.old.params self.old.keys one_up
+            two_up
+            → WholeStands (the_book book.now) m self.old.moments self.old
+            → self.new.terms.cells.visits ≡ min (self.old.terms.cells.visits
+            + visits (the_book book.now) m self.old.moments) (2 ^ 64 - 1) }
+    {
         let values = begin_moment(
             &mut self.terms,
             &mut self.values,
@@ -248,16 +280,11 @@ impl Lane {
             two_up,
             self.moments,
         );
-        match self.resting(book, values) {
-            Some(state) => self.rest(book, state, one_up, two_up),
-            None => self.step(book, values, one_up, two_up),
-        }
+        self.finish(book, values, one_up, two_up);
     }
 
-    // The moment that has begun, whatever it wakes. (It stands by itself, so that a moment at rest takes none of the room
-    // that this needs.)
-    #[inline(never)]
-    fn step(&mut self, book: &Book, values: bool, one_up: bool, two_up: bool)
+    // The moment that has begun ends, whatever it wakes.
+    fn finish(&mut self, book: &Book, values: bool, one_up: bool, two_up: bool)
         requires fits { LaneFits (the_book book.now) self.old }
         requires goes_on { CanGoOn self.old }
         ensures fits { LaneFits (the_book book.now) self.new }

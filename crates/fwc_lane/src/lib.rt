@@ -3,8 +3,8 @@
 //! moment wakes, and steps, in this order, the six inputs of the flight phase, the phase, the alerts, the procedure lines,
 //! the memos, the crew's marks, the lights with the sound, and the selection; then it mends the rows of the picture that
 //! changed. Of conditions it steps those that are woken: all in the first moment, then those that are due, and those that
-//! name what moved. Where nothing turned, no condition is woken, the crew does nothing and the phase stays, a moment that
-//! follows one which left all at rest ends without these steps.
+//! name what moved. A moment that follows one which left all at rest ends without any of this where no value may be
+//! another, no condition is due, the crew does nothing and the phase stays.
 #![tactic(auto)]
 
 mod alerts;

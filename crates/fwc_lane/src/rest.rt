@@ -1,73 +1,62 @@
 // A moment in which nothing changes.
-ghost use Rattle.std.specs.Prelude.{◌≡◌, ◌+◌, ◌-◌, ◌^◌, ◌<◌, ℕ, suc, min, true, false, List, [], get_or, IfSome};
-ghost use Rattle.ecam_spec.specs.Book as plain;
+ghost use Rattle.std.specs.Prelude.{◌≡◌, ◌+◌, ◌-◌, ◌^◌, ◌<◌, ℕ, suc, min, true, false, List, [], length, get_or, slice_index};
 ghost use Rattle.ecam_spec.specs.Value.{BusWord};
 ghost use Rattle.ecam_spec.specs.History.{Moment, Stroke};
 ghost use Rattle.ecam_kinds.specs.KeyState.{KeysStand};
 ghost use Rattle.book_model.specs.Sealed.{the_book};
-ghost use Rattle.param_table.specs.TableState.{ParamsStand};
+ghost use Rattle.param_table.specs.TableState.{ParamsFit, ParamsStand};
 ghost use Rattle.wakes.specs.Marks.{is_marked};
 ghost use Rattle.crew_marks.specs.CrewMarks.{stands_normal};
 ghost use Rattle.attention.specs.State.{IsSteady};
 ghost use Rattle.zone_rows.specs.Tracked.{tracked, IsWhole};
-ghost use Rattle.fwc_lane.specs.Begun.{HasBegun};
-ghost use Rattle.fwc_lane.specs.Calm.{IsAtRest, StaysInPhase};
+ghost use Rattle.fwc_lane.specs.Given.{Came};
+ghost use Rattle.fwc_lane.specs.Calm.{RestsNow, PhaseStays, ValuesStay};
 ghost use Rattle.fwc_lane.specs.LaneFits.{LaneFits, CanGoOn};
 ghost use Rattle.fwc_lane.specs.LaneStands.{WholeStands};
 ghost use Rattle.fwc_lane.specs.Visits.{visits};
 
-use crate::flight::kept_inputs;
 use crate::lane::Lane;
 use crate::next::none_marked;
-use crate::waking::is_other_phase;
 use alert_truth::Truths;
 use attention::Attention;
 use book_model::Book;
 use crew_marks::Marks;
 use ecam_kinds::{ROWS, Row};
-use flight_phases::PhaseState;
+use param_table::Params;
+use wakes::Wakes;
 
 impl Lane {
-    /// What the phases leave after the moment that has begun, where nothing changes in it: the moment before left all at
-    /// rest, no value turned, no condition is woken, the crew does nothing, and the phase stays. Its cost is a look for each
-    /// 64 conditions, and a few more.
-    pub(crate) fn resting(&self, book: &Book, values: bool) -> Option<PhaseState>
-        requires { LaneFits (the_book book.now) self.now }
-        ensures values { IfSome result (λ state. values ≡ false) }
-        ensures rest { IfSome result (λ state. IsAtRest self.now) }
-        ensures phase { IfSome result (StaysInPhase self.now) }
+    /// Whether it is known that nothing changes in the moment, after which these computers are up: the moment before left all
+    /// at rest, the phase stays, no key acts or was pressed in the moment before, the same computers were up in it, no
+    /// condition is due, and no parameter may have another value. Its cost is a few looks, and at most one more for each 64
+    /// parameters.
+    pub(crate) fn rests(&self, book: &Book, one_up: bool, two_up: bool) -> bool
+        requires fits { LaneFits (the_book book.now) self.now }
+        requires goes_on { CanGoOn self.now }
+        ensures rest { result ≡ true → RestsNow self.now }
+        ensures one_up { result ≡ true → self.now.terms.one_up ≡ one_up }
+        ensures two_up { result ≡ true → self.now.terms.two_up ≡ two_up }
+        ensures phase { result ≡ true → PhaseStays self.now.phase_state }
+        ensures values { result ≡ true → ValuesStay (the_book book.now) self.now.params }
     {
-        book.sealed();
-        if values {
-            return None;
-        }
-        if !self.is_at_rest() {
-            return None;
-        }
-        let mut state = self.phase_state;
-        let phase = state.step(&kept_inputs(&self.terms.truths));
-        if is_other_phase(phase, self.phase) {
-            return None;
-        }
-        Some(state)
+        self.calm
+            && self.phase_state.stays()
+            && self.keys.are_idle()
+            && !self.terms.keys.any()
+            && self.terms.one_up == one_up
+            && self.terms.two_up == two_up
+            && none_due(&self.terms.dues, self.moments)
+            && none_changed(&self.params, book)
     }
 
-    // Whether the lane is calm, and the moment that has begun wakes no condition, and the crew does nothing in it.
-    fn is_at_rest(&self) -> bool
-        requires { (b : plain.Book) × LaneFits b self.now }
-        ensures { result ≡ true → IsAtRest self.now }
-    {
-        self.calm && none_marked(&self.terms.woken) && self.keys.are_idle()
-    }
-
-    /// Ends the moment that has begun, where nothing changes in it, and this is what the phases leave. No condition, alert,
-    /// line, memo or row is looked at: its cost is a few writes, what the parameters do at the end of a moment, and a copy of
-    /// the keys.
-    pub(crate) fn rest(&mut self, book: &Book, state: PhaseState, one_up: bool, two_up: bool)
+    /// Ends a moment in which nothing changes. No condition, alert, line, memo or row is looked at: its cost is a few writes,
+    /// and what the parameters do at the end of a moment.
+    pub(crate) fn rest(&mut self, book: &Book)
         requires fits { LaneFits (the_book book.now) self.old }
         requires goes_on { CanGoOn self.old }
-        requires rest { IsAtRest self.old }
-        requires phase { StaysInPhase self.old state }
+        requires rest { RestsNow self.old }
+        requires phase { PhaseStays self.old.phase_state }
+        requires values { ValuesStay (the_book book.now) self.old.params }
         ensures fits { LaneFits (the_book book.now) self.new }
         ensures moments { self.new.moments ≡ self.old.moments + 1 }
         ensures params { (words : ℕ → List BusWord) (k : ℕ) → words (suc k) ≡ []
@@ -76,27 +65,44 @@ impl Lane {
         ensures keys { (strokes : ℕ → List Stroke) (k : ℕ) → strokes (suc k) ≡ []
             → KeysStand strokes k self.old.keys → KeysStand strokes (suc k) self.new.keys }
         ensures whole { (m : ℕ → Moment)
-            → HasBegun (the_book book.now) m self.old.moments one_up two_up false self.old
+            → Came (the_book book.now) m self.old.moments self.old.params self.old.keys
+            self.old.terms.one_up self.old.terms.two_up
+            → WholeStands (the_book book.now) m self.old.moments self.old
             → WholeStands (the_book book.now) m (suc self.old.moments) self.new }
         ensures visits { (m : ℕ → Moment)
-            → HasBegun (the_book book.now) m self.old.moments one_up two_up false self.old
+            → Came (the_book book.now) m self.old.moments self.old.params self.old.keys
+            self.old.terms.one_up self.old.terms.two_up
+            → WholeStands (the_book book.now) m self.old.moments self.old
             → self.new.terms.cells.visits ≡ min (self.old.terms.cells.visits
             + visits (the_book book.now) m self.old.moments) (2 ^ 64 - 1) }
     {
         book.sealed();
         whole(&self.picture.rows, &self.changed);
-        self.phase_state = state;
+        self.phase_state.rest();
         self.truths.settle(book);
         self.marks.rest();
         self.attention.pass();
         self.selector.rest();
         self.moments += 1;
-        self.terms.keys.copy_from(&self.keys);
-        self.terms.one_up = one_up;
-        self.terms.two_up = two_up;
         self.params.tick(book);
         self.keys.tick();
     }
+}
+
+// Whether no condition turns by itself in moment `now`.
+fn none_due(dues: &Wakes, now: u64) -> bool
+    requires { now < 2 ^ 63 }
+    ensures { result ≡ true → (j : ℕ) → j < length dues.now → now < slice_index dues.now j }
+{
+    dues.first(now).is_none()
+}
+
+// Whether it is known that no parameter has another value than in the moment before.
+fn none_changed(params: &Params, book: &Book) -> bool
+    requires { ParamsFit (the_book book.now) params.now }
+    ensures { result ≡ true → ValuesStay (the_book book.now) params.now }
+{
+    params.changed(book, 0).is_none()
 }
 
 // Each row of the picture is there, and a flag for it.

@@ -64,13 +64,15 @@ impl Strokes {
         self.keys.release(key);
     }
 
-    /// The moment ends: no key counts as pressed any more.
+    /// The moment ends: no key counts as pressed any more. Where none does it changes nothing.
     pub fn tick(&mut self)
         ensures { (strokes : ℕ → List Stroke) (k : ℕ) → strokes (suc k) ≡ []
             → KeysStand strokes k self.old → KeysStand strokes (suc k) self.new }
     {
-        self.keys.tick();
-        self.any = false;
+        if self.any {
+            self.keys.tick();
+            self.any = false;
+        }
     }
 
     /// Takes over the keys of another computer, or of another moment.

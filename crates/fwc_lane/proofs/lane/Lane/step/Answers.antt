@@ -1,92 +1,30 @@
-use Rattle.std.proofs.Common.{◌≡◌, ◌<◌, ℕ, suc, false, length, get_or, None, sym, ap, subst, ◌∙◌, arith, add-one}
-use Rattle.std.proofs.lemmas.Bool.{lt-ltb}
-use Rattle.ecam_spec.specs.BookTerms.{lines_of}
-use Rattle.ecam_spec.specs.Term.{holds}
-use Rattle.ecam_spec.specs.Situation.{strokes_in, value_in, phase_in, world}
-use Rattle.ecam_kinds.specs.KeyState.{KeysStand}
-use Rattle.ecam_spec.specs.Screen.{cockpit, line_stands}
-use Rattle.book_model.specs.Told.{TellsOf}
+use Rattle.std.proofs.Common.{◌≡◌, ◌+◌, ◌-◌, ◌^◌, min, sym, subst}
+use Rattle.ecam_spec.specs.Situation.{words_in}
 use Rattle.book_model.specs.Sealed.{the_book}
-use Rattle.book_model.proofs.BookLists.{many-parameters}
-use Rattle.fwc_lane.specs.Scenes.{AreTurned}
-use Rattle.fwc_lane.proofs.Ticks.{of-last, are-turned, lends-from, values-before, terms-after}
+use Rattle.fwc_lane.specs.Conditions.{BookHalf}
+use Rattle.fwc_lane.specs.Visits.{visits}
+use Rattle.fwc_lane.proofs.Ticks.{has-begun, values-told}
 use Rattle.fwc_lane.proofs.lane.Lane.step.Goals as goal
 
-pub step_conditions-stepped-requires-clause-values : goal.step_conditions-stepped-requires-clause-values
-step_conditions-stepped-requires-clause-values c = ap length c.deref.ensures.value ∙ c.requires.fits.values ∙ many-parameters c.args.book.now
-
 pub returns-clause-whole : goal.returns-clause-whole
-returns-clause-whole c = λ m begun.
+returns-clause-whole c = λ m came was.
     let b = the_book c.args.book.now in
     let k = c.args.self.now.moments in
-    let all = c.requires.fits.values in
-    let values = begun.values in
-    let told : (i : ℕ) → i < length c.deref.result.now → get_or c.deref.result.now i None ≡ value_in b m i k =
-    λ i lt. ap (λ vs. get_or vs i None) c.deref.ensures.value ∙ values i (omega (arith, ap length c.deref.ensures.value, all)) in
-    let stepped = c.step_conditions-stepped.ensures.stands m c.args.self.now.terms.cells.visits (lends-from b m k _ _ _ _ _ _ c.args.self.now.params c.args.self.now.keys c.keys.ensures begun.came told) (record { terms = begun.terms; phases = begun.phases; truths = begun.truths; was = begun.phase; lines = begun.lines; memos = begun.memos }) in
-    let phase = c.step_conditions-stepped.ensures.phase m c.args.self.now.terms.cells.visits (lends-from b m k _ _ _ _ _ _ c.args.self.now.params c.args.self.now.keys c.keys.ensures begun.came told) (record { terms = begun.terms; phases = begun.phases; truths = begun.truths; was = begun.phase; lines = begun.lines; memos = begun.memos }) in
-    let lines = c.step_conditions-stepped.ensures.line_flags m c.args.self.now.terms.cells.visits (lends-from b m k _ _ _ _ _ _ c.args.self.now.params c.args.self.now.keys c.keys.ensures begun.came told) (record { terms = begun.terms; phases = begun.phases; truths = begun.truths; was = begun.phase; lines = begun.lines; memos = begun.memos }) in
-    let memos = c.step_conditions-stepped.ensures.memo_flags m c.args.self.now.terms.cells.visits (lends-from b m k _ _ _ _ _ _ c.args.self.now.params c.args.self.now.keys c.keys.ensures begun.came told) (record { terms = begun.terms; phases = begun.phases; truths = begun.truths; was = begun.phase; lines = begun.lines; memos = begun.memos }) in
-    let enters = c.enters_one.ensures b m k begun.ticked phase begun.phase in
-    let crew = c.step_crew.ensures.stands m k stepped.truths (subst (KeysStand (strokes_in b m) k) (sym c.keys-2.ensures) begun.came.strokes) enters (record { marks = begun.marks; lights = begun.attention; selection = begun.selector }) in
-    let turned : AreTurned b m k c.of-turned.result =
-    are-turned b m k c.args.one_up c.args.two_up c.args.self.now c.of-turned.result c.step_conditions-stepped.result.phase c.args.values c.step_conditions-stepped.new.lines.items c.step_conditions-stepped.new.memos.items
-    c.step_crew.new.marks c.normal-normal.result c.normal.result begun (record {
-      first = c.of-turned.ensures.first;
-      phase_kept = c.of-turned.ensures.phase;
-      values = c.of-turned.ensures.values;
-      lines_kept = λ off. c.step_conditions-stepped.ensures.lines_kept (sym c.of-turned.ensures.lines ∙ off);
-      memos_kept = λ off. c.step_conditions-stepped.ensures.memos_kept (sym c.of-turned.ensures.memos ∙ off);
-      marks_kept = λ off. c.step_crew.ensures.kept (sym c.changed.ensures ∙ sym c.of-turned.ensures.marks ∙ off);
-      normal_kept = c.of-turned.ensures.normal;
-      phase_is = phase;
-      lines_are = lines;
-      memos_are = memos;
-      marks_are = crew.marks;
-      was_is = c.normal-normal.ensures.answer b (cockpit b m) k begun.marks;
-      calm_is = c.normal.ensures.answer b (cockpit b m) (suc k) crew.marks;
-    }) in
-    record {
-      counted = add-one k;
-      ticked = sym (lt-ltb 0 (suc k) (omega arith));
-      terms = terms-after b m k c.args.self.now.terms.cells.visits c.step_conditions-stepped.new.terms c.args.self.now.params c.args.self.now.keys c.copy_from.new.self c.args.one_up c.args.two_up c.copy_from.ensures stepped.terms begun.came;
-      phases = stepped.phases;
-      truths = stepped.truths;
-      marks = crew.marks;
-      attention = crew.lights;
-      selector = crew.selection;
-      phase = of-last (λ j. c.step_conditions-stepped.result.phase.number ≡ phase_in b m j) k phase;
-      values = values-before b m k c.args.self.now.values.items values;
-      lines = of-last (λ j. TellsOf c.step_conditions-stepped.new.lines.items (lines_of b.alerts) (line_stands b m j)) k lines;
-      memos = of-last (λ j. TellsOf c.step_conditions-stepped.new.memos.items b.memos (λ x. holds (world b m) x.when j)) k memos;
-      drawn = c.draw-self.ensures.drawn m k (record {
-        phase = phase;
-        values = λ p lt. ap (λ vs. get_or vs p None) c.deref-2.ensures.value ∙ values p lt;
-        lines = λ i l is. ap (λ fs. get_or fs i false) c.deref-3.ensures.value ∙ lines i l is;
-        memos = λ i x is. ap (λ fs. get_or fs i false) c.deref-4.ensures.value ∙ memos i x is;
-        truths = stepped.truths;
-        marks = crew.marks;
-        attention = crew.lights;
-        selector = crew.selection;
-      }) turned begun.drawn;
-      changed = c.draw-self.ensures.changed m k (record {
-        phase = phase;
-        values = λ p lt. ap (λ vs. get_or vs p None) c.deref-2.ensures.value ∙ values p lt;
-        lines = λ i l is. ap (λ fs. get_or fs i false) c.deref-3.ensures.value ∙ lines i l is;
-        memos = λ i x is. ap (λ fs. get_or fs i false) c.deref-4.ensures.value ∙ memos i x is;
-        truths = stepped.truths;
-        marks = crew.marks;
-        attention = crew.lights;
-        selector = crew.selection;
-      }) turned begun.drawn;
-    }
+    let begin = c.begin_moment-values.ensures in
+    let t = c.begin_moment-values.new.terms in
+    c.finish.ensures.whole m
+    (has-begun b m k c.args.one_up c.args.two_up c.begin_moment-values.result c.args.self.now t c.begin_moment-values.new.values was came
+    (subst (λ n. BookHalf b m k 0 0 n t) (sym begin.visits) (begin.begins m came was.terms was.values))
+    (values-told b m k c.begin_moment-values.new.values.items (begin.values (words_in b m) k came.words was.values)) begin.kept)
 
 pub returns-clause-visits : goal.returns-clause-visits
-returns-clause-visits c = λ m begun.
+returns-clause-visits c = λ m came was.
     let b = the_book c.args.book.now in
     let k = c.args.self.now.moments in
-    let all = c.requires.fits.values in
-    let told : (i : ℕ) → i < length c.deref.result.now → get_or c.deref.result.now i None ≡ value_in b m i k =
-    λ i lt. ap (λ vs. get_or vs i None) c.deref.ensures.value ∙ begun.values i (omega (arith, ap length c.deref.ensures.value, all)) in
-    let stepped = c.step_conditions-stepped.ensures.stands m c.args.self.now.terms.cells.visits (lends-from b m k _ _ _ _ _ _ c.args.self.now.params c.args.self.now.keys c.keys.ensures begun.came told) (record { terms = begun.terms; phases = begun.phases; truths = begun.truths; was = begun.phase; lines = begun.lines; memos = begun.memos }) in
-    stepped.terms.counted
+    let begin = c.begin_moment-values.ensures in
+    let t = c.begin_moment-values.new.terms in
+    subst (λ v. c.finish.new.self.terms.cells.visits ≡ min (v + visits b m k) (2 ^ 64 - 1)) begin.visits
+    (c.finish.ensures.visits m
+    (has-begun b m k c.args.one_up c.args.two_up c.begin_moment-values.result c.args.self.now t c.begin_moment-values.new.values was came
+    (subst (λ n. BookHalf b m k 0 0 n t) (sym begin.visits) (begin.begins m came was.terms was.values))
+    (values-told b m k c.begin_moment-values.new.values.items (begin.values (words_in b m) k came.words was.values)) begin.kept))
