@@ -18,4 +18,5 @@ play-requires-2 g c =
       one = c.event.ensures.fits.one;
       two = c.copy_from.ensures.fits b c.event.ensures.fits.two c.play.ensures.one;
       together = λ e f. absurd (let w : ⊥ = cc in w);
+      still = c.event.ensures.fits.still;
     }
