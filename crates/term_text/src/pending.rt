@@ -1,5 +1,5 @@
 // What is still expected of a condition's text, token by token.
-ghost use Rattle.std.specs.Prelude.{◌≡◌, ℕ, ◌<◌, ◌≤◌, [], ◌∷◌, ◌++◌, true, IfOk, OnOk, IfSome, option_to_list};
+ghost use Rattle.std.specs.Prelude.{◌≡◌, ℕ, ◌<◌, ◌≤◌, [], ◌∷◌, ◌++◌, true, IfOk, OnOk, IfSome, option_to_list, reverse};
 ghost use Rattle.ecam_spec.specs.declared.term_steps.Expected.TheVariants.{Condition, Opening, Separator, Closing, ANumber};
 ghost use Rattle.ecam_spec.proofs.TermReading.{rule, at_once, name_step, number_step, next_move, is_whole};
 ghost use Rattle.term_text.specs.Pending.{pending, is_tail, is_sign, count_of, CountsWithin, move_from, Moves};
@@ -7,6 +7,9 @@ ghost use Rattle.term_text.specs.Pending.{pending, is_tail, is_sign, count_of, C
 use crate::error::TermError;
 use ecam_spec::{Connective, Expected, NameRole, NumberRole, Reserved, Span, Step, Token};
 use std::alloc::{AllocError, Global};
+
+/// How much is expected at once by most texts, which then ask for memory once.
+const USUAL_DEPTH: usize = 16;
 
 /// What is still expected of a condition's text. The next stands last.
 #[derive(Drop)]
@@ -19,7 +22,7 @@ impl Pending {
     pub fn new(alloc: Global) -> Result<Pending, AllocError>
         ensures { IfOk result (λ p. pending p ≡ Condition ∷ []) }
     {
-        let mut stack = Vec::new(alloc);
+        let mut stack = Vec::with_capacity(alloc, USUAL_DEPTH)?;
         stack.push(Expected::Condition)?;
         Ok(Pending { stack })
     }
@@ -101,19 +104,19 @@ impl Pending {
             (Expected::ANumber(role), Token::Number(number)) => Ok(Some(number_step(role, number))),
             (Expected::Least, Token::Number(number)) => {
                 self.expect(&[
-                    Expected::Separator,
-                    Expected::Condition,
                     Expected::Others(Connective::AtLeast(number), 1),
+                    Expected::Condition,
+                    Expected::Separator,
                 ])?;
                 Ok(None)
             }
             (Expected::Others(list, count), Token::Comma) => {
-                self.expect(&[Expected::Condition, Expected::Others(list, count + 1)])?;
+                self.expect(&[Expected::Others(list, count + 1), Expected::Condition])?;
                 Ok(None)
             }
             (Expected::Others(list, count), Token::Close) => Ok(Some(Step::Over(list, count))),
             (Expected::Phases, Token::Comma) => {
-                self.expect(&[Expected::ANumber(NumberRole::AlsoPhase), Expected::Phases])?;
+                self.expect(&[Expected::Phases, Expected::ANumber(NumberRole::AlsoPhase)])?;
                 Ok(None)
             }
             (Expected::Phases, Token::Close) => Ok(None),
@@ -132,23 +135,23 @@ impl Pending {
             Reserved::Press => self.expect_in_brackets(Expected::AKey),
             Reserved::Fwc => self.expect_in_brackets(Expected::ANumber(NumberRole::Computer)),
             Reserved::Phase => self.expect(&[
-                Expected::Opening,
-                Expected::ANumber(NumberRole::Phase),
                 Expected::Phases,
+                Expected::ANumber(NumberRole::Phase),
+                Expected::Opening,
             ]),
             Reserved::Not => self.expect_condition(Expected::Finish(Step::Negation)),
             Reserved::Rise => self.expect_condition(Expected::Finish(Step::Risen)),
             Reserved::All => self.expect_condition(Expected::Others(Connective::All, 1)),
             Reserved::Any => self.expect_condition(Expected::Others(Connective::Any, 1)),
-            Reserved::AtLeast => self.expect(&[Expected::Opening, Expected::Least]),
+            Reserved::AtLeast => self.expect(&[Expected::Least, Expected::Opening]),
             Reserved::Conf => self.expect_timed(NumberRole::Confirmed),
             Reserved::Hold => self.expect_timed(NumberRole::Held),
             Reserved::Latch => self.expect(&[
-                Expected::Opening,
+                Expected::Finish(Step::Latched),
                 Expected::Condition,
                 Expected::Separator,
                 Expected::Condition,
-                Expected::Finish(Step::Latched),
+                Expected::Opening,
             ]),
         }
     }
@@ -157,14 +160,14 @@ impl Pending {
     fn expect_in_brackets(&mut self, part: Expected) -> Result<(), AllocError>
         ensures { OnOk result (pending self.new ≡ Opening ∷ part ∷ Closing ∷ pending self.old) }
     {
-        self.expect(&[Expected::Opening, part, Expected::Closing])
+        self.expect(&[Expected::Closing, part, Expected::Opening])
     }
 
     // Expects a condition in brackets, and this after it.
     fn expect_condition(&mut self, then: Expected) -> Result<(), AllocError>
         ensures { OnOk result (pending self.new ≡ Opening ∷ Condition ∷ then ∷ pending self.old) }
     {
-        self.expect(&[Expected::Opening, Expected::Condition, then])
+        self.expect(&[then, Expected::Condition, Expected::Opening])
     }
 
     // Expects a condition and a number in brackets.
@@ -173,22 +176,19 @@ impl Pending {
             ≡ Opening ∷ Condition ∷ Separator ∷ ANumber role ∷ Closing ∷ pending self.old) }
     {
         self.expect(&[
-            Expected::Opening,
-            Expected::Condition,
-            Expected::Separator,
-            Expected::ANumber(role),
             Expected::Closing,
+            Expected::ANumber(role),
+            Expected::Separator,
+            Expected::Condition,
+            Expected::Opening,
         ])
     }
 
-    // Expects these, in this order, before all else.
+    // Expects these before all else, the last first, as they are kept.
     fn expect(&mut self, parts: &[Expected]) -> Result<(), AllocError>
-        ensures { OnOk result (pending self.new ≡ parts.now ++ pending self.old) }
+        ensures { OnOk result (pending self.new ≡ reverse parts.now ++ pending self.old) }
     {
-        for i in (0..parts.len()).rev() {
-            self.stack.push(parts[i])?;
-        }
-        Ok(())
+        self.stack.extend_from_slice(parts)
     }
 }
 

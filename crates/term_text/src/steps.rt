@@ -9,12 +9,15 @@ use crate::token::token_at;
 use ecam_spec::Step;
 use std::alloc::{AllocError, Global};
 
+/// How many steps most texts make, for which memory is then asked once.
+const USUAL_STEPS: usize = 16;
+
 /// The steps that a text's tokens make, or the place of the first token that fits nowhere.
 pub(crate) fn steps_of(alloc: Global, text: &[u8]) -> Result<Vec<Step>, TermError>
     ensures { TellsSteps (text_reading text.now) result }
 {
     let mut pending = Pending::new(alloc)?;
-    let mut steps = Vec::new(alloc);
+    let mut steps = Vec::with_capacity(alloc, USUAL_STEPS)?;
     let mut at = 0;
     while at < text.len() {
         if text[at] == b' ' {
