@@ -27,7 +27,7 @@ fn places_of<'a>(alloc: Global, names: &[&'a str]) -> Result<NamePlaces<'a>, All
     requires { length names.now < 2 ^ 32 }
     ensures { IfOk result (FindsPlaces (texts_of names.now)) }
 {
-    let mut places = HashMap::new(alloc);
+    let mut places = HashMap::with_capacity(alloc, names.len())?;
     for (i, name) in names.iter().enumerate() {
         note_place(&mut places, name.as_bytes(), i as u32)?;
     }
@@ -82,7 +82,7 @@ pub(crate) fn short_place(places: &NamePlaces<'_>, name: &[u8]) -> Option<u32>
 pub fn counts_of<'a>(alloc: Global, names: &[&'a str]) -> Result<Counts<'a>, AllocError>
     ensures { IfOk result (CountsNames (texts_of names.now)) }
 {
-    let mut counts = HashMap::new(alloc);
+    let mut counts = HashMap::with_capacity(alloc, names.len())?;
     for name in names {
         count_one(&mut counts, name.as_bytes())?;
     }
