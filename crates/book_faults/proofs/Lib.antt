@@ -4,3 +4,4 @@ pub mod ReadRules
 pub mod EveryRule
 pub mod FirstItems
 pub mod FaultOrder
+pub mod KeysOnce

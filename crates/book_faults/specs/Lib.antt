@@ -3,3 +3,4 @@ pub mod Refused
 pub mod Readable
 pub mod Asked
 pub mod FaultParts
+pub mod KeysOnce

@@ -1,5 +1,5 @@
 // The rules that the tables of a document keep, and what their keys hold.
-ghost use Rattle.std.specs.Prelude.{◌≡◌, ◌&&◌, map, is_none, IfOk};
+ghost use Rattle.std.specs.Prelude.{◌≡◌, ◌&&◌, not, IfOk};
 ghost use Rattle.std.specs.List.{list_any};
 ghost use Rattle.toml.specs.Data.{get_member};
 ghost use Rattle.toml.specs.View.{view, table_view};
@@ -9,7 +9,8 @@ ghost use Rattle.book_spec.specs.Schema as schema;
 ghost use Rattle.book_spec.specs.Rules.{leaf_breaks};
 ghost use Rattle.book_spec.specs.TableRules.{if_there, shape_breaks};
 ghost use Rattle.book_spec.specs.TableRules as spec;
-ghost use Rattle.book_faults.specs.Asked.{any_asked, keys_fail, list_fails, table_fails, inner_fails, item_fails};
+ghost use Rattle.book_faults.specs.Asked.{any_asked, list_fails, table_fails, inner_fails, item_fails};
+ghost use Rattle.book_faults.specs.KeysOnce.{asks_known, asks_needed, key_fails};
 ghost use Rattle.book_tables.specs.Catalogue.{names_in};
 ghost use Rattle.book_faults.specs.Keys.{keys_of, key_of, key_names};
 ghost use Rattle.book_tables.specs.Reading.{views};
@@ -43,34 +44,26 @@ fn has_only<S>(keys: &[Key<S>], table: &Table) -> bool
     table.keys().all(|key| has_key(keys, key.as_str()))
 }
 
-fn is_missing<S>(key: &Key<S>, table: &Table) -> bool
-    ensures { result ≡ (key.now.needed && is_none
-        (get_member key.now.name.now (table_view table.now))) }
-{
-    key.needed && find(table, key.name).is_none()
-}
-
-fn lacks_key<S>(keys: &[Key<S>], table: &Table) -> bool
-    ensures { result ≡ list_any (λ k. k.needed
-        && is_none (get_member k.name (table_view table.now))) (keys_of keys.now) }
-{
-    for key in keys {
-        if is_missing(key, table) {
-            return true;
-        }
-    }
-    false
-}
-
-/// Whether a table has a key that isn't listed, or lacks one that is needed.
-fn keys_break<S>(asked: Asked, keys: &[Key<S>], table: &Table) -> bool
-    ensures { result ≡ keys_fail asked (keys_of keys.now) (table_view table.now) }
+/// Whether a table has a key that isn't listed, where that is asked for.
+fn has_strange_key<S>(asked: Asked, keys: &[Key<S>], table: &Table) -> bool
+    ensures { result ≡ (asks_known asked && not (has_only (key_names keys.now)
+        (table_view table.now))) }
 {
     match asked {
         Asked::One(Rule::Known) => !has_only(keys, table),
-        Asked::One(Rule::Needed) => lacks_key(keys, table),
         Asked::One(_) => false,
-        Asked::Every | Asked::Unread => !has_only(keys, table) || lacks_key(keys, table),
+        Asked::Every | Asked::Unread => !has_only(keys, table),
+    }
+}
+
+/// Whether it is asked for that a key which is needed be there.
+fn asks_needed(asked: Asked) -> bool
+    ensures { result ≡ asks_needed asked }
+{
+    match asked {
+        Asked::One(Rule::Needed) => true,
+        Asked::One(_) => false,
+        Asked::Every | Asked::Unread => true,
     }
 }
 
@@ -96,43 +89,42 @@ trait Held: Copy {
             (λ rule. fails (names_in names.now) rule self (view value.now))) };
 }
 
-fn value_at_breaks<S: Held>(
+/// Whether a key is needed and not there, or holds what breaks a rule that is asked for.
+fn key_breaks<S: Held>(
     alloc: Global,
     asked: Asked,
     names: &Scope<'_, '_>,
     key: &Key<S>,
     table: &Table,
 ) -> Result<bool, AllocError>
-    ensures { IfOk result (λ b. b ≡ any_asked asked
-        (λ rule. if_there (S.fails (names_in names.now) rule key.now.holds)
-        (get_member key.now.name.now (table_view table.now)))) }
+    ensures { IfOk result (λ b. b ≡ key_fails asked (S.fails (names_in names.now))
+        (table_view table.now) (key_of key.now)) }
 {
     match find(table, key.name) {
         Some(value) => key.holds.breaks(alloc, asked, names, value),
-        None => Ok(false),
+        None => Ok(asks_needed(asked) && key.needed),
     }
 }
 
-fn values_break<S: Held>(
+fn any_key_breaks<S: Held>(
     alloc: Global,
     asked: Asked,
     names: &Scope<'_, '_>,
     keys: &[Key<S>],
     table: &Table,
 ) -> Result<bool, AllocError>
-    ensures { IfOk result (λ b. b ≡ list_any (λ k. any_asked asked
-        (λ rule. if_there (S.fails (names_in names.now) rule k.holds)
-        (get_member k.name (table_view table.now)))) (keys_of keys.now)) }
+    ensures { IfOk result (λ b. b ≡ list_any (key_fails asked (S.fails (names_in names.now))
+        (table_view table.now)) (keys_of keys.now)) }
 {
     for key in keys {
-        if value_at_breaks(alloc, asked, names, key, table)? {
+        if key_breaks(alloc, asked, names, key, table)? {
             return Ok(true);
         }
     }
     Ok(false)
 }
 
-/// Whether a table with these keys breaks a rule that is asked for.
+/// Whether a table with these keys breaks a rule that is asked for. Each of them is looked up once.
 fn table_breaks<S: Held>(
     alloc: Global,
     asked: Asked,
@@ -143,10 +135,10 @@ fn table_breaks<S: Held>(
     ensures { IfOk result (λ b. b ≡ table_fails asked (S.fails (names_in names.now))
         (keys_of keys.now) (table_view table.now)) }
 {
-    if keys_break(asked, keys, table) {
+    if has_strange_key(asked, keys, table) {
         return Ok(true);
     }
-    values_break(alloc, asked, names, keys, table)
+    any_key_breaks(alloc, asked, names, keys, table)
 }
 
 impl Held for Leaf {
