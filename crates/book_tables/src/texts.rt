@@ -1,5 +1,5 @@
 // What may stand as a name, as a text and as a label.
-ghost use Rattle.std.specs.Prelude.{◌≡◌, ◌≤◌, ◌<◌, ◌==◌, Bool, true, length, map, slice_index, option_map};
+ghost use Rattle.std.specs.Prelude.{◌≡◌, ◌≤◌, ◌<◌, ◌==◌, ◌&&◌, nat_le, Bool, true, length, map, slice_index, option_map};
 ghost use Rattle.std.specs.List.{list_all, list_any};
 ghost use Rattle.ecam_spec.specs.BookText.{is_name, is_text, is_term_text, is_printable};
 ghost use Rattle.ecam_spec.specs.Bytes.{same_text, is_small_letter, is_name_byte};
@@ -48,15 +48,21 @@ fn has_name_bytes(text: &[u8]) -> bool
     true
 }
 
+// No byte ends the loop early, so that many of them are tried at once.
 fn is_printable(text: &[u8]) -> bool
     ensures { result ≡ is_printable text.now }
 {
+    let mut so_far = true;
     for byte in text {
-        if !(32 <= *byte && *byte <= 126) {
-            return false;
-        }
+        so_far = so_far & is_printable_byte(*byte);
     }
-    true
+    so_far
+}
+
+fn is_printable_byte(byte: u8) -> bool
+    ensures { result ≡ (nat_le 32 byte && nat_le byte 126) }
+{
+    (32 <= byte) & (byte <= 126)
 }
 
 fn begins_with_letter(text: &[u8]) -> bool

@@ -1,6 +1,6 @@
-use Rattle.std.proofs.Common.{◌≡◌, true, take}
+use Rattle.std.proofs.Common.{◌≡◌, take}
 use Rattle.ecam_spec.specs.BookText.{is_printable}
 use Rattle.book_tables.proofs.texts.is_printable.Given as goal
 
 abbrev pub invariant-loop-byte : goal.invariant-loop-byte
-invariant-loop-byte l = is_printable (take l.byte-index l.text) ≡ true
+invariant-loop-byte l = l.so_far ≡ is_printable (take l.byte-index l.text)
