@@ -42,7 +42,7 @@ fn system_in(value: &Value) -> Text
 fn systems_in(alloc: Global, items: &[Value]) -> Result<Vec<Text>, AllocError>
     ensures { IfOk result (λ v. map bytes_of v.items ≡ map spec.system_in (views items.now)) }
 {
-    let mut systems = Vec::new(alloc);
+    let mut systems = Vec::with_capacity(alloc, items.len())?;
     for item in items {
         systems.push(system_in(item))?;
     }
@@ -104,7 +104,7 @@ fn memos_in(alloc: Global, names: &Scope<'_, '_>, items: &[Value]) -> Result<Vec
         (views items.now) ≡ false) }
     ensures unplaced { IfOk result (λ v. All IsUnplacedMemo v.items) }
 {
-    let mut memos = Vec::new(alloc);
+    let mut memos = Vec::with_capacity(alloc, items.len())?;
     for item in items {
         memos.push(memo_in(alloc, names, item)?)?;
     }

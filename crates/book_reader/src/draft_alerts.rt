@@ -54,7 +54,7 @@ fn lines_in(alloc: Global, names: &Scope<'_, '_>, items: &[Value]) -> Result<Vec
         (views items.now) ≡ false) }
     ensures unplaced { IfOk result (λ v. All IsUnplacedLine v.items) }
 {
-    let mut lines = Vec::new(alloc);
+    let mut lines = Vec::with_capacity(alloc, items.len())?;
     for item in items {
         lines.push(line_in(alloc, names, item)?)?;
     }
@@ -76,7 +76,7 @@ fn status_in(alloc: Global, value: &Value) -> StatusLine
 fn statuses_in(alloc: Global, items: &[Value]) -> Result<Vec<StatusLine>, AllocError>
     ensures { IfOk result (λ v. map status_of v.items ≡ map spec.status_in (views items.now)) }
 {
-    let mut lines = Vec::new(alloc);
+    let mut lines = Vec::with_capacity(alloc, items.len())?;
     for item in items {
         lines.push(status_in(alloc, item))?;
     }
@@ -97,7 +97,7 @@ fn secondaries_in(alloc: Global, items: &[Value]) -> Result<Vec<Name>, AllocErro
     ensures { IfOk result (λ v. map bytes_of v.items
         ≡ map defaults.short_name (views items.now)) }
 {
-    let mut names = Vec::new(alloc);
+    let mut names = Vec::with_capacity(alloc, items.len())?;
     for item in items {
         names.push(short_name(item))?;
     }
@@ -187,7 +187,7 @@ pub(crate) fn alerts_in(
         (views items.now) ≡ false) }
     ensures unplaced { IfOk result (λ v. All IsUnplacedAlert v.items) }
 {
-    let mut alerts = Vec::new(alloc);
+    let mut alerts = Vec::with_capacity(alloc, items.len())?;
     for item in items {
         alerts.push(alert_in(alloc, names, item)?)?;
     }

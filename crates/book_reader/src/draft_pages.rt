@@ -69,7 +69,7 @@ fn rows_in(
     ensures { IfOk result (λ v. map row_of v.items
         ≡ map (spec.row_in (names_in names.now)) (views items.now)) }
 {
-    let mut rows = Vec::new(alloc);
+    let mut rows = Vec::with_capacity(alloc, items.len())?;
     for item in items {
         let row = row_in(alloc, names, item);
         // The check follows a row only where its text is named.
@@ -103,7 +103,7 @@ pub(crate) fn pages_in(
     ensures { IfOk result (λ v. map page_of v.items
         ≡ map (spec.page_in (names_in names.now)) (views items.now)) }
 {
-    let mut pages = Vec::new(alloc);
+    let mut pages = Vec::with_capacity(alloc, items.len())?;
     for item in items {
         pages.push(page_in(alloc, names, item)?)?;
     }

@@ -40,7 +40,7 @@ fn source_in(alloc: Global, value: &Value) -> Source
 fn sources_in(alloc: Global, items: &[Value]) -> Result<Vec<Source>, AllocError>
     ensures { IfOk result (λ v. map source_of v.items ≡ map spec.source_in (views items.now)) }
 {
-    let mut sources = Vec::new(alloc);
+    let mut sources = Vec::with_capacity(alloc, items.len())?;
     for item in items {
         sources.push(source_in(alloc, item))?;
     }
@@ -66,7 +66,7 @@ pub(crate) fn parameters_in(alloc: Global, items: &[Value]) -> Result<Vec<Param>
     ensures { IfOk result (λ v. map parameter_of v.items
         ≡ map spec.parameter_in (views items.now)) }
 {
-    let mut params = Vec::new(alloc);
+    let mut params = Vec::with_capacity(alloc, items.len())?;
     for item in items {
         params.push(parameter_in(alloc, item)?)?;
     }

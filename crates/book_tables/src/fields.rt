@@ -195,7 +195,7 @@ fn proper_name(value: &Value) -> &str
 pub fn texts_in<'a>(alloc: Global, values: &'a [Value]) -> Result<Vec<&'a str>, AllocError>
     ensures { IfOk result (λ v. texts_of v.items ≡ map text_of (views values.now)) }
 {
-    let mut texts = Vec::new(alloc);
+    let mut texts = Vec::with_capacity(alloc, values.len())?;
     for value in values {
         texts.push(text_of(value))?;
     }
@@ -206,7 +206,7 @@ pub fn texts_in<'a>(alloc: Global, values: &'a [Value]) -> Result<Vec<&'a str>, 
 pub fn names_in<'a>(alloc: Global, items: &'a [Value]) -> Result<Vec<&'a str>, AllocError>
     ensures { IfOk result (λ v. texts_of v.items ≡ map name_of (views items.now)) }
 {
-    let mut names = Vec::new(alloc);
+    let mut names = Vec::with_capacity(alloc, items.len())?;
     for item in items {
         names.push(name_of(item))?;
     }
@@ -218,7 +218,7 @@ pub fn proper_names_in<'a>(alloc: Global, items: &'a [Value]) -> Result<Vec<&'a 
     ensures { IfOk result (λ v. texts_of v.items
         ≡ map (λ d. defaults.name_or_none (defaults.table_in d)) (views items.now)) }
 {
-    let mut names = Vec::new(alloc);
+    let mut names = Vec::with_capacity(alloc, items.len())?;
     for item in items {
         names.push(proper_name(item))?;
     }
