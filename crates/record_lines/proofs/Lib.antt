@@ -16,3 +16,4 @@ pub mod FirstByte
 pub mod Needs
 pub mod Asking
 pub mod CommonLines
+pub mod CommonPassed

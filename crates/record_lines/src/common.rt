@@ -1,6 +1,7 @@
 // The lines of which a record has most: a Tick, and a word on a bus of one digit. They are known without a look for
 // their line feed.
-ghost use Rattle.std.specs.Prelude.{◌≡◌, ◌+◌, ◌*◌, ◌^◌, ◌≤◌, [], ◌∷◌, map, IfSome};
+ghost use Rattle.std.specs.Prelude.{◌≡◌, true, ◌+◌, ◌*◌, ◌^◌, ◌≤◌, [], ◌∷◌, map, IfSome};
+ghost use Rattle.ecam_spec.specs.declared.kinds.Event.TheVariants.{Tick};
 ghost use Rattle.ecam_spec.specs.Places.{below};
 ghost use Rattle.ecam_spec.specs.RecordLine.{bits_of};
 ghost use Rattle.record_lines.specs.Line.{worth, IsCommon};
@@ -80,18 +81,28 @@ fn bits(a: u8, b: u8, c: u8, d: u8, e: u8, f: u8, g: u8, h: u8) -> Option<u32>
     }
 }
 
-// The event of the line that stands at the head of these bytes, and the place of its line feed, where it is a Tick or a
-// word on a bus of one digit.
+// Whether the line that stands at the head of these bytes is a Tick, whose line feed is the second byte.
 #[inline(always)]
-pub(crate) fn common_line(bytes: &[u8]) -> Option<(Event, usize)>
-    ensures { IfSome result (IsCommon bytes.now) }
+pub(crate) fn is_tick_line(bytes: &[u8]) -> bool
+    ensures { result ≡ true → IsCommon bytes.now (Tick, 1) }
 {
     match bytes {
-        [b'T', b'\n', ..] => Some((Event::Tick, 1)),
+        [b'T', b'\n', ..] => true,
+        _ => false,
+    }
+}
+
+// The word of the line that stands at the head of these bytes, where it is one on a bus of one digit, whose line feed is
+// the thirteenth byte.
+#[inline(always)]
+pub(crate) fn word_line(bytes: &[u8]) -> Option<Event>
+    ensures { IfSome result (λ e. IsCommon bytes.now (e, 12)) }
+{
+    match bytes {
         [b'W', b' ', bus, b' ', a, b, c, d, e, f, g, h, b'\n', ..] => {
             let bus = digit_value(*bus)?;
             let bits = bits(*a, *b, *c, *d, *e, *f, *g, *h)?;
-            Some((Event::Word { bus, bits }, 12))
+            Some(Event::Word { bus, bits })
         }
         _ => None,
     }

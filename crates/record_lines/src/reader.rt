@@ -8,7 +8,7 @@ ghost use Rattle.record_lines.specs.Reader.{room, settled, kept_answer, cost, fa
 ghost use Rattle.record_lines.specs.Reads.{Reads, Tells, Takes, MeetsEnd, Makes, Asks, last_call, piece_call, Gives, IsFromBytes, Advances, IsSpent};
 ghost use Rattle.std.specs.Io.KnownBytes.{Consumes};
 
-use crate::common::common_line;
+use crate::common::{is_tick_line, word_line};
 use crate::line::{event_of, place_of};
 use crate::outcome::{LineError, Stage};
 use crate::piece::Piece;
@@ -144,6 +144,33 @@ impl LineReader {
         if let Some(event) = self.common() {
             return Ok(event);
         }
+        self.uncommon(source)
+    }
+
+    // The next event, where no line of the common forms lies whole in the piece. (It takes the answer apart, so that a
+    // common line is handed on without it.)
+    #[inline(always)]
+    fn uncommon<S: Source>(&mut self, source: &mut S) -> Result<Event, LineError>
+        ensures told { Takes (S.left source.old) (S.left source.new)
+            (λ more. Tells self.old self.new more result) }
+        ensures end { settled self.old ≡ None
+            → MeetsEnd (S.left source.old) (S.left source.new) result }
+        ensures again { IfSome (settled self.old)
+            (λ a. (result ≡ a) × (self.new ≡ self.old) × (source.new ≡ source.old)) }
+        ensures settled { settled self.new ≡ kept_answer result }
+        ensures fewer { room self.new + cost result ≤ room self.old }
+        ensures spared { reads_next self.old ≡ false → source.new ≡ source.old }
+        ensures asks { settled self.old ≡ None
+            → Makes S.reads source.old source.new (Asks (reads_next self.old) result) }
+        ensures event { IfOk result IsEvent }
+        ensures quiet { result ≢ Err LineError.Failed → S.faults source.new ≡ S.faults source.old }
+        ensures cause { result ≡ Err LineError.Failed
+            → Rose (S.faults source.old) (S.faults source.new) }
+        ensures faults { S.faults source.old ≤ S.faults source.new }
+        ensures is_open { S.is_open source.new ≡ S.is_open source.old }
+        ensures files { S.files source.new ≡ S.files source.old }
+        ensures opens { S.opens source.new ≡ S.opens source.old }
+    {
         match self.next_other(source) {
             Ok(event) => Ok(event),
             Err(error) => Err(error),
@@ -234,7 +261,9 @@ impl LineReader {
         }
     }
 
-    // The event of a line of the common forms that lies whole in the piece, and goes past it; else nothing is changed.
+    // The event of a line of the common forms that lies whole in the piece, and goes past it; else nothing is changed. (The
+    // two kinds of line end by other writes, so that their paths stay apart in the built program, and the caller needn't
+    // ask which event it is.)
     #[inline(always)]
     fn common(&mut self) -> Option<Event>
         ensures lines { IfSome result (λ _. self.old.stage ≡ Stage.Lines) }
@@ -249,12 +278,18 @@ impl LineReader {
         if !self.line.is_empty() {
             return None;
         }
-        let Some((event, at)) = common_line(self.piece.bytes()) else {
-            return None;
-        };
-        self.piece.skip(at + 1);
-        self.number += 1;
-        Some(event)
+        let bytes = self.piece.bytes();
+        if let Some(event) = word_line(bytes) {
+            self.number += 1;
+            self.piece.skip(13);
+            return Some(event);
+        }
+        if is_tick_line(bytes) {
+            self.piece.skip(2);
+            self.number += 1;
+            return Some(Event::Tick);
+        }
+        None
     }
 
     // The answer to bytes after the record's end, or beyond the limit.

@@ -133,11 +133,12 @@ fn show_lines<V: View, S: Source, O: Sink>(
         if is_end(&event) {
             return finish(book, view, ticks, out);
         }
+        let counted = ticks_with(ticks, &event);
         match feed(book, pair, view, &event, ticks, out) {
             Ok(()) => {}
             Err(Failed) => return Err(RunError::Write),
         }
-        ticks = ticks_with(ticks, &event);
+        ticks = counted;
     }
 }
 

@@ -37,8 +37,8 @@ feed-requires-clause-moments g c =
     at-few-moments (the_book c.args.book.now) (shown_by g.V.View (g.V.View.settings c.args.view.now) (the_book c.args.book.now)) (growing (the_book c.args.book.now) g.V.View (g.V.View.settings c.args.view.now) (g.met.V.View.begins_empty (g.V.View.settings c.args.view.now) (the_book c.args.book.now)) (g.met.V.View.goes_on (g.V.View.settings c.args.view.now) (the_book c.args.book.now))) g.O.Sink.agrees c.args.out.now.out.now c.args.limit (g.S.Source.left c.args.source.now) c.restart.new.self
     c.lines.out.out.now (g.V.View.stands c.lines.view (the_book c.args.book.now)) c.lines.out.bytes.items (g.S.Source.left c.lines.source) c.lines.reader c.lines.pair c.lines.ticks c.lines.invariant.at c.ranges.limit.fits
 
-pub ticks_with-ticks-requires : goal.ticks_with-ticks-requires
-ticks_with-ticks-requires g c =
+pub ticks_with-counted-requires : goal.ticks_with-counted-requires
+ticks_with-counted-requires g c =
     at-few (the_book c.args.book.now) (shown_by g.V.View (g.V.View.settings c.args.view.now) (the_book c.args.book.now)) (growing (the_book c.args.book.now) g.V.View (g.V.View.settings c.args.view.now) (g.met.V.View.begins_empty (g.V.View.settings c.args.view.now) (the_book c.args.book.now)) (g.met.V.View.goes_on (g.V.View.settings c.args.view.now) (the_book c.args.book.now))) g.O.Sink.agrees c.args.out.now.out.now c.args.limit (g.S.Source.left c.args.source.now) c.restart.new.self
     c.lines.out.out.now (g.V.View.stands c.lines.view (the_book c.args.book.now)) c.lines.out.bytes.items (g.S.Source.left c.lines.source) c.lines.reader c.lines.pair c.lines.ticks c.lines.invariant.at c.ranges.limit.fits
 
@@ -65,7 +65,7 @@ lines-preserved g c =
     record {
       at = at-next (the_book c.args.book.now) (shown_by g.V.View (g.V.View.settings c.args.view.now) (the_book c.args.book.now)) (growing (the_book c.args.book.now) g.V.View (g.V.View.settings c.args.view.now) (g.met.V.View.begins_empty (g.V.View.settings c.args.view.now) (the_book c.args.book.now)) (g.met.V.View.goes_on (g.V.View.settings c.args.view.now) (the_book c.args.book.now))) g.O.Sink.agrees c.args.out.now.out.now c.args.limit (g.S.Source.left c.args.source.now) c.restart.new.self
           c.hand_over_before_read.new.out.out.now (g.V.View.stands c.lines.view (the_book c.args.book.now)) c.hand_over_before_read.new.out.bytes.items (g.S.Source.left c.lines.source) c.lines.reader c.lines.pair c.lines.ticks at
-          c.feed.new.out.out.now (g.V.View.stands c.feed.new.view (the_book c.args.book.now)) c.feed.new.out.bytes.items (g.S.Source.left c.next.new.source) c.next.new.self c.feed.new.pair c.ticks_with-ticks.result c.in-Ok-next.event told.more told.moved tells
+          c.feed.new.out.out.now (g.V.View.stands c.feed.new.view (the_book c.args.book.now)) c.feed.new.out.bytes.items (g.S.Source.left c.next.new.source) c.next.new.self c.feed.new.pair c.ticks_with-counted.result c.in-Ok-next.event told.more told.moved tells
           (c.in-Ok-next.ensures.settled ∙ ap (λ e. cond e (Some (Ok c.in-Ok-next.event)) None) other)
           (subst (λ e. room c.next.new.self + cond e 0 2 ≤ room c.lines.reader) other c.in-Ok-next.ensures.fewer)
           (subst (λ s. HasFed (the_book c.args.book.now) (shown_by g.V.View s (the_book c.args.book.now)) g.O.Sink.agrees c.hand_over_before_read.new.out.out.now c.feed.new.out.out.now (g.V.View.stands c.feed.new.view (the_book c.args.book.now)) c.hand_over_before_read.new.out.bytes.items c.feed.new.out.bytes.items at.answered c.in-Ok-next.event c.feed.new.pair)
@@ -73,7 +73,7 @@ lines-preserved g c =
           (c.in-Ok-feed.ensures.fed at.answered (at-seen (the_book c.args.book.now) (shown_by g.V.View (g.V.View.settings c.args.view.now) (the_book c.args.book.now)) (growing (the_book c.args.book.now) g.V.View (g.V.View.settings c.args.view.now) (g.met.V.View.begins_empty (g.V.View.settings c.args.view.now) (the_book c.args.book.now)) (g.met.V.View.goes_on (g.V.View.settings c.args.view.now) (the_book c.args.book.now))) g.O.Sink.agrees c.args.out.now.out.now c.args.limit (g.S.Source.left c.args.source.now) c.restart.new.self
           c.hand_over_before_read.new.out.out.now (g.V.View.stands c.lines.view (the_book c.args.book.now)) c.hand_over_before_read.new.out.bytes.items (g.S.Source.left c.lines.source) c.lines.reader c.lines.pair c.lines.ticks at c.ranges.limit.fits)))
           (c.in-Ok-feed.ensures.visits at.answered at.stands)
-          (c.ticks_with-ticks.ensures at.answered at.ticks_are);
+          (c.ticks_with-counted.ensures at.answered at.ticks_are);
       fits = c.in-Ok-feed.ensures.pair;
       settings = c.in-Ok-feed.ensures.settings ∙ c.lines.invariant.settings;
       same_sink = c.in-Ok-feed.ensures.same_sink ∙ c.in-Ok.ensures.same_sink ∙ c.lines.invariant.same_sink;

@@ -1,12 +1,6 @@
 use Rattle.std.proofs.Common.{sym, ◌∙◌, arith}
-use Rattle.record_lines.proofs.CommonLines.{tick_line, word_line}
-use Rattle.record_lines.proofs.common.common_line.Goals as goal
-
-pub returns-in-84 : goal.returns-in-84
-returns-in-84 c = tick_line c.args.bytes.now (omega arith) (omega arith) (omega arith)
-
-pub returns-in-84-2 : goal.returns-in-84-2
-returns-in-84-2 c = tick_line c.args.bytes.now (omega arith) (omega arith) (omega arith)
+use Rattle.record_lines.proofs.CommonLines.{word_line}
+use Rattle.record_lines.proofs.common.word_line.Goals as goal
 
 pub returns-in_ok-bits-in-87 : goal.returns-in_ok-bits-in-87
 returns-in_ok-bits-in-87 c =
