@@ -118,6 +118,7 @@ impl Params {
     /// The moment ends. What is fresh is told by the clock, so that a Tick costs a look at the sources whose freshness
     /// may end with it, no more looks in all than words, and a write for each 64 parameters; but one in 2^31 costs a few
     /// writes a source.
+    #[inline(always)]
     pub fn tick(&mut self, _book: &Book)
         requires { ParamsFit (the_book _book.now) self.old }
         ensures fits { ParamsFit (the_book _book.now) self.new }
@@ -187,6 +188,7 @@ impl Params {
     }
 
     // Sets the clock back by half of what it can show, with the times of the words. Each place is looked at soon.
+    #[inline(never)]
     fn set_clock_back(&mut self)
         requires clock { self.old.clock ≡ 2 ^ 32 - 1 }
         requires count { length self.old.held.dues ≡ length self.old.held.received.items.items }

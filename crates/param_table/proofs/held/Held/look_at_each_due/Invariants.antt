@@ -3,7 +3,7 @@ use Rattle.wakes.specs.Marks.{is_marked, room}
 use Rattle.param_table.specs.HeldValues.{is_ending}
 use Rattle.param_table.specs.HeldState.{AreDue, WillLook}
 use Rattle.param_table.proofs.Steps.{come_by}
-use Rattle.param_table.proofs.held.Held.look_at_due.Given as goal
+use Rattle.param_table.proofs.held.Held.look_at_each_due.Given as goal
 
 abbrev pub invariant-loop-place : goal.invariant-loop-place
 invariant-loop-place l = record {

@@ -1,7 +1,7 @@
 use Rattle.std.proofs.Common.{◌<◌, ◌≤◌, get_or, slice_index, None, sym, subst}
 use Rattle.param_table.specs.HeldValues.{next_look}
 use Rattle.param_table.proofs.Steps.{come_by, fewer, next_later}
-use Rattle.param_table.proofs.held.Held.look_at_due.Goals as goal
+use Rattle.param_table.proofs.held.Held.look_at_each_due.Goals as goal
 
 pub loop-place-smaller : goal.loop-place-smaller
 loop-place-smaller c =
