@@ -1,9 +1,10 @@
 // One condition of the book in one moment.
-ghost use Rattle.std.specs.Prelude.{◌≡◌, ◌<◌, ◌≤◌, ◌^◌, length, slice_get, Some};
+ghost use Rattle.std.specs.Prelude.{◌≡◌, ◌<◌, ◌≤◌, ◌^◌, true, length, slice_get, Some};
 ghost use Rattle.ecam_spec.specs.Book as plain;
 ghost use Rattle.ecam_spec.specs.TermNames.{IsWithin};
 ghost use Rattle.book_model.specs.View.{tree_in, placed_of};
 ghost use Rattle.book_model.specs.Conditions.{places};
+ghost use Rattle.wakes.specs.Marks.{is_marked};
 ghost use Rattle.fwc_lane.specs.Conditions.{StepsTerm};
 ghost use Rattle.fwc_lane.specs.TermsFit.{TermsFit};
 
@@ -12,7 +13,9 @@ use book_model::Term;
 use term_eval::Env;
 
 /// Steps the condition of this number by moment `now`, and answers whether it holds in it. One that the moment doesn't wake
-/// holds where it held, and costs a look; one that is woken costs one visit of each of its nodes.
+/// holds where it held, and costs a look; one that is woken costs one visit of each of its nodes. (The look stands where it
+/// is asked for, since most conditions that are asked aren't woken.)
+#[inline(always)]
 pub fn step_term(terms: &mut Terms, number: usize, _term: &Term, env: &Env<'_>, now: u64) -> bool
     requires place { (b : plain.Book) × TermsFit b terms.old
         × (slice_get (places b) number ≡ Some (placed_of _term.now)) }
@@ -27,6 +30,23 @@ pub fn step_term(terms: &mut Terms, number: usize, _term: &Term, env: &Env<'_>, 
     if !terms.woken.has(number) {
         return terms.truths[number];
     }
+    run_term(terms, number, _term, env, now)
+}
+
+// Steps one that the moment wakes.
+#[inline(never)]
+fn run_term(terms: &mut Terms, number: usize, _term: &Term, env: &Env<'_>, now: u64) -> bool
+    requires woken { is_marked terms.old.woken number ≡ true }
+    requires place { (b : plain.Book) × TermsFit b terms.old
+        × (slice_get (places b) number ≡ Some (placed_of _term.now)) }
+    requires names { IsWithin (length env.now.values.now) (length env.now.active.now)
+        (tree_in _term.now) }
+    requires first { 1 ≤ env.now.phase.number }
+    requires last { env.now.phase.number ≤ 10 }
+    requires now { now < 2 ^ 63 }
+    ensures fits { (b : plain.Book) → TermsFit b terms.old → TermsFit b terms.new }
+    ensures steps { StepsTerm env.now now number (placed_of _term.now) terms.old terms.new result }
+{
     let turn = terms
         .cells
         .run(terms.codes.code(number), &mut terms.totals, env, now);
