@@ -1,9 +1,9 @@
 // The next of some items that has a woken condition.
-ghost use Rattle.std.specs.Prelude.{◌≡◌, ◌+◌, ◌<◌, ◌≤◌, ℕ, true, false, length, take};
+ghost use Rattle.std.specs.Prelude.{◌≡◌, ◌+◌, ◌<◌, ◌≤◌, ◌^◌, ◌||◌, ℕ, true, false, length, take};
 ghost use Rattle.ecam_spec.specs.BookTerms.{lines_of};
 ghost use Rattle.book_model.specs.Sealed.{the_book};
 ghost use Rattle.book_model.specs.Conditions.{alerts_from};
-ghost use Rattle.wakes.specs.Marks.{is_marked};
+ghost use Rattle.wakes.specs.Marks.{is_marked, room};
 ghost use Rattle.fwc_lane.specs.Waking.{NoneMarked, FindsNext, lines_start, memo_start};
 
 use crate::numbers::{first_memo, line_number};
@@ -83,6 +83,15 @@ pub fn next_memo(woken: &Marked, book: &Book, from: usize) -> Option<usize>
         return None;
     }
     Some(term - first)
+}
+
+/// Whether the condition of this number is woken, or the one behind it.
+pub fn either_woken(woken: &Marked, number: usize) -> bool
+    requires few { number < 2 ^ 32 }
+    requires room { number + 1 < room woken.now }
+    ensures { result ≡ (is_marked woken.now number || is_marked woken.now (number + 1)) }
+{
+    woken.has(number) || woken.has(number + 1)
 }
 
 // How many lines the alerts before this one have.

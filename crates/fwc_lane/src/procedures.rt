@@ -16,7 +16,7 @@ ghost use Rattle.fwc_lane.specs.TermsFit.{TermsFit};
 
 use crate::conditions::step_term;
 use crate::flags::{is_either, set_flag};
-use crate::next::next_lines;
+use crate::next::{either_woken, next_lines};
 use crate::numbers::line_number;
 use crate::terms::Terms;
 use book_model::{Book, Line};
@@ -50,7 +50,7 @@ fn stands(when: bool, done: bool) -> bool
     when && !done
 }
 
-// Steps the lines of one alert, and answers whether the flag of any turned.
+// Steps the lines of one alert of which a condition is woken, and answers whether the flag of any turned.
 fn step_own(
     terms: &mut Terms,
     flags: &mut Vec<bool>,
@@ -84,16 +84,19 @@ fn step_own(
     let mut turned = false;
     for i in 0..own.len() {
         let line = first + i;
-        let stands = step_line(terms, line_number(book, line), &own[i], env, now);
-        let other = set_flag(flags, line, stands);
-        turned = is_either(turned, other);
+        let number = line_number(book, line);
+        if either_woken(&terms.woken, number) {
+            let stands = step_line(terms, number, &own[i], env, now);
+            let other = set_flag(flags, line, stands);
+            turned = is_either(turned, other);
+        }
     }
     turned
 }
 
 /// Steps all lines by moment `now`: `flags` has, per line, whether it stands, and before it of the moment before. Answers
 /// whether any flag turned. Lines of an alert of which no condition is woken stand where they stood, and aren't looked at. The
-/// cost is a look for each 64 conditions, a few at each line of the other alerts, and one visit of each node that is woken.
+/// cost is a look for each 64 conditions, two at each line of the other alerts, and one visit of each node that is woken.
 pub fn step_lines(
     terms: &mut Terms,
     flags: &mut Vec<bool>,
