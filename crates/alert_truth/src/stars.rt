@@ -1,5 +1,5 @@
 // Which active alerts a primary failure explains, and which are up.
-ghost use Rattle.std.specs.Prelude.{◌≡◌, ◌↔◌, ℕ, suc, ◌<◌, false, length, get_or, find, All, None, Some, IfOk, if◌then◌else◌};
+ghost use Rattle.std.specs.Prelude.{◌≡◌, ◌↔◌, ℕ, suc, ◌<◌, true, false, length, get_or, find, All, None, Some, IfOk, if◌then◌else◌};
 ghost use Rattle.std.specs.Option.{option_or};
 ghost use Rattle.std.specs.List.{list_any};
 ghost use Rattle.std.specs.Prelude.{◌==◌};
@@ -83,17 +83,35 @@ impl Stars {
         }
     }
 
-    // Takes over what was found for one alert.
+    // Takes over what was found for one alert. Most are away, as before, and nothing was found for them: of these nothing is
+    // written.
     fn star(&mut self, alert: usize, active: bool)
         requires { HasPlace alert self.old }
         ensures { Takes alert active self.old self.new }
     {
+        if self.stays_away(alert, active) {
+            return;
+        }
         let primary = only_if(active, self.found[alert]);
         let starred = primary.is_some();
         self.found[alert] = None;
         self.primaries[alert] = primary;
         self.starred[alert] = starred;
         self.up[alert] = active && !starred;
+    }
+
+    // Whether an alert isn't active, nothing was found for it, and all that is told of it is that it is away.
+    fn stays_away(&self, alert: usize, active: bool) -> bool
+        requires { HasPlace alert self.now }
+        ensures off { result ≡ true → active ≡ false }
+        ensures found { result ≡ true → get_or self.now.found.items alert None ≡ None }
+        ensures primaries { result ≡ true → get_or self.now.primaries.items alert None ≡ None }
+        ensures starred { result ≡ true → get_or self.now.starred.items alert false ≡ false }
+        ensures up { result ≡ true → get_or self.now.up.items alert false ≡ false }
+    {
+        !(active | self.up[alert] | self.starred[alert])
+            && self.found[alert].is_none()
+            && self.primaries[alert].is_none()
     }
 }
 
