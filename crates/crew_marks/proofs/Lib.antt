@@ -8,3 +8,4 @@ pub mod Stepping
 pub mod Resting
 pub mod Ending
 pub mod Quiet
+pub mod Settling

@@ -56,6 +56,9 @@ first-shown b inside m same fits =
     subst (λ (n : CrewMarks). IfSome n.first (λ a. get_or n.sets.shown a false ≡ true)) (sym same)
     (subst (λ o. IfSome o (λ a. is_shown m a ≡ true)) (sym fits.first) (found-passes (is_shown m) (order b)))
 
+pub first-found : (b : Book) (inside m : CrewMarks) → inside ≡ m → MarksFit b m → inside.first ≡ find (λ a. get_or inside.sets.shown a false) (order b)
+first-found b inside m same fits = subst (λ (n : CrewMarks). n.first ≡ find (λ a. get_or n.sets.shown a false) (order b)) (sym same) fits.first
+
 -- ---- no moment
 
 pub record IsBlank (n : ℕ) (m : CrewMarks) : Type 0 where

@@ -1,17 +1,17 @@
 -- A walk over the alerts in their order, which steps the mark of each.
-use Rattle.std.proofs.Common.{◌≡◌, ℕ, zero, suc, ◌+◌, ◌<◌, ◌≤◌, ◌≢◌, Bool, true, false, not, ◌||◌, ◌==◌, cond, Option, Some, None, List, [], ◌∷◌, ◌++◌, length, get_or, set, take, drop, refl, sym, ◌∙◌, ap, subst, arith}
+use Rattle.std.proofs.Common.{◌≡◌, ℕ, zero, suc, ◌+◌, ◌<◌, ◌≤◌, ◌≢◌, Bool, true, false, not, ◌||◌, ◌==◌, cond, Option, Some, None, inl, inr, List, [], ◌∷◌, ◌++◌, length, get_or, set, take, drop, refl, sym, ◌∙◌, ap, subst, arith}
 use Rattle.std.specs.Prelude.{◌↔◌}
 use Rattle.std.specs.Option.{option_or}
 use Rattle.std.specs.Bool.{then_some}
 use Rattle.std.specs.List.{find}
-use Rattle.std.proofs.lemmas.Bool.{eqb-true, false≢true, and_parts, or_parts, or_from, not-true}
+use Rattle.std.proofs.lemmas.Bool.{cases_eq, eqb-true, false≢true, and_parts, or_parts, or_from, not-true}
 use Rattle.std.proofs.lemmas.List.{take_all, take_more, take-append-drop, get_or-set_same, get_or-set_other, set-get_or, length-set}
 use Rattle.std.proofs.lemmas.List.Folds.{find-append}
 use Rattle.std.proofs.Math.Bool.{or-false}
 use Rattle.std.proofs.Math.Seq.{drop-cons}
 use Rattle.ecam_spec.proofs.ListLaws.{mem, distinct, eqb-self, mem-append}
 use Rattle.crew_marks.specs.declared.mark.Mark.{Mark}
-use Rattle.crew_marks.specs.MarkSets.{MarkSets, mark_at, set_mark, HasMark, AreMany}
+use Rattle.crew_marks.specs.MarkSets.{MarkSets, mark_at, set_mark, is_marked, is_touched, TellMarked, TellTouched, HasMark, AreMany}
 
 -- the mark that was set, and the others
 module _ (s : MarkSets) (a : ℕ) (m : Mark) where
@@ -45,7 +45,7 @@ set-set [] i x y = refl
 set-set (z ∷ zs) zero x y = refl
 set-set (z ∷ zs) (suc i) x y = ap (λ ys. z ∷ ys) (set-set zs i x y)
 
-set_mark-again : (s : MarkSets) (a : ℕ) (m n : Mark) → set_mark (set_mark s a m) a n ≡ set_mark s a n
+pub set_mark-again : (s : MarkSets) (a : ℕ) (m n : Mark) → set_mark (set_mark s a m) a n ≡ set_mark s a n
 set_mark-again s a m n =
     let one = set-set s.cleared a m.cleared n.cleared in
     let two = set-set s.cancelled a m.cancelled n.cancelled in
@@ -156,6 +156,28 @@ walk-idle order step initial i x s first changed apart within here has rests hid
     subst (IsWalked order step initial (i + 1) s first) (or-false changed)
     (walk-more order step initial i x s s first changed false apart within here has rests (λ e. refl, λ e. refl) w first
     (sym (ap (λ b. option_or first (cond b (Some x) None)) hidden ∙ or-none first)))
+
+-- ---- flags that are kept beside the marks
+
+tells-set : (f : Mark → Bool) (s : MarkSets) (flags : List Bool) (i : ℕ) (m : Mark) → HasMark s i → i < length flags
+    → ((a : ℕ) → get_or flags a false ≡ f (mark_at s a)) → (a : ℕ) → get_or (set flags i (f m)) a false ≡ f (mark_at (set_mark s i m) a)
+tells-set f s flags i m has within told a =
+    elim (cases_eq a i) [
+      | inl e ↦ rw e (get_or-set_same flags i (f m) false within ∙ ap f (sym (mark-same s i m has)))
+      | inr ne ↦ get_or-set_other flags i a (f m) false ne ∙ told a ∙ ap f (sym (mark-other s i m a ne))
+    ]
+
+pub marked-set : (s : MarkSets) (flags : List Bool) (i : ℕ) (m : Mark) (flag : Bool) → HasMark s i → flag ≡ is_marked m → TellMarked s flags → TellMarked (set_mark s i m) (set flags i flag)
+marked-set s flags i m flag has is tells = record {
+  many = length-set flags i flag ∙ tells.many ∙ sym (length-set s.cleared i m.cleared);
+  told = λ a. ap (λ f. get_or (set flags i f) a false) is ∙ tells-set is_marked s flags i m has (omega (arith, tells.many, has.cleared)) tells.told a;
+}
+
+pub touched-set : (s : MarkSets) (flags : List Bool) (i : ℕ) (m : Mark) (flag : Bool) → HasMark s i → flag ≡ is_touched m → TellTouched s flags → TellTouched (set_mark s i m) (set flags i flag)
+touched-set s flags i m flag has is tells = record {
+  many = length-set flags i flag ∙ tells.many ∙ sym (length-set s.cleared i m.cleared);
+  told = λ a. ap (λ f. get_or (set flags i f) a false) is ∙ tells-set is_touched s flags i m has (omega (arith, tells.many, has.cleared)) tells.told a;
+}
 
 -- ---- how many marks there are
 

@@ -28,6 +28,20 @@ pub record TellMarked (s : MarkSets) (flags : List Bool) : Type 0 where
   pub many : length flags ≡ length s.cleared
   pub told : (a : ℕ) → get_or flags a false ≡ is_marked (mark_at s a)
 
+-- the crew made something of it
+abbrev pub is_touched : Mark → Bool
+is_touched m = m.cleared || (m.cancelled || m.recalled)
+
+-- these flags tell by alert whether the crew made something of it
+pub record TellTouched (s : MarkSets) (flags : List Bool) : Type 0 where
+  pub many : length flags ≡ length s.cleared
+  pub told : (a : ℕ) → get_or flags a false ≡ is_touched (mark_at s a)
+
+-- the alert is shown exactly where it is among those that are up, and the crew made nothing of it
+pub record IsSettled (s : MarkSets) (up : List Bool) (a : ℕ) : Type 0 where
+  pub shown : get_or up a false ≡ get_or s.shown a false
+  pub untouched : is_touched (mark_at s a) ≡ false
+
 -- the alert has a mark
 pub record HasMark (s : MarkSets) (a : ℕ) : Type 0 where
   pub cleared : a < length s.cleared

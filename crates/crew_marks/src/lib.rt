@@ -6,6 +6,7 @@ mod mark;
 mod marks;
 mod sets;
 mod stretch;
+mod unsettled;
 mod walk;
 
 pub use marks::Marks;

@@ -1,6 +1,6 @@
 // What the crew made of one alert.
 ghost use Rattle.std.specs.Prelude.{◌≡◌, Bool, not, ◌&&◌, ◌||◌};
-ghost use Rattle.crew_marks.specs.MarkSets.{is_marked};
+ghost use Rattle.crew_marks.specs.MarkSets.{is_marked, is_touched};
 ghost use Rattle.crew_marks.specs.MarkStep.{is_struck, is_called_off, cleared_after, cancelled_after, recalled_after, shown_by, mark_after, acts, actions_of};
 
 use ecam_kinds::{Key, Keys};
@@ -50,6 +50,13 @@ impl Mark {
         ensures { result ≡ is_marked self }
     {
         self.cleared || self.cancelled || self.recalled || self.shown
+    }
+
+    /// Whether the crew made something of the alert.
+    pub fn is_touched(self) -> bool
+        ensures { result ≡ is_touched self }
+    {
+        self.cleared || self.cancelled || self.recalled
     }
 
     /// What the crew made of the alert with one moment more.

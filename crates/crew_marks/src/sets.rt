@@ -1,7 +1,7 @@
 // The marks of all alerts.
-ghost use Rattle.std.specs.Prelude.{◌≡◌, ◌↔◌, ℕ, false, length, replicate, slice_index_or, IfOk};
+ghost use Rattle.std.specs.Prelude.{◌≡◌, ◌↔◌, ℕ, true, false, length, replicate, slice_index_or, IfOk};
 ghost use Rattle.std.specs.Box.{boxed_slice_items};
-ghost use Rattle.crew_marks.specs.MarkSets.{mark_at, set_mark, is_marked, HasMark, AreMany};
+ghost use Rattle.crew_marks.specs.MarkSets.{mark_at, set_mark, is_marked, is_touched, HasMark, AreMany};
 ghost use Rattle.crew_marks.specs.MarkStep.{mark_after};
 
 use crate::mark::{Actions, Mark, Sight};
@@ -18,11 +18,13 @@ pub struct Sets {
     shown: BoxedSlice<bool>,
     // Whether it is any of these, so that one look finds an alert without a mark.
     marked: BoxedSlice<bool>,
+    // Whether the crew made something of it, so that one look more finds one that is shown as long as it is up.
+    touched: BoxedSlice<bool>,
 }
 
 impl Model for Sets {
     ghost use Rattle.std.specs.Box.{boxed_slice_items};
-    ghost use Rattle.crew_marks.specs.MarkSets.{MarkSets, TellMarked};
+    ghost use Rattle.crew_marks.specs.MarkSets.{MarkSets, TellMarked, TellTouched};
 
     ghost Value = { MarkSets };
 
@@ -38,7 +40,12 @@ impl Model for Sets {
       cancelled = boxed_slice_items s.cancelled;
       recalled = boxed_slice_items s.recalled;
       shown = boxed_slice_items s.shown;
-    }) (boxed_slice_items s.marked) };
+    }) (boxed_slice_items s.marked) × TellTouched (record {
+      cleared = boxed_slice_items s.cleared;
+      cancelled = boxed_slice_items s.cancelled;
+      recalled = boxed_slice_items s.recalled;
+      shown = boxed_slice_items s.shown;
+    }) (boxed_slice_items s.touched) };
 }
 
 impl Sets {
@@ -55,6 +62,7 @@ impl Sets {
             recalled: none(alloc, alerts)?,
             shown: none(alloc, alerts)?,
             marked: none(alloc, alerts)?,
+            touched: none(alloc, alerts)?,
         })
     }
 
@@ -81,6 +89,7 @@ impl Sets {
         self.recalled[alert] = mark.recalled;
         self.shown[alert] = mark.shown;
         self.marked[alert] = mark.is_marked();
+        self.touched[alert] = mark.is_touched();
     }
 
     /// One moment more makes this of an alert's mark. Answers whether that changed it.
@@ -115,6 +124,15 @@ impl Sets {
         self.marked[alert]
     }
 
+    /// Whether an alert is shown exactly where it is up, and the crew made nothing of it.
+    pub fn is_settled(&self, alert: usize, up: bool) -> bool
+        requires { HasMark self.now alert }
+        ensures shown { result ≡ true → up ≡ slice_index_or self.now.shown alert false }
+        ensures touched { result ≡ true → is_touched (mark_at self.now alert) ≡ false }
+    {
+        self.shown[alert] == up && !self.touched[alert]
+    }
+
     /// No alert is marked any more.
     pub fn clear(&mut self)
         ensures cleared { self.new.cleared ≡ replicate (length self.old.cleared) false }
@@ -127,6 +145,7 @@ impl Sets {
         self.recalled.as_mut_slice().fill(false);
         self.shown.as_mut_slice().fill(false);
         self.marked.as_mut_slice().fill(false);
+        self.touched.as_mut_slice().fill(false);
     }
 
     /// The marks of others, of which there are as many.
@@ -149,6 +168,9 @@ impl Sets {
         self.marked
             .as_mut_slice()
             .copy_from_slice(other.marked.as_slice());
+        self.touched
+            .as_mut_slice()
+            .copy_from_slice(other.touched.as_slice());
     }
 
     /// Which alerts are cleared.

@@ -8,6 +8,7 @@ ghost use Rattle.crew_marks.specs.MarkStep.{mark_after, sight_of, acts};
 
 use crate::mark::{Actions, Sight};
 use crate::sets::Sets;
+use crate::unsettled::walk_quiet;
 use book_model::Book;
 use ecam_kinds::Level;
 
@@ -33,9 +34,39 @@ impl Walked {
     }
 }
 
-/// Steps the mark of each alert by one moment, where the target is shown before it. Its cost is one look at each alert, a
-/// few more at those that are up, wait or are marked, and a write for each mark that changes.
+/// Steps the mark of each alert by one moment, where the target is the first that is shown before it. Its cost is one look at
+/// each alert, a few more at those of which something may turn, and a write for each mark that changes.
 pub fn walk(
+    sets: &mut Sets,
+    book: &Book,
+    up: &[bool],
+    waiting: &[bool],
+    target: Option<u32>,
+    actions: &Actions,
+) -> Walked
+    requires many { AreMany sets.old (length (the_book book.now).alerts) }
+    requires up { length up.now ≡ length (the_book book.now).alerts }
+    requires waiting { length waiting.now ≡ length (the_book book.now).alerts }
+    requires target { IfSome target (λ a. slice_index_or sets.old.shown a false ≡ true) }
+    requires first { target
+        ≡ find (λ a. slice_index_or sets.old.shown a false) (order (the_book book.now)) }
+    ensures many { AreMany sets.new (length (the_book book.now).alerts) }
+    ensures marks { (a : ℕ) → a < length (the_book book.now).alerts → mark_at sets.new a
+        ≡ mark_after (mark_at sets.old a) (sight_of (the_book book.now) up.now waiting.now target a)
+        actions.now }
+    ensures first { result.first
+        ≡ find (λ a. slice_index_or sets.new.shown a false) (order (the_book book.now)) }
+    ensures changed { (result.changed ≡ false) ↔ (sets.new ≡ sets.old) }
+{
+    if actions.act() {
+        return walk_all(sets, book, up, waiting, target, actions);
+    }
+    walk_quiet(sets, book, up, waiting, target, actions)
+}
+
+// Steps the mark of each alert, where the target is shown before it. Its cost is one look at each alert, a few more at those
+// that are up, wait or are marked, and a write for each mark that changes.
+fn walk_all(
     sets: &mut Sets,
     book: &Book,
     up: &[bool],
@@ -95,13 +126,13 @@ pub fn walk_still(
     ensures changed { (result.changed ≡ false) ↔ (sets.new ≡ sets.old) }
 {
     if actions.act() {
-        return walk(sets, book, up, waiting, first, actions);
+        return walk_all(sets, book, up, waiting, first, actions);
     }
     Walked::unchanged(first)
 }
 
-// Steps the mark of one alert, and answers whether that changed it.
-fn step_one(
+/// Steps the mark of one alert, and answers whether that changed it.
+pub fn step_one(
     sets: &mut Sets,
     book: &Book,
     up: &[bool],

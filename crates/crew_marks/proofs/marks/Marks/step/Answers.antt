@@ -4,12 +4,15 @@ use Rattle.ecam_spec.specs.Crew.{long_recall}
 use Rattle.book_model.specs.Sealed.{the_book}
 use Rattle.crew_marks.specs.MarkStep.{actions_of}
 use Rattle.crew_marks.specs.CrewMarks.{CrewMarks}
-use Rattle.crew_marks.proofs.Stepping.{IsStepped, walked-steps, ended-steps, stepped-fits, stepped-hidden, stepped-restored, stepped-recalled, first-shown}
+use Rattle.crew_marks.proofs.Stepping.{IsStepped, walked-steps, ended-steps, stepped-fits, stepped-hidden, stepped-restored, stepped-recalled, first-shown, first-found}
 use Rattle.crew_marks.proofs.Ending.{held-long, ended-stands}
 use Rattle.crew_marks.proofs.marks.Marks.step.Goals as goal
 
 pub walk-walked-requires-clause-target : goal.walk-walked-requires-clause-target
 walk-walked-requires-clause-target c = first-shown (the_book c.args.book.now) _ c.args.self.now c.self.view_is c.requires.fits
+
+pub walk-walked-requires-clause-first : goal.walk-walked-requires-clause-first
+walk-walked-requires-clause-first c = first-found (the_book c.args.book.now) _ c.args.self.now c.self.view_is c.requires.fits
 
 pub returns-clause-fits : goal.returns-clause-fits
 returns-clause-fits c =

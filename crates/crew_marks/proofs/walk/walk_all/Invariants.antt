@@ -3,7 +3,7 @@ use Rattle.book_model.specs.Sealed.{the_book}
 use Rattle.crew_marks.specs.MarkSets.{AreMany}
 use Rattle.crew_marks.specs.MarkStep.{mark_after, sight_of}
 use Rattle.crew_marks.proofs.Walking.{IsWalked}
-use Rattle.crew_marks.proofs.walk.walk.Given as goal
+use Rattle.crew_marks.proofs.walk.walk_all.Given as goal
 
 abbrev pub invariant-loop-place : goal.invariant-loop-place
 invariant-loop-place l = record {

@@ -11,7 +11,7 @@ use Rattle.crew_marks.proofs.Orders.{mem-order}
 use Rattle.crew_marks.proofs.BookAlerts.{place-within}
 use Rattle.crew_marks.proofs.Walking.{has-mark, many-set, then_some-cond, walk-more, walk-idle, turn-as-before, walked-mark, walked-first}
 use Rattle.crew_marks.proofs.Idling.{idle-hidden, idle-rests}
-use Rattle.crew_marks.proofs.walk.walk.Goals as goal
+use Rattle.crew_marks.proofs.walk.walk_all.Goals as goal
 
 pub is_idle-requires-clause-has : goal.is_idle-requires-clause-has
 is_idle-requires-clause-has c =

@@ -1,0 +1,137 @@
+-- A walk over the alerts that may turn in a moment in which the crew does nothing.
+use Rattle.std.proofs.Common.{◌≡◌, ℕ, ◌+◌, ◌<◌, ◌≤◌, ◌≢◌, Bool, true, false, ◌||◌, Option, Some, None, List, [], ◌∷◌, ◌++◌, length, get_or, take, drop, inl, inr, refl, sym, ◌∙◌, ap, arith}
+use Rattle.std.specs.Prelude.{◌↔◌}
+use Rattle.std.specs.Option.{option_or}
+use Rattle.std.specs.List.{find}
+use Rattle.std.proofs.lemmas.Bool.{or_parts, or_from, cases_lt}
+use Rattle.std.proofs.lemmas.List.{take_more, take_all, take-append-drop}
+use Rattle.std.proofs.lemmas.List.Folds.{find-append}
+use Rattle.std.proofs.Math.Seq.{drop-cons}
+use Rattle.ecam_spec.specs.Book.{Book}
+use Rattle.crew_marks.specs.declared.mark.Mark.{Mark}
+use Rattle.crew_marks.specs.declared.mark.Sight.{Sight}
+use Rattle.crew_marks.specs.declared.mark.Actions.{Actions}
+use Rattle.crew_marks.specs.MarkSets.{MarkSets, mark_at, set_mark, is_touched, HasMark, IsSettled}
+use Rattle.crew_marks.specs.MarkStep.{mark_after, sight_of, acts}
+use Rattle.crew_marks.proofs.Walking.{mark-same, mark-other, set-mark_at, set_mark-again}
+
+-- ---- one alert that is settled
+
+-- the mark of one of which the crew made nothing
+abbrev clean : Bool → Mark
+clean shown = record { cleared = false; cancelled = false; recalled = false; shown = shown }
+
+-- the crew does nothing
+abbrev nothing : Actions
+nothing = record { clr = false; rcl = false; emer = false; restores = false }
+
+clean-stays : (up waiting caution aims : Bool) → mark_after (clean up) (record { up = up; waiting = waiting; is_caution = caution; is_target = aims }) nothing ≡ clean up
+clean-stays true true true aims = refl
+clean-stays true true false aims = refl
+clean-stays true false true aims = refl
+clean-stays true false false aims = refl
+clean-stays false true true aims = refl
+clean-stays false true false aims = refl
+clean-stays false false true aims = refl
+clean-stays false false false aims = refl
+
+untouched-is : (m : Mark) (up : Bool) → up ≡ m.shown → is_touched m ≡ false → m ≡ clean up
+untouched-is m up as_up h =
+    let one = or_parts m.cleared _ h in
+    let two = or_parts m.cancelled m.recalled one.1 in
+    ap (λ b. mark-of b m.cancelled m.recalled m.shown) one.0 ∙ ap (λ b. mark-of false b m.recalled m.shown) two.0
+    ∙ ap (λ b. mark-of false false b m.shown) two.1 ∙ ap (λ b. mark-of false false false b) (sym as_up) where
+      mark-of : Bool → Bool → Bool → Bool → Mark
+      mark-of cleared cancelled recalled shown = record { cleared = cleared; cancelled = cancelled; recalled = recalled; shown = shown }
+
+nothing-is : (x : Actions) → acts x ≡ false → x ≡ nothing
+nothing-is x h =
+    let one = or_parts x.clr _ h in
+    let two = or_parts x.rcl _ one.1 in
+    let three = or_parts x.emer x.restores two.1 in
+    ap (λ b. actions-of b x.rcl x.emer x.restores) one.0 ∙ ap (λ b. actions-of false b x.emer x.restores) two.0
+    ∙ ap (λ b. actions-of false false b x.restores) three.0 ∙ ap (λ b. actions-of false false false b) three.1 where
+      actions-of : Bool → Bool → Bool → Bool → Actions
+      actions-of clr rcl emer restores = record { clr = clr; rcl = rcl; emer = emer; restores = restores }
+
+mark-stays : (m : Mark) (s : Sight) (x : Actions) → s.up ≡ m.shown → is_touched m ≡ false → acts x ≡ false → mark_after m s x ≡ m
+mark-stays m s x as_up untouched quiet =
+    let mark : m ≡ clean s.up = untouched-is m s.up as_up untouched in
+    ap (λ n. mark_after n s x) mark ∙ ap (λ y. mark_after (clean s.up) s y) (nothing-is x quiet)
+    ∙ clean-stays s.up s.waiting s.is_caution s.is_target ∙ sym mark
+
+pub settled-stays : (b : Book) (s : MarkSets) (up waiting : List Bool) (target : Option ℕ) (a : ℕ) (x : Actions) → acts x ≡ false → IsSettled s up a
+    → mark_at s a ≡ mark_after (mark_at s a) (sight_of b up waiting target a) x
+settled-stays b s up waiting target a x quiet settled = sym (mark-stays (mark_at s a) (sight_of b up waiting target a) x settled.shown settled.untouched quiet)
+
+-- ---- the walk
+
+-- the alerts below i are stepped, and the others stand as they did
+pub record ArePassed (step : ℕ → Mark → Mark) (initial : MarkSets) (i : ℕ) (s : MarkSets) (turned : Bool) : Type 0 where
+  pub marks : (a : ℕ) → a < i → mark_at s a ≡ step a (mark_at initial a)
+  pub left : (a : ℕ) → i ≤ a → mark_at s a ≡ mark_at initial a
+  pub changed : (turned ≡ false) ↔ (s ≡ initial)
+
+pub pass-none : (step : ℕ → Mark → Mark) (initial : MarkSets) → ArePassed step initial 0 initial false
+pass-none step initial = record { marks = λ a h. absurd (omega arith); left = λ a h. refl; changed = (λ e. refl, λ e. refl) }
+
+-- those that stay as they are need no step
+pub pass-settled : (step : ℕ → Mark → Mark) (initial : MarkSets) (i j : ℕ) (s : MarkSets) (turned : Bool) → i ≤ j
+    → ((a : ℕ) → i ≤ a → a < j → mark_at s a ≡ step a (mark_at s a)) → ArePassed step initial i s turned → ArePassed step initial j s turned
+pass-settled step initial i j s turned order stays p = record {
+  marks = λ a h.
+      elim (cases_lt a i) [
+        | inl low ↦ p.marks a low
+        | inr high ↦
+            let behind : i ≤ a = omega arith in
+            stays a behind h ∙ ap (step a) (p.left a behind)
+      ];
+  left = λ a h. p.left a (omega arith);
+  changed = p.changed;
+}
+
+module _ (step : ℕ → Mark → Mark) (initial : MarkSets) (i : ℕ) (s t : MarkSets) (changed turned : Bool) (has : HasMark s i)
+    (stepped : t ≡ set_mark s i (step i (mark_at s i))) (turns : (turned ≡ false) ↔ (t ≡ s)) (p : ArePassed step initial i s changed) where
+  as_before : mark_at s i ≡ mark_at initial i
+  as_before = p.left i (omega arith)
+
+  here : mark_at t i ≡ step i (mark_at initial i)
+  here = ap (λ u. mark_at u i) stepped ∙ mark-same s i (step i (mark_at s i)) has ∙ ap (step i) as_before
+
+  elsewhere : (a : ℕ) → a ≢ i → mark_at t a ≡ mark_at s a
+  elsewhere a apart = ap (λ u. mark_at u a) stepped ∙ mark-other s i (step i (mark_at s i)) a apart
+
+  unturned : t ≡ initial → s ≡ initial
+  unturned e =
+      sym (set_mark-again s i (step i (mark_at s i)) (mark_at s i) ∙ set-mark_at s i)
+      ∙ ap (λ u. set_mark u i (mark_at s i)) (sym stepped ∙ e)
+      ∙ ap (set_mark initial i) as_before ∙ set-mark_at initial i
+
+  -- one alert more
+  pub pass-more : ArePassed step initial (i + 1) t (changed || turned)
+  pass-more = record {
+    marks = λ a h.
+        elim (cases_lt a i) [
+          | inl low ↦ elsewhere a (λ e. absurd (let w : ⊥ = omega arith in w)) ∙ p.marks a low
+          | inr high ↦
+              let same : a ≡ i = omega arith in
+              rw same here
+        ];
+    left = λ a h. elsewhere a (λ e. absurd (let w : ⊥ = omega arith in w)) ∙ p.left a (omega arith);
+    changed = (
+      λ e. turns.0 ((or_parts changed turned e).1) ∙ p.changed.0 ((or_parts changed turned e).0),
+      λ e. or_from changed turned (p.changed.1 (unturned e)) (turns.1 (e ∙ sym (unturned e))),
+    );
+  }
+
+-- ---- the first that is shown
+
+pub find-none-more : (p : ℕ → Bool) (xs : List ℕ) (i : ℕ) → i < length xs → p (get_or xs i 0) ≡ false → find p (take i xs) ≡ None → find p (take (i + 1) xs) ≡ None
+find-none-more p xs i within off none =
+    ap (find p) (take_more xs i 0 within) ∙ find-append p (take i xs) (get_or xs i 0 ∷ [])
+    ∙ ap (λ o. option_or o (find p (get_or xs i 0 ∷ []))) none ∙ rw off refl
+
+pub find-here : (p : ℕ → Bool) (xs : List ℕ) (i : ℕ) → i < length xs → p (get_or xs i 0) ≡ true → find p (take i xs) ≡ None → find p xs ≡ Some (get_or xs i 0)
+find-here p xs i within on none =
+    ap (find p) (sym (take-append-drop i xs)) ∙ find-append p (take i xs) (drop i xs)
+    ∙ ap (λ o. option_or o (find p (drop i xs))) none ∙ ap (find p) (drop-cons xs i 0 within) ∙ rw on refl
