@@ -42,6 +42,7 @@ pub(crate) struct Part {
 
 impl Part {
     /// A condition of this tree.
+    #[inline(always)]
     pub fn new(flaw: Option<Flaw>, depth: usize, size: usize, cond: Cond) -> Part
         ensures { (tree : Tree) → Measures (flaw_in flaw) depth size cond tree
             → Judges result (flaw_in flaw) tree }
