@@ -4,6 +4,7 @@
 mod faults;
 mod keys;
 pub mod rules;
+mod same;
 mod searches;
 mod sections;
 mod tables;

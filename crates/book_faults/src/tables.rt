@@ -20,6 +20,7 @@ use crate::keys::{
     named_keys, page_keys, param_keys, phase_keys, status_keys, text_row_keys, value_row_keys,
 };
 use crate::rules::{Asked, has_wrong_count, leaf_breaks};
+use crate::same::is_same;
 use book_spec::{Inner, Item, Leaf, Rule, Shape};
 use book_tables::Scope;
 use book_tables::fields::{find, members_of};
@@ -31,7 +32,7 @@ fn has_key<S>(keys: &[Key<S>], name: &str) -> bool
     ensures { result ≡ list_any (same_text name.now) (key_names keys.now) }
 {
     for key in keys {
-        if name == key.name {
+        if is_same(name.as_bytes(), key.name.as_bytes()) {
             return true;
         }
     }
