@@ -6,6 +6,7 @@ pub mod conditions;
 pub mod fields;
 mod names;
 pub mod places;
+mod same;
 pub mod texts;
 pub mod words;
 

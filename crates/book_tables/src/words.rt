@@ -1,7 +1,9 @@
 // What the words of the closed lists stand for.
 ghost use Rattle.std.specs.Prelude.{◌≡◌};
+ghost use Rattle.term_text.specs.Words.{found_in};
 ghost use Rattle.book_spec.specs.Schema.{meaning, kind_words, sound_words, section_words, zone_words, colour_words};
 
+use crate::same::is_same;
 use ecam_kinds::{Colour, Sound};
 use ecam_spec::Kind;
 
@@ -10,12 +12,10 @@ use ecam_spec::Kind;
 pub fn kind_of(word: &str) -> Option<Kind>
     ensures { result ≡ meaning kind_words word.now }
 {
-    match word {
-        "disc" => Some(Kind::Disc),
-        "bnr" => Some(Kind::Bnr),
-        "bcd" => Some(Kind::Bcd),
-        _ => None,
-    }
+    find(
+        &[("disc", Kind::Disc), ("bnr", Kind::Bnr), ("bcd", Kind::Bcd)],
+        word,
+    )
 }
 
 /// The sound of an alert that a word of the list names.
@@ -23,14 +23,16 @@ pub fn kind_of(word: &str) -> Option<Kind>
 pub fn sound_of(word: &str) -> Option<Sound>
     ensures { result ≡ meaning sound_words word.now }
 {
-    match word {
-        "none" => Some(Sound::Quiet),
-        "sc" => Some(Sound::Chime),
-        "crc" => Some(Sound::Repetitive),
-        "cav" => Some(Sound::Cavalry),
-        "cri" => Some(Sound::Cricket),
-        _ => None,
-    }
+    find(
+        &[
+            ("none", Sound::Quiet),
+            ("sc", Sound::Chime),
+            ("crc", Sound::Repetitive),
+            ("cav", Sound::Cavalry),
+            ("cri", Sound::Cricket),
+        ],
+        word,
+    )
 }
 
 /// The section of the status page that a word of the list names, by its number from 0, in the order in which they
@@ -39,14 +41,16 @@ pub fn sound_of(word: &str) -> Option<Sound>
 pub fn section_of(word: &str) -> Option<u8>
     ensures { result ≡ meaning section_words word.now }
 {
-    match word {
-        "limitations" => Some(0),
-        "approach" => Some(1),
-        "procedure" => Some(2),
-        "information" => Some(3),
-        "inop" => Some(4),
-        _ => None,
-    }
+    find(
+        &[
+            ("limitations", 0),
+            ("approach", 1),
+            ("procedure", 2),
+            ("information", 3),
+            ("inop", 4),
+        ],
+        word,
+    )
 }
 
 /// The zone of memos that a word of the list names: whether it is the left one.
@@ -54,11 +58,7 @@ pub fn section_of(word: &str) -> Option<u8>
 pub fn zone_of(word: &str) -> Option<bool>
     ensures { result ≡ meaning zone_words word.now }
 {
-    match word {
-        "left" => Some(true),
-        "right" => Some(false),
-        _ => None,
-    }
+    find(&[("left", true), ("right", false)], word)
 }
 
 /// The colour of a text that a word of the list names.
@@ -66,13 +66,27 @@ pub fn zone_of(word: &str) -> Option<bool>
 pub fn colour_of(word: &str) -> Option<Colour>
     ensures { result ≡ meaning colour_words word.now }
 {
-    match word {
-        "R" => Some(Colour::Red),
-        "A" => Some(Colour::Amber),
-        "G" => Some(Colour::Green),
-        "W" => Some(Colour::White),
-        "C" => Some(Colour::Cyan),
-        "M" => Some(Colour::Magenta),
-        _ => None,
+    find(
+        &[
+            ("R", Colour::Red),
+            ("A", Colour::Amber),
+            ("G", Colour::Green),
+            ("W", Colour::White),
+            ("C", Colour::Cyan),
+            ("M", Colour::Magenta),
+        ],
+        word,
+    )
+}
+
+// What stands beside a word in a table.
+fn find<T: Copy>(table: &[(&str, T)], word: &str) -> Option<T>
+    ensures { result ≡ found_in table.now word.now }
+{
+    for (name, value) in table {
+        if is_same(word.as_bytes(), name.as_bytes()) {
+            return Some(*value);
+        }
     }
+    None
 }

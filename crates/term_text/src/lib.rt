@@ -14,6 +14,7 @@ mod parts;
 mod pending;
 mod read;
 mod resolve;
+mod same;
 mod steps;
 mod token;
 mod words;

@@ -7,6 +7,7 @@ ghost use Rattle.ecam_spec.specs.Token.{reserved_of};
 ghost use Rattle.ecam_spec.specs.RecordLine.{key_of};
 ghost use Rattle.term_text.specs.Words.{found_in};
 
+use crate::same::is_same;
 use ecam_kinds::Key;
 use ecam_spec::Reserved;
 
@@ -85,7 +86,7 @@ fn find<T: Copy>(table: &[(&str, T)], word: &[u8]) -> Option<T>
     ensures { result ≡ found_in table.now word.now }
 {
     for (name, value) in table {
-        if word == name.as_bytes() {
+        if is_same(word, name.as_bytes()) {
             return Some(*value);
         }
     }
