@@ -314,8 +314,8 @@ fn keyed_item_breaks(
     }
 }
 
-/// Whether an item, or the table of the flight phase, breaks a rule that is asked for. It costs a look-up or two for
-/// each key that the table may have, and for each of its keys a comparison with those.
+/// Whether an item, or the table of the flight phase, breaks a rule that is asked for. It costs a look-up for each
+/// key that the table may have, and for each of its keys a comparison with those.
 #[tactic(auto, unfolding(book_spec::specs::TableRules::item_breaks))]
 pub(crate) fn item_breaks(
     alloc: Global,
