@@ -79,7 +79,3 @@ none-set [] (suc i) none = refl
 none-set (true ∷ flags) i none = absurd (let w : ⊥ = cc in w)
 none-set (false ∷ flags) zero none = refl
 none-set (false ∷ flags) (suc i) none = none-set flags i none
-
-pub not-so : (b : Bool) → not b ≡ true → b ≡ false
-not-so true e = absurd (let w : ⊥ = cc in w)
-not-so false e = refl

@@ -4,7 +4,7 @@ use Rattle.std.specs.Prelude.{find, is_some}
 use Rattle.std.specs.List.{list_any}
 use Rattle.ecam_spec.specs.declared.kinds.Standing.{Standing}
 use Rattle.ecam_spec.specs.declared.kinds.Standing.TheVariants.{Dead, Quiet, Waiting, Cancelled, Cleared, Titled, Counted}
-use Rattle.ecam_spec.specs.Past.{previous, previously}
+use Rattle.ecam_spec.specs.Past.{previous}
 use Rattle.ecam_spec.specs.Book.{Book}
 use Rattle.ecam_spec.specs.declared.kinds.Event.{Event}
 use Rattle.ecam_spec.specs.History.{none_up, flags_after, Moment, era}

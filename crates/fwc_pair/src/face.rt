@@ -28,14 +28,15 @@ fn mend_row(rows: &mut [Row], changed: &mut [bool], place: usize, row: &Row, nam
 }
 
 // Whether any row is named, or all are meant. Its cost is a few looks at many flags at once, and none where it is known
-// that no row is named.
+// that no row is meant.
 fn has_any(named: &[bool; ROWS], all: bool, none: bool) -> bool
-    requires { none ≡ true → NoneChanged named.now }
+    requires named { none ≡ true → NoneChanged named.now }
+    requires all { none ≡ true → all ≡ false }
     ensures all { result ≡ false → all ≡ false }
     ensures named { result ≡ false → NoneChanged named.now }
-    ensures none { none ≡ true → all ≡ false → result ≡ false }
+    ensures none { none ≡ true → result ≡ false }
 {
-    all || (!none && named.contains(&true))
+    !none && (all || named.contains(&true))
 }
 
 // Puts the named rows of a picture, or all of them, in their places.
@@ -59,7 +60,7 @@ fn mend_rows(
     }
 }
 
-// The same, where no row is looked at if none is named, and no flag if it is known that none is.
+// The same, where no row is looked at if none is named, and no flag if it is known that no row is meant.
 #[inline(always)]
 fn mend(
     rows: &mut [Row],
@@ -71,12 +72,13 @@ fn mend(
 )
     requires whole { IsWhole (tracked rows.old changed.old) }
     requires picture { length picture.now ≡ ROWS }
-    requires none { none ≡ true → NoneChanged named.now }
+    requires named { none ≡ true → NoneChanged named.now }
+    requires all { none ≡ true → all ≡ false }
     ensures whole { IsWhole (tracked rows.new changed.new) }
     ensures mended { (all ≡ false → OthersStand named.now (rows_of rows.old) (rows_of picture.now))
         → IsMended (rows_of picture.now) (tracked rows.old changed.old)
         (tracked rows.new changed.new) }
-    ensures kept { none ≡ true → all ≡ false → changed.new ≡ changed.old }
+    ensures kept { none ≡ true → changed.new ≡ changed.old }
 {
     if has_any(named, all, none) {
         mend_rows(rows, changed, picture, named, all);
@@ -114,15 +116,16 @@ fn show_lane(face: &mut Picture, changed: &mut [bool; ROWS], lane: &Lane) -> boo
     ensures still { result ≡ true → NoneChanged changed.new }
 {
     let begins = lane.moments < 2;
+    let still = lane.calm && !begins;
     mend(
         &mut face.rows,
         changed,
         &lane.picture.rows,
         &lane.changed,
         begins,
-        lane.calm,
+        still,
     );
-    lane.calm && !begins
+    still
 }
 
 #[inline(never)]

@@ -1,4 +1,4 @@
-use Rattle.std.proofs.Common.{◌≡◌, false, length, sym, ◌∙◌}
+use Rattle.std.proofs.Common.{◌≡◌, false, ◌∙◌}
 use Rattle.std.proofs.lemmas.List.{length-map}
 use Rattle.ecam_kinds.specs.Shown.{row_of, rows_of}
 use Rattle.zone_rows.specs.Tracked.{tracked}
@@ -13,5 +13,5 @@ returns-else-has_any-clause-mended c = λ others.
     (λ i within. others (c.has_any.ensures.all none) i within (c.has_any.ensures.named none i within))
 
 pub returns-then-has_any-clause-kept : goal.returns-then-has_any-clause-kept
-returns-then-has_any-clause-kept c = λ none all.
-    absurd (let w : ⊥ = cc (c.has_any.ensures.none none all, c.if-has_any.true) in w)
+returns-then-has_any-clause-kept c = λ none.
+    absurd (let w : ⊥ = cc (c.has_any.ensures.none none, c.if-has_any.true) in w)
