@@ -76,6 +76,10 @@ module _ (b : Book) (h : List Event) (e : Event) (fresh : Bool) (p : Pair) (next
         ∙ ap (λ n. history_blocks b h ++ block n (last_picture b h) (picture_of p.face)) (sym count)
         ∙ ap (λ t. history_blocks b h ++ t) (sym (told (last_picture b h) names))
 
+  -- nothing is written of nothing
+  pub adds-none : (s : S) → history_blocks b (h ++ e ∷ []) ≡ history_blocks b h ++ [] → Adds agrees s s (history_blocks b h) (history_blocks b (h ++ e ∷ []))
+  adds-none s joined = record { more = []; joined = joined; written = Appended-none agrees s }
+
   module _ (old new : S) (text : Text) (joined : history_blocks b (h ++ e ∷ []) ≡ history_blocks b h ++ text) {E : Type 0} (result : Result (Unit {0}) E) where
     pub adds-block : OnOk result (Appended agrees old new text) → OnOk result (Adds agrees old new (history_blocks b h) (history_blocks b (h ++ e ∷ [])))
     adds-block written = by result written where

@@ -1,5 +1,5 @@
 -- How loading a book ends, each ending with its cause.
-use Rattle.std.specs.Prelude.{◌≡◌, ◌⊎◌, ℕ, ◌≤◌, ◌<◌, ◌+◌, ◌++◌, length, true, false, [], Option, Some, None}
+use Rattle.std.specs.Prelude.{◌≡◌, ◌⊎◌, ℕ, ◌≤◌, ◌<◌, ◌+◌, ◌++◌, length, true, false, [], Option, Some}
 use Rattle.std.specs.Prelude.{Result, Ok, Err, IsSomeAnd}
 use Rattle.ecam_io.specs.Outside.{FileHas, MayRefuse, IsClosed}
 use Rattle.ecam_spec.specs.declared.kinds.BookFault.{BookFault}

@@ -10,7 +10,6 @@ use Rattle.replay_core.specs.declared.load.Unready.{Unready}
 use Rattle.replay_core.specs.declared.load.Unready.TheVariants.{Refused, Unread, NoMemory}
 use Rattle.replay_core.specs.declared.load_limits.UnreadyLimits.{UnreadyLimits}
 use Rattle.replay_core.specs.declared.load_limits.UnreadyLimits.TheVariants as unready
-use Rattle.replay_core.specs.declared.advise.Unprepared.{Unprepared}
 use Rattle.replay_core.specs.declared.advise.Unprepared.TheVariants as unprepared
 use Rattle.replay_core.specs.declared.error.BookError.{BookError}
 use Rattle.replay_core.specs.declared.error.BookError.TheVariants as of_book

@@ -38,12 +38,11 @@ fn letter_of(colour: Colour) -> &'static str
     }
 }
 
-// Whether a flag is set. Its cost is a few looks at many flags at once, and none where it is known that none is set.
-fn has_any(flags: &[bool; ROWS], none: bool) -> bool
-    requires { none ≡ true → NoneChanged flags.now }
+// Whether a flag is set. Its cost is a few looks at many flags at once.
+fn has_any(flags: &[bool; ROWS]) -> bool
     ensures { result ≡ list_any (λ f. f) flags.now }
 {
-    !none && flags.contains(&true)
+    flags.contains(&true)
 }
 
 // Appends bytes for which there is room.
@@ -141,36 +140,38 @@ fn put_changes(out: &mut Block, changed: &[bool], rows: &[Row])
 
 // Appends the block of a Tick that changed the rows whose flag is set.
 #[inline(always)]
-fn put_block(out: &mut Block, tick: u64, picture: &Picture, changed: &[bool; ROWS], still: bool)
+fn put_block(out: &mut Block, tick: u64, picture: &Picture, changed: &[bool; ROWS])
     requires room { length out.old.items + 42 + 47 * ROWS ≤ BLOCK }
-    requires still { still ≡ true → NoneChanged changed.now }
     ensures { (old : spec.Picture) → NamesRows old (picture_of picture.now) changed.now
         → out.new.items ≡ out.old.items ++ output.block tick old (picture_of picture.now) }
 {
-    if !has_any(changed, still) {
+    if !has_any(changed) {
         return;
     }
     put_number(out, tick);
     put_changes(out, changed, &picture.rows);
 }
 
-// Puts in place of what was there the block of Tick number `tick`, whose picture is this one and which changed the rows
-// whose flag is set. Where it is still no flag is set, and none is looked at. Its cost is a few looks where no flag is set, else
-// one at each flag, and a copy of each row that changed.
+// Whether it is known that a Tick which changed the rows whose flag is set writes nothing. Where it is still no flag is set.
 #[inline(always)]
-pub(crate) fn renew(
-    block: &mut Block,
-    tick: u64,
-    picture: &Picture,
-    changed: &[bool; ROWS],
-    still: bool,
-)
+pub(crate) fn writes_nothing(changed: &[bool; ROWS], still: bool) -> bool
     requires { still ≡ true → NoneChanged changed.now }
+    ensures { result ≡ true → (tick : ℕ) (old new : spec.Picture) → NamesRows old new changed.now
+        → output.block tick old new ≡ [] }
+{
+    let _ = changed;
+    still
+}
+
+// Puts in place of what was there the block of Tick number `tick`, whose picture is this one and which changed the rows
+// whose flag is set. Its cost is a few looks where no flag is set, else one at each flag, and a copy of each row that changed.
+#[inline(always)]
+pub(crate) fn renew(block: &mut Block, tick: u64, picture: &Picture, changed: &[bool; ROWS])
     ensures { (old : spec.Picture) → NamesRows old (picture_of picture.now) changed.now
         → block.new.items ≡ output.block tick old (picture_of picture.now) }
 {
     block.clear();
-    put_block(block, tick, picture, changed, still);
+    put_block(block, tick, picture, changed);
 }
 
 // The line that ends the output.

@@ -4,7 +4,7 @@ ghost use Rattle.ecam_spec.specs.Output as output;
 ghost use Rattle.ecam_spec.specs.Replay.{is_tick, tick_count, history_blocks};
 ghost use Rattle.record_views.proofs.Blocks.{blocks_begin, blocks_go_on};
 
-use crate::block::{Block, end_line, renew};
+use crate::block::{Block, end_line, renew, writes_nothing};
 use book_model::Book;
 use ecam_io::{Failed, Sink, put_all};
 use ecam_spec::Event;
@@ -77,13 +77,11 @@ impl View for Changes {
             return Ok(());
         }
         let tick = self.number();
-        renew(
-            &mut self.block,
-            tick,
-            pair.picture(),
-            pair.changed(),
-            pair.still(),
-        );
+        let changed = pair.changed();
+        if writes_nothing(changed, pair.still()) {
+            return Ok(());
+        }
+        renew(&mut self.block, tick, pair.picture(), changed);
         put_all(out, self.block.as_slice())
     }
 
