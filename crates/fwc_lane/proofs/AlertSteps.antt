@@ -1,5 +1,5 @@
 -- One alert more is stepped.
-use Rattle.std.proofs.Common.{◌≡◌, ℕ, zero, suc, ◌+◌, ◌-◌, ◌^◌, ◌<◌, ◌≤◌, Bool, true, false, ◌&&◌, eqb, List, length, take, get_or, slice_get, Some, refl, sym, ap, subst, ◌∙◌, arith}
+use Rattle.std.proofs.Common.{◌≡◌, ℕ, zero, suc, ◌+◌, ◌-◌, ◌^◌, ◌<◌, ◌≤◌, Bool, true, false, not, ◌&&◌, None, is_some, eqb, List, length, take, get_or, slice_get, Some, refl, sym, ap, subst, ◌∙◌, arith}
 use Rattle.std.specs.List.{list_any}
 use Rattle.ecam_spec.specs.Book as plain
 use Rattle.ecam_spec.specs.Past.{previous}
@@ -162,6 +162,18 @@ module _ (d : Draft) (sealed : IsSealed d) (m : ℕ → Moment) (k visited : ℕ
       let e : a + (i - a) ≡ i = omega arith in
       subst (λ n. AlertsHalf (the_book d) m k n visited terms t) e
       (some-off a (i - a) (omega arith) (subst (λ n. NoneMarked terms.woken (alerts_from + a) (alerts_from + n)) (sym e) off) (subst (NoneMarked t.restless a) (sym e) rests) half)
+
+-- an alert that is stepped leaves those behind it as restless as they were
+pub rests-on : (d : Draft) (m : ℕ → Moment) (k a n visited : ℕ) (old new : Terms) (was now : Truths) → n ≤ length d.alerts.items
+    → AlertsHalf (the_book d) m k a visited old was → AlertsHalf (the_book d) m k (a + 1) visited new now → NoneMarked was.restless a n → NoneMarked now.restless (a + 1) n
+rests-on d m k a n visited old new was now most before after none j low high =
+    let inside : j < length (the_book d).alerts = omega (arith, many-alerts d) in
+    let left = before.alerts.left j (omega arith) inside in
+    let also = after.alerts.left j low inside in
+    after.alerts.fits.restless j inside
+    ∙ ap (λ s. is_some s && not (get_or now.active.items j false)) (also.since ∙ sym left.since)
+    ∙ ap (λ b. is_some (get_or was.since.items j None) && not b) (also.active ∙ sym left.active)
+    ∙ sym (before.alerts.fits.restless j inside) ∙ none j (omega arith) high
 
 -- before the first alert
 pub alerts-begin : (d : Draft) (m : ℕ → Moment) (k visited : ℕ) (terms : Terms) (t : Truths) → BookHalf (the_book d) m k alerts_from 1 visited terms

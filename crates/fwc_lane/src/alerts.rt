@@ -10,7 +10,7 @@ ghost use Rattle.fwc_lane.specs.Given.{Lends};
 ghost use Rattle.fwc_lane.specs.TermsFit.{TermsFit};
 
 use crate::conditions::step_term;
-use crate::next::next_alert;
+use crate::next::{next_alert, next_restless};
 use crate::numbers::alert_number;
 use crate::terms::Terms;
 use crate::waking::{differ, wake_alert};
@@ -86,10 +86,15 @@ pub fn step_alerts(terms: &mut Terms, truths: &mut Truths, book: &Book, env: &En
         (suc (length (the_book book.now).alerts)) visits terms.new }
 {
     let end = book.alerts().len();
-    let mut next = next_alert(&terms.woken, truths, book, 0);
+    let mut restless = next_restless(truths, book, 0);
+    let mut next = next_alert(&terms.woken, 0, restless);
     while next < end {
         step_alert(terms, truths, book, next, env, now);
-        next = next_alert(&terms.woken, truths, book, next + 1);
+        next += 1;
+        if restless < next {
+            restless = next_restless(truths, book, next);
+        }
+        next = next_alert(&terms.woken, next, restless);
     }
     truths.settle(book);
 }

@@ -11,20 +11,27 @@ use alert_truth::Truths;
 use book_model::Book;
 use wakes::Marked;
 
-/// The first alert from one on whose condition is woken or which is restless; where there is none the number of alerts. Its
-/// cost is a look for each 64 alerts that it goes over.
-pub fn next_alert(woken: &Marked, truths: &Truths, book: &Book, from: usize) -> usize
+/// The first alert from one on that is restless; where there is none the number of alerts. Its cost is a look for each 64
+/// alerts that it goes over.
+pub fn next_restless(truths: &Truths, book: &Book, from: usize) -> usize
     requires { from ≤ length book.now.alerts.items }
     ensures from { from ≤ result }
     ensures within { result ≤ length book.now.alerts.items }
-    ensures woken { NoneMarked woken.now (alerts_from + from) (alerts_from + result) }
-    ensures restless { NoneMarked truths.now.restless from result }
+    ensures none { NoneMarked truths.now.restless from result }
 {
-    book.sealed();
-    let end = book.alerts().len();
-    let term = next_or(woken, 6 + from, 6 + end);
-    let restless = next_or(truths.restless(), from, end);
-    restless.min(term - 6)
+    next_or(truths.restless(), from, book.alerts().len())
+}
+
+/// The first alert from one on whose condition is woken; where there is none before the next restless one, that one. Its cost
+/// is a look for each 64 alerts that it goes over.
+pub fn next_alert(woken: &Marked, from: usize, restless: usize) -> usize
+    requires few { restless < 2 ^ 32 }
+    requires from { from ≤ restless }
+    ensures from { from ≤ result }
+    ensures within { result ≤ restless }
+    ensures none { NoneMarked woken.now (alerts_from + from) (alerts_from + result) }
+{
+    next_or(woken, 6 + from, 6 + restless) - 6
 }
 
 /// Whether no input of the phase is woken. Its cost is a look for each 64 conditions up to the first that is woken.
