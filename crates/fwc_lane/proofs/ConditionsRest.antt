@@ -1,5 +1,5 @@
 -- A moment that wakes no condition, in which no alert is restless and the phase stays: each condition holds where it held.
-use Rattle.std.proofs.Common.{◌≡◌, ℕ, suc, ◌+◌, ◌^◌, ◌<◌, ◌≤◌, Bool, false, not, ◌&&◌, eqb, List, length, take, refl, sym, ap, arith}
+use Rattle.std.proofs.Common.{◌≡◌, ℕ, suc, ◌+◌, ◌^◌, ◌<◌, ◌≤◌, Bool, false, not, ◌&&◌, eqb, List, length, refl, sym, ap, arith}
 use Rattle.std.proofs.lemmas.Bool.{eq-eqb}
 use Rattle.ecam_spec.specs.Term.{holds}
 use Rattle.ecam_spec.specs.BookTerms.{lines_of}
@@ -22,7 +22,7 @@ use Rattle.fwc_lane.proofs.Hitting.{wakes-off}
 use Rattle.fwc_lane.proofs.Stages.{more-known, phase-moves}
 use Rattle.fwc_lane.proofs.FlightSteps.{inputs-rest, inputs-kept}
 use Rattle.fwc_lane.proofs.AlertSteps.{alerts-begin, alerts-skip, alerts-end}
-use Rattle.fwc_lane.proofs.ProcedureSteps.{lines-begin, lines-skip, lines-end, lines-told}
+use Rattle.fwc_lane.proofs.ProcedureSteps.{lines-begin, lines-past, lines-end, lines-told}
 use Rattle.fwc_lane.proofs.MemoSteps.{memos-begin, memos-skip, memos-end, memos-told}
 
 module _ (d : Draft) (sealed : IsSealed d) (m : ℕ → Moment) (k visited : ℕ) (small : k < 2 ^ 63) (t : Terms) (off : (j : ℕ) → is_marked t.woken j ≡ false)
@@ -53,21 +53,19 @@ module _ (d : Draft) (sealed : IsSealed d) (m : ℕ → Moment) (k visited : ℕ
       behind-alerts = alerts-end d m k (length d.alerts.items) visited t refl all-alerts.terms
 
       module _ (stood held : List Bool) (lines : LinesWere (the_book d) m k stood) (memos : MemosWere (the_book d) m k held) where
-        end : length d.alerts.items ≤ length d.alerts.items
-        end = omega arith
-
-        all-lines : LinesHalf (the_book d) m k (length (lines_of (take (length d.alerts.items) (the_book d).alerts))) visited t stood
+        all-lines : LinesHalf (the_book d) m k (length (lines_of (the_book d).alerts)) visited t stood
         all-lines =
-            lines-skip d sealed m k visited t stood small 0 (length d.alerts.items) (omega arith) end (λ j from to. off j) (lines-begin d m k visited t stood lines behind-alerts)
+            lines-past d sealed m k visited t stood small 0 (length (lines_of (the_book d).alerts)) (omega arith) (let most : length (lines_of (the_book d).alerts) ≤ length (lines_of (the_book d).alerts) = omega arith in most) (λ j from to. off j)
+            (lines-begin d m k visited t stood lines behind-alerts)
 
         -- the lines
         pub lines-same : TellsOf stood (lines_of (the_book d).alerts) (line_stands (the_book d) m k)
-        lines-same = lines-told d m k (length d.alerts.items) visited t stood end all-lines
+        lines-same = lines-told d m k visited t stood all-lines
 
         all-memos : MemosHalf (the_book d) m k (length d.memos.items) visited t held
         all-memos =
             memos-skip d sealed m k visited t held small 0 (length d.memos.items) (omega arith) (let le : length d.memos.items ≤ length d.memos.items = omega arith in le) (λ j from to. off j)
-            (memos-begin d m k visited t held memos (lines-end d m k (length d.alerts.items) visited t stood end all-lines))
+            (memos-begin d m k visited t held memos (lines-end d m k visited t stood all-lines))
 
         -- the memos
         pub memos-same : TellsOf held (the_book d).memos (λ x. holds (world (the_book d) m) x.when k)

@@ -1,6 +1,7 @@
 -- One line more is stepped.
 use Rattle.std.proofs.Common.{◌≡◌, ℕ, zero, suc, ◌+◌, ◌-◌, ◌*◌, ◌^◌, ◌<◌, ◌≤◌, Bool, true, false, not, ◌&&◌, List, [], ◌∷◌, ◌++◌, map, length, take, get_or, set, slice_get, Some, refl, sym, ap, subst, ◌∙◌, inl, inr, arith, add-one, length-append}
 use Rattle.std.proofs.Math.Nat.{eq-or-lt_of_le}
+use Rattle.std.proofs.lemmas.Bool.{cases_lt}
 use Rattle.std.proofs.lemmas.List.{take_all, length-map}
 use Rattle.std.proofs.lemmas.Grind.{flat_map-append}
 use Rattle.std.proofs.lemmas.Option.{slice_get_within}
@@ -21,6 +22,8 @@ use Rattle.book_model.proofs.BookLists.{many-alerts}
 use Rattle.book_model.proofs.BookLines.{line-place}
 use Rattle.book_model.proofs.BookReads.{alert-get}
 use Rattle.book_model.proofs.ConditionPlaces.{line-when, line-done}
+use Rattle.book_model.proofs.ConditionNames.{when-names, done-names}
+use Rattle.ecam_spec.specs.TermNames.{IsWithin}
 use Rattle.book_model.proofs.ConditionRanges.{ranges-apart}
 use Rattle.book_model.proofs.ConditionWorlds.{rest-world}
 use Rattle.warning_display.proofs.Passing.{taken}
@@ -33,7 +36,7 @@ use Rattle.fwc_lane.specs.Conditions.{StepsLine, HalfStepped, TellsMoved, BookHa
 use Rattle.fwc_lane.proofs.Stages.{rest-tells}
 use Rattle.fwc_lane.proofs.FlagSteps.{set-own, set-other, set-behind, with-item}
 use Rattle.wakes.specs.Marks.{is_marked}
-use Rattle.fwc_lane.specs.Waking.{NoneMarked, lines_start}
+use Rattle.fwc_lane.specs.Waking.{NoneMarked}
 use Rattle.fwc_lane.proofs.Stepping.{half-rest, rest-holds}
 
 module _ (d : Draft) (sealed : IsSealed d) (xs : List Alert) (a : ℕ) (x : Alert) (same : xs ≡ d.alerts.items) (within : a < length xs) (here : x ≡ get_or xs a x)
@@ -171,10 +174,7 @@ module _ (d : Draft) (sealed : IsSealed d) (xs : List Alert) (a : ℕ) (x : Aler
           left = λ h e i y le there. half.left h e i y (let w : line ≤ i = omega arith in w) there;
         }
 
--- before the first line of an alert, and behind its last
-pub own-begin : (b : plain.Book) (m : ℕ → Moment) (k n visited : ℕ) (terms : Terms) (flags : List Bool) → LinesHalf b m k n visited terms flags → LinesHalf b m k (n + 0) visited terms flags
-own-begin b m k n visited terms flags half = subst (λ i. LinesHalf b m k i visited terms flags) (let e : n ≡ n + 0 = omega arith in e) half
-
+-- how many lines an alert and those before it have
 module _ (d : Draft) (xs : List Alert) (a : ℕ) (x : Alert) (same : xs ≡ d.alerts.items) (within : a < length xs) (here : x ≡ get_or xs a x) where
   own-many : length (lines_of (take (a + 1) (the_book d).alerts)) ≡ length (lines_of (take a (the_book d).alerts)) + length x.lines.items
   own-many =
@@ -187,76 +187,100 @@ module _ (d : Draft) (xs : List Alert) (a : ℕ) (x : Alert) (same : xs ≡ d.al
         length-map x.lines.items line_of,
       )
 
-  pub own-end : (m : ℕ → Moment) (k i visited : ℕ) (terms : Terms) (flags : List Bool) → i ≡ length x.lines.items
-      → LinesHalf (the_book d) m k (length (lines_of (take a (the_book d).alerts)) + i) visited terms flags → LinesHalf (the_book d) m k (length (lines_of (take (a + 1) (the_book d).alerts))) visited terms flags
-  own-end m k i visited terms flags all half =
-      subst (λ n. LinesHalf (the_book d) m k n visited terms flags)
-      (let e : length (lines_of (take a (the_book d).alerts)) + i ≡ length (lines_of (take (a + 1) (the_book d).alerts)) = omega (arith, own-many, all) in e) half
-
 -- where the lines of an alert start among all
 module _ (d : Draft) where
   abbrev start : ℕ → ℕ
   start a = length (lines_of (take a (the_book d).alerts))
 
-  start-grows : (a : ℕ) → a < length d.alerts.items → start a ≤ start (a + 1)
-  start-grows a within = with-item d.alerts.items a within (λ x here. omega (arith, own-many d d.alerts.items a x refl within here))
-
-  start-next : (a n : ℕ) → a + n ≤ length d.alerts.items → start a ≤ start (a + n)
-  start-next a zero le = let e : a ≡ a + 0 = omega arith in subst (λ i. start a ≤ start i) e (let w : start a ≤ start a = omega arith in w)
-  start-next a (suc n) le =
-      let e : (a + n) + 1 ≡ a + suc n = omega arith in
-      subst (λ i. start a ≤ start i) e (omega (arith, start-next a n (omega arith), start-grows (a + n) (omega arith)))
-
-  pub start-all : (a : ℕ) → length d.alerts.items ≤ a → start a ≡ length (lines_of (the_book d).alerts)
+  start-all : (a : ℕ) → length d.alerts.items ≤ a → start a ≡ length (lines_of (the_book d).alerts)
   start-all a le = ap (λ as'. length (lines_of as')) (take_all a (the_book d).alerts (omega (arith, many-alerts d)))
 
-  pub start-most : (a : ℕ) → a ≤ length d.alerts.items → start a ≤ length (lines_of (the_book d).alerts)
-  start-most a le =
-      let n = length d.alerts.items in
-      let e : a + (n - a) ≡ n = omega arith in
-      let up : start a ≤ start n = subst (λ i. start a ≤ start i) e (start-next a (n - a) (omega arith)) in
-      omega (arith, up, start-all n (let w : n ≤ n = omega arith in w))
-
--- an alert of whose lines no condition is woken, and some alerts of that kind
-module _ (d : Draft) (sealed : IsSealed d) (m : ℕ → Moment) (k visited : ℕ) (t : Terms) (flags : List Bool) (small : k < 2 ^ 63) where
-  each-off : (a : ℕ) (x : Alert) (within : a < length d.alerts.items) → x ≡ get_or d.alerts.items a x → NoneMarked t.woken (lines_start (the_book d) a) (lines_start (the_book d) (a + 1))
-      → (j : ℕ) → j ≤ length x.lines.items → LinesHalf (the_book d) m k (start d a + 0) visited t flags → LinesHalf (the_book d) m k (start d a + j) visited t flags
-  each-off a x within here off zero le half = half
-  each-off a x within here off (suc j) le half =
-      let inside : j < length x.lines.items = omega arith in
-      let many = own-many d d.alerts.items a x refl within here in
-      with-item x.lines.items j inside
-      (λ l at.
-      subst (λ n. LinesHalf (the_book d) m k (start d a + n) visited t flags) (add-one j)
-      (line-off d sealed d.alerts.items a x refl within here x.lines.items j l refl inside at m k visited t flags small
-      (off _ (omega arith) (omega (arith, many, inside))) (off _ (omega arith) (omega (arith, many, inside)))
-      (each-off a x within here off j (omega arith) half)))
-
-  own-off : (a : ℕ) → a < length d.alerts.items → NoneMarked t.woken (lines_start (the_book d) a) (lines_start (the_book d) (a + 1))
-      → LinesHalf (the_book d) m k (start d a) visited t flags → LinesHalf (the_book d) m k (start d (a + 1)) visited t flags
-  own-off a within off half =
+-- a line among all is one of an alert
+module _ (d : Draft) (P : ℕ → Type 0) (n : ℕ) (less : n < length (lines_of (the_book d).alerts))
+    (go : (a : ℕ) (x : Alert) → a < length d.alerts.items → x ≡ get_or d.alerts.items a x → (j : ℕ) (l : Line) → j < length x.lines.items → l ≡ get_or x.lines.items j l → P (start d a + j)) where
+  from-alert : (r a : ℕ) → a + r ≡ length d.alerts.items → start d a ≤ n → P n
+  from-alert zero a all low = absurd (let w : ⊥ = omega (arith, start-all d a (omega (arith, all)), low, less) in w)
+  from-alert (suc r) a all low =
+      let within : a < length d.alerts.items = omega (arith, all) in
       with-item d.alerts.items a within
-      (λ x here. own-end d d.alerts.items a x refl within here m k (length x.lines.items) visited t flags refl
-      (each-off a x within here off (length x.lines.items) (let le : length x.lines.items ≤ length x.lines.items = omega arith in le) (own-begin (the_book d) m k (start d a) visited t flags half)))
+      (λ x here.
+      let many = own-many d d.alerts.items a x refl within here in
+      elim (cases_lt n (start d (a + 1))) [
+        | inl before ↦
+            let j = n - start d a in
+            let inside : j < length x.lines.items = omega (arith, many, before, low) in
+            let e : start d a + j ≡ n = omega (arith, low) in
+            subst P e (with-item x.lines.items j inside (λ l at. go a x within here j l inside at))
+        | inr past ↦ from-alert r (a + 1) (omega (arith, all)) past
+      ])
 
-  lines-off : (a n : ℕ) → a + n ≤ length d.alerts.items → NoneMarked t.woken (lines_start (the_book d) a) (lines_start (the_book d) (a + n))
-      → LinesHalf (the_book d) m k (start d a) visited t flags → LinesHalf (the_book d) m k (start d (a + n)) visited t flags
-  lines-off a zero le off half = let e : a ≡ a + 0 = omega arith in subst (λ i. LinesHalf (the_book d) m k (start d i) visited t flags) e half
-  lines-off a (suc n) le off half =
-      let e : (a + n) + 1 ≡ a + suc n = omega arith in
-      let last : start d (a + n) ≤ start d (a + suc n) = subst (λ i. start d (a + n) ≤ start d i) e (start-grows d (a + n) (omega arith)) in
-      subst (λ i. LinesHalf (the_book d) m k (start d i) visited t flags) e
-      (own-off (a + n) (omega arith)
-      (λ j from to. off j (omega (arith, from, start-next d a n (omega arith))) (subst (λ i. j < lines_start (the_book d) i) e to))
-      (lines-off a n (omega arith) (λ j from to. off j from (omega (arith, to, last))) half))
+  with-line : P n
+  with-line = from-alert (length d.alerts.items) 0 (omega arith) (let none : start d 0 ≤ n = omega arith in none)
 
-  -- up to the next alert that has one, or to the end
-  pub lines-skip : (a b : ℕ) → a ≤ b → b ≤ length d.alerts.items → NoneMarked t.woken (lines_start (the_book d) a) (lines_start (the_book d) b)
-      → LinesHalf (the_book d) m k (start d a) visited t flags → LinesHalf (the_book d) m k (start d b) visited t flags
-  lines-skip a b le most off half =
-      let e : a + (b - a) ≡ b = omega arith in
-      subst (λ i. LinesHalf (the_book d) m k (start d i) visited t flags) e
-      (lines-off a (b - a) (omega arith) (subst (λ i. NoneMarked t.woken (lines_start (the_book d) a) (lines_start (the_book d) i)) (sym e) off) half)
+-- the places of a line's conditions, and what they name
+pub line-places : (d : Draft) → IsSealed d → (n : ℕ) → n < length (lines_of (the_book d).alerts) → (w p : Placed) × (slice_get (places (the_book d)) (lines_from (the_book d) + 2 * n) ≡ Some w)
+    × (slice_get (places (the_book d)) (suc (lines_from (the_book d) + 2 * n)) ≡ Some p) × IsWithin (length d.params.items) (length d.alerts.items) w.tree
+    × IsWithin (length d.params.items) (length d.alerts.items) p.tree
+line-places d sealed n less =
+    with-line d (λ n. (w p : Placed) × (slice_get (places (the_book d)) (lines_from (the_book d) + 2 * n) ≡ Some w)
+    × (slice_get (places (the_book d)) (suc (lines_from (the_book d) + 2 * n)) ≡ Some p) × IsWithin (length d.params.items) (length d.alerts.items) w.tree
+    × IsWithin (length d.params.items) (length d.alerts.items) p.tree) n less
+    (λ a x within here j l inside at. (
+      placed_of l.when,
+      placed_of l.done,
+      line-when d sealed d.alerts.items a x refl within here x.lines.items j l refl inside at,
+      ap (slice_get (places (the_book d))) (sym (add-one (lines_from (the_book d) + 2 * (start d a + j)))) ∙ line-done d sealed d.alerts.items a x refl within here x.lines.items j l refl inside at,
+      when-names d sealed d.alerts.items a x refl within here x.lines.items j l refl inside at,
+      done-names d sealed d.alerts.items a x refl within here x.lines.items j l refl inside at,
+    ))
+
+-- a line that is stepped
+pub line-next : (d : Draft) → IsSealed d → (n : ℕ) → n < length (lines_of (the_book d).alerts) → (m : ℕ → Moment) (k : ℕ) (env : Env) → Shows env (world (the_book d) m) k → (visited : ℕ) (old new : Terms) (answer : Bool)
+    → ((w p : Placed) → slice_get (places (the_book d)) (lines_from (the_book d) + 2 * n) ≡ Some w → slice_get (places (the_book d)) (suc (lines_from (the_book d) + 2 * n)) ≡ Some p
+    → IsWithin (length d.params.items) (length d.alerts.items) w.tree → IsWithin (length d.params.items) (length d.alerts.items) p.tree → StepsLine env k (lines_from (the_book d) + 2 * n) w p old new answer)
+    → (flags later : List Bool) → later ≡ set flags n answer → n < length flags → LinesHalf (the_book d) m k n visited old flags → LinesHalf (the_book d) m k (n + 1) visited new later
+line-next d sealed n less m k env shows visited old new answer steps flags later is room half =
+    with-line d (λ n. ((w p : Placed) → slice_get (places (the_book d)) (lines_from (the_book d) + 2 * n) ≡ Some w → slice_get (places (the_book d)) (suc (lines_from (the_book d) + 2 * n)) ≡ Some p
+    → IsWithin (length d.params.items) (length d.alerts.items) w.tree → IsWithin (length d.params.items) (length d.alerts.items) p.tree → StepsLine env k (lines_from (the_book d) + 2 * n) w p old new answer)
+    → later ≡ set flags n answer → n < length flags → LinesHalf (the_book d) m k n visited old flags → LinesHalf (the_book d) m k (n + 1) visited new later) n less
+    (λ a x within here j l inside at steps is room half.
+    let e : start d a + (j + 1) ≡ start d a + j + 1 = omega arith in
+    subst (λ i. LinesHalf (the_book d) m k i visited new later) e
+    (line-on d sealed d.alerts.items a x refl within here x.lines.items j l refl inside at m k env shows visited old new answer
+    (steps (placed_of l.when) (placed_of l.done) (line-when d sealed d.alerts.items a x refl within here x.lines.items j l refl inside at)
+    (ap (slice_get (places (the_book d))) (sym (add-one (lines_from (the_book d) + 2 * (start d a + j)))) ∙ line-done d sealed d.alerts.items a x refl within here x.lines.items j l refl inside at)
+    (when-names d sealed d.alerts.items a x refl within here x.lines.items j l refl inside at) (done-names d sealed d.alerts.items a x refl within here x.lines.items j l refl inside at))
+    flags later is room half))
+    steps is room half
+
+-- lines of which no condition is woken
+module _ (d : Draft) (sealed : IsSealed d) (m : ℕ → Moment) (k visited : ℕ) (t : Terms) (flags : List Bool) (small : k < 2 ^ 63) where
+  line-over : (n : ℕ) → n < length (lines_of (the_book d).alerts) → is_marked t.woken (lines_from (the_book d) + 2 * n) ≡ false → is_marked t.woken (suc (lines_from (the_book d) + 2 * n)) ≡ false
+      → LinesHalf (the_book d) m k n visited t flags → LinesHalf (the_book d) m k (n + 1) visited t flags
+  line-over n less when-off done-off half =
+      with-line d (λ n. is_marked t.woken (lines_from (the_book d) + 2 * n) ≡ false → is_marked t.woken (suc (lines_from (the_book d) + 2 * n)) ≡ false
+      → LinesHalf (the_book d) m k n visited t flags → LinesHalf (the_book d) m k (n + 1) visited t flags) n less
+      (λ a x within here j l inside at when-off done-off half.
+      let e : start d a + (j + 1) ≡ start d a + j + 1 = omega arith in
+      subst (λ i. LinesHalf (the_book d) m k i visited t flags) e
+      (line-off d sealed d.alerts.items a x refl within here x.lines.items j l refl inside at m k visited t flags small when-off done-off half))
+      when-off done-off half
+
+  some-over : (n r : ℕ) → n + r ≤ length (lines_of (the_book d).alerts) → NoneMarked t.woken (lines_from (the_book d) + 2 * n) (lines_from (the_book d) + 2 * (n + r))
+      → LinesHalf (the_book d) m k n visited t flags → LinesHalf (the_book d) m k (n + r) visited t flags
+  some-over n zero le off half = let e : n ≡ n + 0 = omega arith in subst (λ i. LinesHalf (the_book d) m k i visited t flags) e half
+  some-over n (suc r) le off half =
+      let e : (n + r) + 1 ≡ n + suc r = omega arith in
+      subst (λ i. LinesHalf (the_book d) m k i visited t flags) e
+      (line-over (n + r) (omega arith) (off _ (omega arith) (omega arith)) (off _ (omega arith) (omega arith)) (some-over n r (omega arith) (λ j low high. off j low (omega arith)) half))
+
+  -- up to the next of which one is, or to the end
+  pub lines-past : (n i : ℕ) → n ≤ i → i ≤ length (lines_of (the_book d).alerts) → NoneMarked t.woken (lines_from (the_book d) + 2 * n) (lines_from (the_book d) + 2 * i)
+      → LinesHalf (the_book d) m k n visited t flags → LinesHalf (the_book d) m k i visited t flags
+  lines-past n i le most off half =
+      let e : n + (i - n) ≡ i = omega arith in
+      subst (λ i. LinesHalf (the_book d) m k i visited t flags) e
+      (some-over n (i - n) (omega arith) (λ j low high. off j low (omega arith)) half)
 
 -- before the first line
 pub lines-begin : (d : Draft) (m : ℕ → Moment) (k visited : ℕ) (terms : Terms) (flags : List Bool) → LinesWere (the_book d) m k flags → BookHalf (the_book d) m k (lines_from (the_book d)) (suc (length (the_book d).alerts)) visited terms
@@ -268,15 +292,9 @@ lines-begin d m k visited terms flags were half = record {
 }
 
 -- behind the last
-module _ (d : Draft) (m : ℕ → Moment) (k i visited : ℕ) (terms : Terms) (flags : List Bool) (all : length d.alerts.items ≤ i)
-    (half : LinesHalf (the_book d) m k (length (lines_of (take i (the_book d).alerts))) visited terms flags) where
-  every : length (lines_of (take i (the_book d).alerts)) ≡ length (lines_of (the_book d).alerts)
-  every = ap (λ as'. length (lines_of as')) (take_all i (the_book d).alerts (omega (arith, many-alerts d)))
-
+module _ (d : Draft) (m : ℕ → Moment) (k visited : ℕ) (terms : Terms) (flags : List Bool) (half : LinesHalf (the_book d) m k (length (lines_of (the_book d).alerts)) visited terms flags) where
   pub lines-end : BookHalf (the_book d) m k (memos_from (the_book d)) (suc (length (the_book d).alerts)) visited terms
-  lines-end =
-      subst (λ n. BookHalf (the_book d) m k n (suc (length (the_book d).alerts)) visited terms)
-      (let e : lines_from (the_book d) + 2 * length (lines_of (take i (the_book d).alerts)) ≡ memos_from (the_book d) = omega (arith, every) in e) half.terms
+  lines-end = half.terms
 
   pub lines-told : TellsOf flags (lines_of (the_book d).alerts) (line_stands (the_book d) m k)
-  lines-told = λ j l is. half.told j l (omega (arith, every, slice_get_within (lines_of (the_book d).alerts) j l is)) is
+  lines-told = λ j l is. half.told j l (slice_get_within (lines_of (the_book d).alerts) j l is) is

@@ -1,12 +1,11 @@
 -- What a moment brings that is another than in the moment before, by the numbers of operands, and whom it wakes.
-use Rattle.std.specs.Prelude.{◌≡◌, ℕ, ◌+◌, ◌-◌, ◌==◌, nat_le, nat_lt, Bool, false, not, ◌&&◌, ◌||◌, List, length, slice_get, slice_index_or, ℤ, Option, Some, None, ◌≤◌, ◌<◌, ◌*◌, take, MatchOption}
+use Rattle.std.specs.Prelude.{◌≡◌, ℕ, ◌+◌, ◌-◌, ◌==◌, nat_le, nat_lt, Bool, false, not, ◌&&◌, ◌||◌, List, length, slice_get, slice_index_or, ℤ, Option, Some, None, ◌≤◌, ◌<◌, ◌*◌, MatchOption}
 use Rattle.std.specs.List.{list_any}
 use Rattle.std.specs.Option.{option_eq}
 use Rattle.std.specs.Ordering.{int_eq}
 use Rattle.ecam_spec.specs.Book.{Book}
 use Rattle.ecam_spec.specs.TermSize.{Placed}
 use Rattle.ecam_kinds.specs.declared.keys.Keys.{Keys}
-use Rattle.ecam_spec.specs.BookTerms.{lines_of}
 use Rattle.book_model.specs.Conditions.{places, lines_from, memos_from}
 use Rattle.term_eval.specs.Woken.{operands, differ}
 use Rattle.watch_lists.specs.declared.number.Sizes.{Sizes}
@@ -44,9 +43,9 @@ FindsNext marks start from count found =
     MatchOption found (NoneMarked marks (start from) (start count))
     (λ i. (from ≤ i) × (i < count) × NoneMarked marks (start from) (start i))
 
--- where the conditions of an alert's lines start, and those of a memo
-abbrev pub lines_start : Book → ℕ → ℕ
-lines_start b a = lines_from b + 2 * length (lines_of (take a b.alerts))
+-- where the conditions of a line start, and those of a memo
+abbrev pub line_start : Book → ℕ → ℕ
+line_start b i = lines_from b + 2 * i
 
 abbrev pub memo_start : Book → ℕ → ℕ
 memo_start b i = memos_from b + i

@@ -2,6 +2,7 @@
 ghost use Rattle.std.specs.Prelude.{◌≡◌, ◌<◌, ◌≤◌, ◌^◌, true, length, slice_get, Some};
 ghost use Rattle.ecam_spec.specs.Book as plain;
 ghost use Rattle.ecam_spec.specs.TermNames.{IsWithin};
+ghost use Rattle.ecam_spec.specs.TermSize.{Placed};
 ghost use Rattle.book_model.specs.View.{tree_in, placed_of};
 ghost use Rattle.book_model.specs.Conditions.{places};
 ghost use Rattle.wakes.specs.Marks.{is_marked};
@@ -12,9 +13,8 @@ use crate::terms::Terms;
 use book_model::Term;
 use term_eval::Env;
 
-/// Steps the condition of this number by moment `now`, and answers whether it holds in it. One that the moment doesn't wake
-/// holds where it held, and costs a look; one that is woken costs one visit of each of its nodes. (The look stands where it
-/// is asked for, since most conditions that are asked aren't woken.)
+/// Steps a condition by moment `now`, which has this number, and answers whether it holds in it. One that the moment doesn't
+/// wake holds where it held, and costs a look; one that is woken costs one visit of each of its nodes.
 #[inline(always)]
 pub fn step_term(terms: &mut Terms, number: usize, _term: &Term, env: &Env<'_>, now: u64) -> bool
     requires place { (b : plain.Book) × TermsFit b terms.old
@@ -27,25 +27,46 @@ pub fn step_term(terms: &mut Terms, number: usize, _term: &Term, env: &Env<'_>, 
     ensures fits { (b : plain.Book) → TermsFit b terms.old → TermsFit b terms.new }
     ensures steps { StepsTerm env.now now number (placed_of _term.now) terms.old terms.new result }
 {
-    if !terms.woken.has(number) {
-        return terms.truths[number];
-    }
-    run_term(terms, number, _term, env, now)
+    step_numbered(terms, number, env, now)
 }
 
-// Steps one that the moment wakes.
-#[inline(never)]
-fn run_term(terms: &mut Terms, number: usize, _term: &Term, env: &Env<'_>, now: u64) -> bool
-    requires woken { is_marked terms.old.woken number ≡ true }
-    requires place { (b : plain.Book) × TermsFit b terms.old
-        × (slice_get (places b) number ≡ Some (placed_of _term.now)) }
-    requires names { IsWithin (length env.now.values.now) (length env.now.active.now)
-        (tree_in _term.now) }
+/// The same of the condition that has this number. (The look stands where it is asked for, since many conditions that are
+/// asked aren't woken.)
+#[inline(always)]
+pub fn step_numbered(terms: &mut Terms, number: usize, env: &Env<'_>, now: u64) -> bool
+    requires place { (b : plain.Book) × (p : Placed) × TermsFit b terms.old
+        × (slice_get (places b) number ≡ Some p)
+        × IsWithin (length env.now.values.now) (length env.now.active.now) p.tree }
     requires first { 1 ≤ env.now.phase.number }
     requires last { env.now.phase.number ≤ 10 }
     requires now { now < 2 ^ 63 }
     ensures fits { (b : plain.Book) → TermsFit b terms.old → TermsFit b terms.new }
-    ensures steps { StepsTerm env.now now number (placed_of _term.now) terms.old terms.new result }
+    ensures steps { (b : plain.Book) (p : Placed) → TermsFit b terms.old
+        → slice_get (places b) number ≡ Some p
+        → IsWithin (length env.now.values.now) (length env.now.active.now) p.tree
+        → StepsTerm env.now now number p terms.old terms.new result }
+{
+    if !terms.woken.has(number) {
+        return terms.truths[number];
+    }
+    run_term(terms, number, env, now)
+}
+
+// Steps one that the moment wakes.
+#[inline(never)]
+fn run_term(terms: &mut Terms, number: usize, env: &Env<'_>, now: u64) -> bool
+    requires woken { is_marked terms.old.woken number ≡ true }
+    requires place { (b : plain.Book) × (p : Placed) × TermsFit b terms.old
+        × (slice_get (places b) number ≡ Some p)
+        × IsWithin (length env.now.values.now) (length env.now.active.now) p.tree }
+    requires first { 1 ≤ env.now.phase.number }
+    requires last { env.now.phase.number ≤ 10 }
+    requires now { now < 2 ^ 63 }
+    ensures fits { (b : plain.Book) → TermsFit b terms.old → TermsFit b terms.new }
+    ensures steps { (b : plain.Book) (p : Placed) → TermsFit b terms.old
+        → slice_get (places b) number ≡ Some p
+        → IsWithin (length env.now.values.now) (length env.now.active.now) p.tree
+        → StepsTerm env.now now number p terms.old terms.new result }
 {
     let turn = terms
         .cells

@@ -1,10 +1,10 @@
 // The next of some items that has a woken condition.
-ghost use Rattle.std.specs.Prelude.{◌≡◌, ◌+◌, ◌<◌, ◌≤◌, ◌^◌, ◌||◌, ℕ, true, false, length, take};
+ghost use Rattle.std.specs.Prelude.{◌≡◌, ◌+◌, ◌<◌, ◌≤◌, ◌^◌, ℕ, true, false, length};
 ghost use Rattle.ecam_spec.specs.BookTerms.{lines_of};
 ghost use Rattle.book_model.specs.Sealed.{the_book};
 ghost use Rattle.book_model.specs.Conditions.{alerts_from};
-ghost use Rattle.wakes.specs.Marks.{is_marked, room};
-ghost use Rattle.fwc_lane.specs.Waking.{NoneMarked, FindsNext, lines_start, memo_start};
+ghost use Rattle.wakes.specs.Marks.{is_marked};
+ghost use Rattle.fwc_lane.specs.Waking.{NoneMarked, FindsNext, line_start, memo_start};
 
 use crate::numbers::{first_memo, line_number};
 use alert_truth::Truths;
@@ -61,20 +61,19 @@ fn next_or(marked: &Marked, from: usize, end: usize) -> usize
     }
 }
 
-/// The first alert from one on of whose lines a condition is woken. Its cost is a look for each 64 conditions that it goes
-/// over, and one for each doubling of the number of alerts.
-pub fn next_lines(woken: &Marked, book: &Book, from: usize) -> Option<usize>
-    requires { from ≤ length book.now.alerts.items }
-    ensures { FindsNext woken.now (lines_start (the_book book.now)) from
-        (length book.now.alerts.items) result }
+/// The first line from one on of which a condition is woken. Its cost is a look for each 64 conditions that it goes over.
+pub fn next_line(woken: &Marked, book: &Book, from: usize) -> Option<usize>
+    requires { from ≤ length (lines_of (the_book book.now).alerts) }
+    ensures { FindsNext woken.now (line_start (the_book book.now)) from
+        (length (lines_of (the_book book.now).alerts)) result }
 {
     book.sealed();
-    let first = line_number(book, first_line(book, from));
-    let term = woken.first_from(first)?;
+    let first = line_number(book, 0);
+    let term = woken.first_from(first + 2 * from)?;
     if term >= first_memo(book) {
         return None;
     }
-    Some(owner(book, from, (term - line_number(book, 0)) / 2))
+    Some((term - first) / 2)
 }
 
 /// The first memo from one on whose condition is woken. Its cost is a look for each 64 memos that it goes over.
@@ -90,47 +89,4 @@ pub fn next_memo(woken: &Marked, book: &Book, from: usize) -> Option<usize>
         return None;
     }
     Some(term - first)
-}
-
-/// Whether the condition of this number is woken, or the one behind it.
-pub fn either_woken(woken: &Marked, number: usize) -> bool
-    requires few { number < 2 ^ 32 }
-    requires room { number + 1 < room woken.now }
-    ensures { result ≡ (is_marked woken.now number || is_marked woken.now (number + 1)) }
-{
-    woken.has(number) || woken.has(number + 1)
-}
-
-// How many lines the alerts before this one have.
-fn first_line(book: &Book, alert: usize) -> usize
-    ensures { result ≡ length (lines_of (take alert (the_book book.now).alerts)) }
-{
-    if alert < book.alerts().len() {
-        book.line_at(alert)
-    } else {
-        book.line_count()
-    }
-}
-
-// The alert whose line it is, where that is none before `from`.
-fn owner(book: &Book, from: usize, line: usize) -> usize
-    requires from { from < length book.now.alerts.items }
-    requires line { length (lines_of (take from (the_book book.now).alerts)) ≤ line }
-    ensures from { from ≤ result }
-    ensures within { result < length book.now.alerts.items }
-    ensures begun { length (lines_of (take result (the_book book.now).alerts)) ≤ line }
-    ensures last { result + 1 < length book.now.alerts.items
-        → line < length (lines_of (take (result + 1) (the_book book.now).alerts)) }
-{
-    let mut low = from;
-    let mut high = book.alerts().len();
-    while high - low > 1 {
-        let middle = low + (high - low) / 2;
-        if book.line_at(middle) <= line {
-            low = middle;
-        } else {
-            high = middle;
-        }
-    }
-    low
 }

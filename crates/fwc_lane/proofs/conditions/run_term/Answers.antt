@@ -2,50 +2,43 @@ use Rattle.std.proofs.Common.{◌<◌, length, refl, ap, ◌∙◌, arith}
 use Rattle.std.specs.Vec.{with_items}
 use Rattle.std.proofs.lemmas.List.{length-set}
 use Rattle.std.proofs.lemmas.Option.{slice_get_within}
-use Rattle.book_model.specs.View.{placed_of}
 use Rattle.book_model.specs.Conditions.{places}
 use Rattle.fwc_lane.proofs.Stepping.{is-ready, half-step}
 use Rattle.fwc_lane.proofs.conditions.run_term.Goals as goal
 
 pub code-requires : goal.code-requires
 code-requires c =
-    let b = c.requires.place.0 in
-    let inside : c.args.number < length (places b) = slice_get_within (places b) c.args.number (placed_of c.args._term.now) c.requires.place.2 in
-    (b, c.requires.place.1.codes, omega (arith, inside))
+    let (b, p, fits, here, names) = c.requires.place in
+    let inside : c.args.number < length (places b) = slice_get_within (places b) c.args.number p here in
+    (b, fits.codes, omega (arith, inside))
 
 pub run-turn-requires-clause-code : goal.run-turn-requires-clause-code
 run-turn-requires-clause-code c =
-    let b = c.requires.place.0 in
-    let fits = c.requires.place.1 in
-    let p = placed_of c.args._term.now in
-    (p.tree, p.at, is-ready b c.args.terms.now c.args.number p c.args.env.now c.code.result.now fits c.requires.place.2 c.requires.names (c.code.ensures.code b fits.codes p c.requires.place.2))
+    let (b, p, fits, here, names) = c.requires.place in
+    (p.tree, p.at, is-ready b c.args.terms.now c.args.number p c.args.env.now c.code.result.now fits here names (c.code.ensures.code b fits.codes p here))
 
 pub run-turn-requires-clause-room : goal.run-turn-requires-clause-room
 run-turn-requires-clause-room c =
-    let b = c.requires.place.0 in
-    let fits = c.requires.place.1 in
-    let inside : c.args.number < length (places b) = slice_get_within (places b) c.args.number (placed_of c.args._term.now) c.requires.place.2 in
+    let (b, p, fits, here, names) = c.requires.place in
+    let inside : c.args.number < length (places b) = slice_get_within (places b) c.args.number p here in
     omega (arith, c.code.ensures.short b fits.codes inside, fits.totals, ap length c.deref_mut.ensures.value)
 
 pub index_mut-requires : goal.index_mut-requires
 index_mut-requires c =
-    let b = c.requires.place.0 in
-    let fits = c.requires.place.1 in
-    let inside : c.args.number < length (places b) = slice_get_within (places b) c.args.number (placed_of c.args._term.now) c.requires.place.2 in
+    let (b, p, fits, here, names) = c.requires.place in
+    let inside : c.args.number < length (places b) = slice_get_within (places b) c.args.number p here in
     omega (arith, inside, fits.truths, c.args.terms.now.truths.ok.0)
 
 pub set-requires : goal.set-requires
 set-requires c =
-    let b = c.requires.place.0 in
-    let fits = c.requires.place.1 in
-    let inside : c.args.number < length (places b) = slice_get_within (places b) c.args.number (placed_of c.args._term.now) c.requires.place.2 in
+    let (b, p, fits, here, names) = c.requires.place in
+    let inside : c.args.number < length (places b) = slice_get_within (places b) c.args.number p here in
     omega (arith, inside, fits.dues)
 
 pub returns-clause-fits : goal.returns-clause-fits
 returns-clause-fits c b fits =
-    let own = c.requires.place.1 in
-    let p = placed_of c.args._term.now in
-    let ready = is-ready c.requires.place.0 c.args.terms.now c.args.number p c.args.env.now c.code.result.now own c.requires.place.2 c.requires.names (c.code.ensures.code c.requires.place.0 own.codes p c.requires.place.2) in
+    let (b', p, own, here, names) = c.requires.place in
+    let ready = is-ready b' c.args.terms.now c.args.number p c.args.env.now c.code.result.now own here names (c.code.ensures.code b' own.codes p here) in
     record {
       codes = fits.codes;
       totals = omega (arith, fits.totals, c.args.terms.now.totals.ok.0, (with_items c.args.terms.now.totals c.run-turn.new.totals).ok.0);
@@ -58,18 +51,15 @@ returns-clause-fits c b fits =
     }
 
 pub returns-clause-steps : goal.returns-clause-steps
-returns-clause-steps c =
-    let b = c.requires.place.0 in
-    let fits = c.requires.place.1 in
-    let inside : c.args.number < length (places b) = slice_get_within (places b) c.args.number (placed_of c.args._term.now) c.requires.place.2 in
-    let p = placed_of c.args._term.now in
-    let ready = is-ready b c.args.terms.now c.args.number p c.args.env.now c.code.result.now fits c.requires.place.2 c.requires.names (c.code.ensures.code b fits.codes p c.requires.place.2) in
+returns-clause-steps c b p fits here names =
+    let inside : c.args.number < length (places b) = slice_get_within (places b) c.args.number p here in
+    let ready = is-ready b c.args.terms.now c.args.number p c.args.env.now c.code.result.now fits here names (c.code.ensures.code b fits.codes p here) in
     let run = c.run-turn.ensures in
     record {
-      truth = λ ps worlds hit visited here shows tells half. run.truth p.tree p.at ready (worlds c.args.number) shows (half.left c.args.number _ (omega arith) here).stands;
-      stands = λ ps worlds hit visited here apart shows tells half.
-          let stand = (half.left c.args.number _ (omega arith) here).stands in
-          half-step ps worlds c.args.now c.args.number (placed_of c.args._term.now) here apart c.args.terms.now _ c.run-turn.result.holds c.run-turn.result.due
+      truth = λ ps worlds hit visited at shows tells half. run.truth p.tree p.at ready (worlds c.args.number) shows (half.left c.args.number _ (omega arith) at).stands;
+      stands = λ ps worlds hit visited at apart shows tells half.
+          let stand = (half.left c.args.number _ (omega arith) at).stands in
+          half-step ps worlds c.args.now c.args.number p at apart c.args.terms.now _ c.run-turn.result.holds c.run-turn.result.due
           (run.before p.tree p.at ready) (run.behind p.tree p.at ready) refl c.set.ensures refl (run.visits p.tree p.at ready) hit visited c.requires.now tells c.requires.woken
           (omega (arith, inside, fits.truths)) (omega (arith, inside, fits.dues))
           (run.stands p.tree p.at ready (worlds c.args.number) shows stand) (run.truth p.tree p.at ready (worlds c.args.number) shows stand) (run.due p.tree p.at ready (worlds c.args.number) shows stand) half;

@@ -1,10 +1,17 @@
-use Rattle.std.proofs.Common.{◌≤◌, length, refl, sym, ◌∙◌, arith}
-use Rattle.fwc_lane.proofs.FlagSteps.{left-false, right-false}
-use Rattle.fwc_lane.proofs.ProcedureSteps.{lines-begin, lines-skip, lines-end, lines-told}
+use Rattle.std.proofs.Common.{◌≡◌, suc, ◌+◌, ◌*◌, ◌<◌, ◌≤◌, false, length, slice_get, refl, sym, ap, subst, ◌∙◌, arith}
+use Rattle.ecam_spec.specs.BookTerms.{lines_of}
+use Rattle.book_model.specs.Sealed.{the_book}
+use Rattle.book_model.specs.Conditions.{places, lines_from}
+use Rattle.book_model.proofs.BookLists.{many-alerts}
+use Rattle.book_model.proofs.BookLimits.{sizes}
+use Rattle.book_model.proofs.BookLines.{few-lines-in-all}
+use Rattle.fwc_lane.specs.Conditions.{StepsLine}
+use Rattle.fwc_lane.proofs.FlagSteps.{set-length, left-false, right-false}
+use Rattle.fwc_lane.proofs.ProcedureSteps.{line-places, line-next, lines-begin, lines-past, lines-end, lines-told}
 use Rattle.fwc_lane.proofs.procedures.step_lines.Goals as goal
 
-pub loop-alert-init : goal.loop-alert-init
-loop-alert-init c = record {
+pub loop-line-init : goal.loop-line-init
+loop-line-init c = record {
   most = omega arith;
   fits = c.requires.fits;
   flags = refl;
@@ -12,37 +19,75 @@ loop-alert-init c = record {
   kept = λ e. refl;
 }
 
-pub step_own-own-requires-clause-fits : goal.step_own-own-requires-clause-fits
-step_own-own-requires-clause-fits c = c.loop-alert.invariant.fits
+pub overflow_mul-line : goal.overflow_mul-line
+overflow_mul-line c = omega (arith, c.in-Some.ensures.1, few-lines-in-all c.args.book.now c.sealed.ensures)
 
-pub loop-alert-preserved : goal.loop-alert-preserved
-loop-alert-preserved c =
+pub overflow_add-first : goal.overflow_add-first
+overflow_add-first c =
+    let d = c.args.book.now in
+    omega (arith, c.in-Some.ensures.1, few-lines-in-all d c.sealed.ensures, c.line_number-first.ensures, many-alerts d, (sizes d c.sealed.ensures).alerts)
+
+pub step_line-stands-requires-clause-number : goal.step_line-stands-requires-clause-number
+step_line-stands-requires-clause-number c =
+    let d = c.args.book.now in
+    omega (arith, c.in-Some.ensures.1, few-lines-in-all d c.sealed.ensures, c.line_number-first.ensures, many-alerts d, (sizes d c.sealed.ensures).alerts)
+
+pub step_line-stands-requires-clause-places : goal.step_line-stands-requires-clause-places
+step_line-stands-requires-clause-places c =
+    let d = c.args.book.now in
+    let at : c.line_number-first.result + 2 * c.in-Some.line ≡ lines_from (the_book d) + 2 * c.in-Some.line = omega (arith, c.line_number-first.ensures) in
+    let (w, p, here, next, names, also) = line-places d c.sealed.ensures c.in-Some.line c.in-Some.ensures.1 in (
+      the_book d,
+      w,
+      p,
+      c.loop-line.invariant.fits,
+      ap (slice_get (places (the_book d))) at ∙ here,
+      ap (λ i. slice_get (places (the_book d)) (suc i)) at ∙ next,
+      rw (c.requires.values, c.requires.active) names,
+      rw (c.requires.values, c.requires.active) also,
+    )
+
+pub set_flag-other-requires : goal.set_flag-other-requires
+set_flag-other-requires c = omega (arith, c.in-Some.ensures.1, c.loop-line.invariant.flags, c.requires.flags)
+
+pub loop-line-preserved : goal.loop-line-preserved
+loop-line-preserved c =
+    let d = c.args.book.now in
+    let b = the_book d in
     let found = c.in-Some.ensures in
+    let at : c.line_number-first.result + 2 * c.in-Some.line ≡ lines_from b + 2 * c.in-Some.line = omega (arith, c.line_number-first.ensures) in
+    let is = c.set_flag-other.ensures.items in
+    let room : c.in-Some.line < length c.loop-line.flags.items = omega (arith, found.1, c.loop-line.invariant.flags, c.requires.flags) in
     record {
       most = omega (arith, found.1);
-      fits = c.step_own-own.ensures.fits;
-      flags = c.step_own-own.ensures.flags ∙ c.loop-alert.invariant.flags;
+      fits = c.step_line-stands.ensures.fits b c.loop-line.invariant.fits;
+      flags = set-length _ _ _ _ false is ∙ c.loop-line.invariant.flags;
       stands = λ m visits shows were half.
-          c.step_own-own.ensures.stands m visits shows
-          (lines-skip c.args.book.now c.sealed.ensures m c.args.now visits c.loop-alert.terms c.loop-alert.flags.items c.requires.now c.loop-alert.next c.in-Some.alert found.0 (omega (arith, found.1)) found.2
-          (c.loop-alert.invariant.stands m visits shows were half));
+          line-next d c.sealed.ensures c.in-Some.line found.1 m c.args.now c.args.env.now shows visits c.loop-line.terms c.step_line-stands.new.terms c.step_line-stands.result
+          (λ w p here next names also.
+          subst (λ n. StepsLine c.args.env.now c.args.now n w p c.loop-line.terms c.step_line-stands.new.terms c.step_line-stands.result) at
+          (c.step_line-stands.ensures.steps b w p c.loop-line.invariant.fits (ap (slice_get (places b)) at ∙ here) (ap (λ i. slice_get (places b) (suc i)) at ∙ next)
+          (rw (c.requires.values, c.requires.active) names) (rw (c.requires.values, c.requires.active) also)))
+          c.loop-line.flags.items c.set_flag-other.new.flags.items is room
+          (lines-past d c.sealed.ensures m c.args.now visits c.loop-line.terms c.loop-line.flags.items c.requires.now c.loop-line.next c.in-Some.line found.0 (omega (arith, found.1)) found.2
+          (c.loop-line.invariant.stands m visits shows were half));
       kept = λ off.
           let none = sym c.is_either-turned.ensures ∙ off in
-          c.step_own-own.ensures.kept (right-false _ _ none) ∙ c.loop-alert.invariant.kept (left-false _ _ none);
+          c.set_flag-other.ensures.kept (right-false _ _ none) ∙ c.loop-line.invariant.kept (left-false _ _ none);
     }
 
 pub returns-clause-told : goal.returns-clause-told
 returns-clause-told c = λ m visits shows were half.
     let d = c.args.book.now in
-    let end : length d.alerts.items ≤ length d.alerts.items = omega arith in
-    lines-told d m c.args.now (length d.alerts.items) visits c.loop-alert.terms c.loop-alert.flags.items end
-    (lines-skip d c.sealed.ensures m c.args.now visits c.loop-alert.terms c.loop-alert.flags.items c.requires.now c.loop-alert.next (length d.alerts.items) c.loop-alert.invariant.most end c.in_default.ensures
-    (c.loop-alert.invariant.stands m visits shows were half))
+    let most : length (lines_of (the_book d).alerts) ≤ length (lines_of (the_book d).alerts) = omega arith in
+    lines-told d m c.args.now visits c.loop-line.terms c.loop-line.flags.items
+    (lines-past d c.sealed.ensures m c.args.now visits c.loop-line.terms c.loop-line.flags.items c.requires.now c.loop-line.next (length (lines_of (the_book d).alerts)) c.loop-line.invariant.most most c.in_default.ensures
+    (c.loop-line.invariant.stands m visits shows were half))
 
 pub returns-clause-stands : goal.returns-clause-stands
 returns-clause-stands c = λ m visits shows were half.
     let d = c.args.book.now in
-    let end : length d.alerts.items ≤ length d.alerts.items = omega arith in
-    lines-end d m c.args.now (length d.alerts.items) visits c.loop-alert.terms c.loop-alert.flags.items end
-    (lines-skip d c.sealed.ensures m c.args.now visits c.loop-alert.terms c.loop-alert.flags.items c.requires.now c.loop-alert.next (length d.alerts.items) c.loop-alert.invariant.most end c.in_default.ensures
-    (c.loop-alert.invariant.stands m visits shows were half))
+    let most : length (lines_of (the_book d).alerts) ≤ length (lines_of (the_book d).alerts) = omega arith in
+    lines-end d m c.args.now visits c.loop-line.terms c.loop-line.flags.items
+    (lines-past d c.sealed.ensures m c.args.now visits c.loop-line.terms c.loop-line.flags.items c.requires.now c.loop-line.next (length (lines_of (the_book d).alerts)) c.loop-line.invariant.most most c.in_default.ensures
+    (c.loop-line.invariant.stands m visits shows were half))

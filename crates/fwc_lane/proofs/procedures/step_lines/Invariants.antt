@@ -1,4 +1,4 @@
-use Rattle.std.proofs.Common.{◌≡◌, ◌≤◌, ◌-◌, ℕ, suc, false, length, take}
+use Rattle.std.proofs.Common.{◌≡◌, ◌≤◌, ◌-◌, ℕ, suc, false, length}
 use Rattle.ecam_spec.specs.History.{Moment}
 use Rattle.ecam_spec.specs.BookTerms.{lines_of}
 use Rattle.ecam_spec.specs.Situation.{world}
@@ -9,17 +9,17 @@ use Rattle.fwc_lane.specs.Conditions.{BookHalf, LinesHalf, LinesWere}
 use Rattle.fwc_lane.specs.TermsFit.{TermsFit}
 use Rattle.fwc_lane.proofs.procedures.step_lines.Given as goal
 
-abbrev pub invariant-loop-alert : goal.invariant-loop-alert
-invariant-loop-alert l = record {
-  most : l.next ≤ length l.book.alerts.items;
+abbrev pub invariant-loop-line : goal.invariant-loop-line
+invariant-loop-line l = record {
+  most : l.next ≤ length (lines_of (the_book l.book).alerts);
   fits : TermsFit (the_book l.book) l.terms;
   flags : length l.flags.items ≡ length l.fn.flags.items;
   stands : (m : ℕ → Moment) (visits : ℕ) → Shows l.env (world (the_book l.book) m) l.now
       → LinesWere (the_book l.book) m l.now l.fn.flags.items
       → BookHalf (the_book l.book) m l.now (lines_from (the_book l.book)) (suc (length (the_book l.book).alerts)) visits l.fn.terms
-      → LinesHalf (the_book l.book) m l.now (length (lines_of (take l.next (the_book l.book).alerts))) visits l.terms l.flags.items;
+      → LinesHalf (the_book l.book) m l.now l.next visits l.terms l.flags.items;
   kept : l.turned ≡ false → l.flags.items ≡ l.fn.flags.items;
 }
 
-abbrev pub decreases-loop-alert : goal.decreases-loop-alert
-decreases-loop-alert l = length l.book.alerts.items - l.next
+abbrev pub decreases-loop-line : goal.decreases-loop-line
+decreases-loop-line l = length (lines_of (the_book l.book).alerts) - l.next
