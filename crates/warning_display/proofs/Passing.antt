@@ -1,12 +1,14 @@
 -- Lists told by flags, member by member.
-use Rattle.std.proofs.Common.{◌≡◌, ℕ, suc, ◌+◌, ◌<◌, Bool, true, false, ◌||◌, List, [], ◌∷◌, ◌++◌, map, take, drop, slice_get, Some, All, cond, refl, sym, ◌∙◌, ap, arith, add-one}
+use Rattle.std.proofs.Common.{◌≡◌, ℕ, zero, suc, ◌+◌, ◌<◌, Bool, true, false, ◌||◌, List, [], ◌∷◌, ◌++◌, map, take, drop, slice_get, get_or, Some, All, cond, refl, sym, ◌∙◌, ap, arith, add-one}
 use Rattle.std.specs.Prelude.{filter}
 use Rattle.std.specs.List.{list_any}
-use Rattle.std.proofs.lemmas.List.{take_more, map-append, take-append-drop}
+use Rattle.std.proofs.lemmas.List.{take_more, map-append, append-nil, take-append-drop, get_or-take, get_or-drop}
 use Rattle.std.proofs.lemmas.List.Elements.{filter-append}
 use Rattle.std.proofs.lemmas.Option.{slice_get_within, get_or_from_slice_get}
 use Rattle.ecam_spec.specs.Picture.{Row}
 use Rattle.ecam_spec.specs.Places.{below}
+use Rattle.book_model.specs.Told.{flagged}
+use Rattle.book_model.proofs.LevelPlaces.{filter_below-more}
 use Rattle.zone_rows.specs.Tracked.{TrackedRows}
 use Rattle.zone_rows.specs.Mended.{Appends}
 use Rattle.zone_rows.proofs.Filling.{append-both}
@@ -59,3 +61,18 @@ any_told n p q agree (x ∷ xs) within =
 pub below-more : (n : ℕ) → below (n + 1) ≡ below n ++ n ∷ []
 unfolding below
 below-more n = ap below (add-one n)
+
+-- flags none of which is set bring no number
+pub below-clear : (p : ℕ → Bool) (n d : ℕ) → ((i : ℕ) → i < d → p (n + i) ≡ false) → filter p (below (n + d)) ≡ filter p (below n)
+below-clear p n zero none = let e : n + 0 ≡ n = omega arith in ap (λ k. filter p (below k)) e
+below-clear p n (suc d) none =
+    let e : n + suc d ≡ (n + d) + 1 = omega arith in
+    ap (λ k. filter p (below k)) e ∙ filter_below-more p (n + d)
+    ∙ ap (λ b. filter p (below (n + d)) ++ cond b ((n + d) ∷ []) []) (none d (omega arith)) ∙ append-nil (filter p (below (n + d)))
+    ∙ below-clear p n d (λ i h. none i (omega arith))
+
+pub block-clear : (flags part : List Bool) (n d : ℕ) → part ≡ take d (drop n flags) → ((i : ℕ) → get_or part i false ≡ false)
+    → filter (flagged flags) (below (n + d)) ≡ filter (flagged flags) (below n)
+block-clear flags part n d is none =
+    below-clear (flagged flags) n d
+    (λ i h. sym (ap (λ xs. get_or xs i false) is ∙ get_or-take d (drop n flags) i false h ∙ get_or-drop n flags i false) ∙ none i)

@@ -1,11 +1,14 @@
 // Searches for flags that are set.
-ghost use Rattle.std.specs.Prelude.{◌≡◌, ◌<◌, ◌≤◌, All, drop, filter, length, slice_index_or, take, true};
+ghost use Rattle.std.specs.Prelude.{◌≡◌, ◌<◌, ◌≤◌, ℕ, All, drop, false, filter, length, slice_index_or, take, true};
 ghost use Rattle.book_model.specs.Told.{flagged};
 ghost use Rattle.ecam_spec.specs.Places.{below};
 ghost use Rattle.ecam_spec.specs.declared.limits.TheConstants.{ALERTS};
 
+// So many flags are looked at together, in a few instructions.
+const BLOCK: usize = 64;
+
 /// The first number from one on, before an end, whose flag is set; the end where there is none. Costs a look at each
-/// flag that it goes over, and nothing else.
+/// flag that it goes over, and nothing else; where many in a row aren't set, these are looked at together.
 pub(crate) fn next_set(flags: &[bool], from: usize, end: usize) -> usize
     requires from { from ≤ end }
     requires end { end ≤ length flags.now }
@@ -15,12 +18,35 @@ pub(crate) fn next_set(flags: &[bool], from: usize, end: usize) -> usize
         ≡ filter (flagged flags.now) (below from) }
     ensures set { result < end → flagged flags.now result ≡ true }
 {
-    for i in from..end {
+    for i in skip_clear(flags, from, end)..end {
         if flags[i] {
             return i;
         }
     }
     end
+}
+
+// Goes from one on over each block of flags of which none is set.
+fn skip_clear(flags: &[bool], from: usize, end: usize) -> usize
+    requires from { from ≤ end }
+    requires end { end ≤ length flags.now }
+    ensures from { from ≤ result }
+    ensures end { result ≤ end }
+    ensures none { filter (flagged flags.now) (below result)
+        ≡ filter (flagged flags.now) (below from) }
+{
+    let mut next = from;
+    while end - next >= BLOCK && is_clear(&flags[next..next + BLOCK]) {
+        next += BLOCK;
+    }
+    next
+}
+
+// Whether none of some flags is set.
+fn is_clear(flags: &[bool]) -> bool
+    ensures { result ≡ true → (i : ℕ) → flagged flags.now i ≡ false }
+{
+    !flags.contains(&true)
 }
 
 /// The place in the order, from one on, of the first alert that is shown; the end of the order where none is. Costs a
