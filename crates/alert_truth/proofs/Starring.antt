@@ -1,22 +1,26 @@
 -- The stars of a book's alerts, one alert after another.
-use Rattle.std.proofs.Common.{◌≡◌, ℕ, zero, suc, ◌+◌, ◌<◌, ◌≤◌, Bool, true, false, not, ◌&&◌, eqb, All, List, length, get_or, replicate, Option, Some, None, cond, inl, inr, refl, sym, ap, ◌∙◌, subst, arith}
+use Rattle.std.proofs.Common.{◌≡◌, ℕ, zero, suc, ◌+◌, ◌-◌, ◌<◌, ◌≤◌, Bool, true, false, not, ◌&&◌, eqb, All, List, length, get_or, set, replicate, Option, Some, None, cond, inl, inr, refl, sym, ap, ◌∙◌, subst, add-one, arith}
 use Rattle.std.specs.Prelude.{find, is_some, slice_get}
 use Rattle.std.specs.List.{list_any}
 use Rattle.std.specs.Option.{option_or}
 use Rattle.std.proofs.lemmas.Bool.{cases_lt}
-use Rattle.std.proofs.lemmas.List.{length-set, get_or-set_same, get_or-set_other, get_or_past, get_or-replicate}
+use Rattle.std.proofs.lemmas.List.{set-get_or, length-set, get_or-set_same, get_or-set_other, get_or_past, get_or-replicate}
 use Rattle.ecam_spec.specs.Past.{Signal, previous, previously}
 use Rattle.ecam_spec.specs.Book.{Book}
 use Rattle.ecam_spec.specs.Alert as alert
 use Rattle.ecam_spec.specs.Situation.{primaries}
 use Rattle.alert_truth.specs.Alerts.{Tells, starred_by_where}
-use Rattle.alert_truth.specs.Stars.{StarsFit, StarsStand, HasPlace, Takes}
+use Rattle.alert_truth.specs.Stars.{StarsFit, StarsStand, HasPlace, Takes, AreMany, IsAway}
 use Rattle.alert_truth.specs.declared.stars.Stars.{Stars}
 use Rattle.alert_truth.proofs.Listings.{listing, secondaries_of, find-none, find-is_some, same-primary, found-step, left-step, primaries-listing, listing-done, lists-none}
 
 -- the alert's first primary, by the flags of the active alerts
 abbrev pub primary_of : Book → List Bool → ℕ → Option ℕ
 primary_of b flags a = cond (get_or flags a false) (find (λ p. get_or flags p false) (primaries b a)) None
+
+-- a list in which that stands already
+set-same : {X : Type 0} (xs : List X) (i : ℕ) (d v : X) → get_or xs i d ≡ v → xs ≡ set xs i v
+set-same xs i d v is = sym (ap (set xs i) (sym is) ∙ set-get_or xs i d)
 
 -- alert a is settled
 pub record IsTaken (b : Book) (flags : List Bool) (now : Stars) (a : ℕ) : Type 0 where
@@ -42,6 +46,14 @@ nothing-taken b flags s fits = record {
   up_places = fits.up;
   taken = λ a below. absurd (omega arith);
   found = λ a from. fits.settled a ∙ sym (find-none (λ p. get_or flags p false) (secondaries_of b) a);
+}
+
+pub half-many : (b : Book) (flags : List Bool) (now : Stars) (i n m : ℕ) → length b.alerts ≡ m → IsHalfTaken b flags now i n → AreMany m now
+half-many b flags now i n m many half = record {
+  found = half.found_places ∙ many;
+  primaries = half.primary_places ∙ many;
+  starred = half.starred_places ∙ many;
+  up = half.up_places ∙ many;
 }
 
 pub place-of-alert : (b : Book) (flags : List Bool) (now : Stars) (i n : ℕ) → i < length b.alerts → IsHalfTaken b flags now i n → HasPlace i now
@@ -129,6 +141,34 @@ module _ (b : Book) (flags : List Bool) (later : (n : ℕ) (own : List ℕ) → 
     taken = half.taken;
     found = λ a from. left-step (λ p. get_or flags p false) (secondaries_of b) a i (get_or now.found.items a None) quiet (half.found a from);
   }
+
+  -- one that is away takes over nothing
+  away-takes : (now : Stars) (i : ℕ) → IsAway i flags now → Takes i (get_or flags i false) now now
+  away-takes now i away =
+      let none : cond (get_or flags i false) (get_or now.found.items i None) None ≡ None =
+      ap (λ f. cond f (get_or now.found.items i None) None) away.off in
+      record {
+        found = set-same now.found.items i None None away.found;
+        primaries = set-same now.primaries.items i None _ (away.primaries ∙ sym none);
+        starred = set-same now.starred.items i false _ (away.starred ∙ sym (ap is_some none));
+        up = set-same now.up.items i false _ (away.up ∙ sym (ap (λ f. f && not (is_some (cond (get_or flags i false) (get_or now.found.items i None) None))) away.off));
+      }
+
+  -- those that are away need no look
+  pub half-skip : (now : Stars) (i d : ℕ) → i + d ≤ length b.alerts → ((a : ℕ) → i ≤ a → a < i + d → IsAway a flags now)
+      → IsHalfTaken b flags now i i → IsHalfTaken b flags now (i + d) (i + d)
+  half-skip now i zero within away half = let e : i ≡ i + 0 = omega arith in subst (λ n. IsHalfTaken b flags now n n) e half
+  half-skip now i (suc d) within away half =
+      let here = away i (omega arith) (omega arith) in
+      let e : suc i + d ≡ i + suc d = omega arith in
+      let on = subst (λ n. IsHalfTaken b flags now (suc i) n) (add-one i) (one-left now i here.off (one-taken now now i (omega arith) (away-takes now i here) half)) in
+      subst (λ n. IsHalfTaken b flags now n n) e (half-skip now (suc i) d (omega arith) (λ a from below. away a (omega arith) (omega arith)) on)
+
+  pub half-on : (now : Stars) (i j : ℕ) → i ≤ j → j ≤ length b.alerts → ((a : ℕ) → i ≤ a → a < j → IsAway a flags now)
+      → IsHalfTaken b flags now i i → IsHalfTaken b flags now j j
+  half-on now i j order within away half =
+      let e : i + (j - i) ≡ j = omega arith in
+      subst (λ n. IsHalfTaken b flags now n n) e (half-skip now i (j - i) (omega arith) (λ a from below. away a from (omega arith)) half)
 
 first-of : (x : Bool) (q : ℕ → Bool) (ps : List ℕ) → cond x (find q ps) None ≡ cond (x && list_any q ps) (find q ps) None
 first-of false q ps = refl

@@ -1,5 +1,5 @@
 -- What the stars say of the alerts that are active.
-use Rattle.std.specs.Prelude.{◌≡◌, ℕ, ◌<◌, Bool, not, ◌&&◌, length, get_or, set, None, is_some, if◌then◌else◌}
+use Rattle.std.specs.Prelude.{◌≡◌, ℕ, ◌<◌, Bool, false, not, ◌&&◌, List, length, get_or, set, None, is_some, if◌then◌else◌}
 use Rattle.ecam_spec.specs.Past.{Signal, previously}
 use Rattle.ecam_spec.specs.Book.{Book}
 use Rattle.alert_truth.specs.Alerts.{Tells, starred_where, starred_by_where, up_where}
@@ -32,3 +32,18 @@ pub record Takes (a : ℕ) (active : Bool) (old new : Stars) : Type 0 where
   pub primaries : new.primaries.items ≡ set old.primaries.items a (if active then get_or old.found.items a None else None)
   pub starred : new.starred.items ≡ set old.starred.items a (is_some (if active then get_or old.found.items a None else None))
   pub up : new.up.items ≡ set old.up.items a (active && not (is_some (if active then get_or old.found.items a None else None)))
+
+-- there are n alerts
+pub record AreMany (n : ℕ) (s : Stars) : Type 0 where
+  pub found : length s.found.items ≡ n
+  pub primaries : length s.primaries.items ≡ n
+  pub starred : length s.starred.items ≡ n
+  pub up : length s.up.items ≡ n
+
+-- alert a isn't active by these flags, no primary was found for it, and all that is told of it is that it is away
+pub record IsAway (a : ℕ) (active : List Bool) (s : Stars) : Type 0 where
+  pub off : get_or active a false ≡ false
+  pub found : get_or s.found.items a None ≡ None
+  pub primaries : get_or s.primaries.items a None ≡ None
+  pub starred : get_or s.starred.items a false ≡ false
+  pub up : get_or s.up.items a false ≡ false

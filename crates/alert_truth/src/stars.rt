@@ -1,5 +1,5 @@
 // Which active alerts a primary failure explains, and which are up.
-ghost use Rattle.std.specs.Prelude.{◌≡◌, ◌↔◌, ℕ, suc, ◌<◌, true, false, length, get_or, find, All, None, Some, IfOk, if◌then◌else◌};
+ghost use Rattle.std.specs.Prelude.{◌≡◌, ◌↔◌, ℕ, suc, ◌<◌, ◌≤◌, true, false, length, get_or, find, All, None, Some, IfOk, if◌then◌else◌};
 ghost use Rattle.std.specs.Option.{option_or};
 ghost use Rattle.std.specs.List.{list_any};
 ghost use Rattle.std.specs.Prelude.{◌==◌};
@@ -8,7 +8,7 @@ ghost use Rattle.ecam_spec.specs.Book as plain;
 ghost use Rattle.ecam_spec.specs.Situation.{primaries};
 ghost use Rattle.book_model.specs.Sealed.{the_book};
 ghost use Rattle.alert_truth.specs.Alerts.{Tells};
-ghost use Rattle.alert_truth.specs.Stars.{StarsFit, StarsStand, HasPlace, Takes};
+ghost use Rattle.alert_truth.specs.Stars.{StarsFit, StarsStand, HasPlace, Takes, AreMany, IsAway};
 
 use book_model::Book;
 use std::alloc::{AllocError, Global};
@@ -66,7 +66,8 @@ impl Stars {
     }
 
     /// Settles which of the active alerts are starred and which are up, in one walk: whatever lists an alert as secondary
-    /// stands before it in the book. Its cost is one look at each alert, and one at each secondary of the active ones.
+    /// stands before it in the book. Its cost is one look at each alert, a few more at those that are active, starred or
+    /// up, or were, and one at each secondary of the active ones.
     pub fn settle(&mut self, active: &[bool], book: &Book)
         requires fits { StarsFit (the_book book.now) self.old }
         requires active { length active.now ≡ length book.now.alerts.items }
@@ -75,33 +76,36 @@ impl Stars {
             → Tells (length book.now.alerts.items) active.now active' (suc k)
             → StarsStand (the_book book.now) active' (suc k) self.new }
     {
-        for alert in 0..book.alerts().len() {
+        book.sealed();
+        let mut alert = self.next_near(active, 0);
+        while alert < active.len() {
             self.star(alert, active[alert]);
             if active[alert] {
                 note(&mut self.found, book.secondaries(alert), alert as u32);
             }
+            alert = self.next_near(active, alert + 1);
         }
     }
 
-    // Takes over what was found for one alert. Most are away, as before, and nothing was found for them: of these nothing is
-    // written.
-    fn star(&mut self, alert: usize, active: bool)
-        requires { HasPlace alert self.old }
-        ensures { Takes alert active self.old self.new }
+    // The first alert from one on that isn't away, or how many there are: one that is active, for which a primary was found, or
+    // of which something is told.
+    fn next_near(&self, active: &[bool], from: usize) -> usize
+        requires from { from ≤ length active.now }
+        requires many { AreMany (length active.now) self.now }
+        ensures from { from ≤ result }
+        ensures end { result ≤ length active.now }
+        ensures away { (a : ℕ) → from ≤ a → a < result → IsAway a active.now self.now }
     {
-        if self.stays_away(alert, active) {
-            return;
+        for i in from..active.len() {
+            if !self.is_away(i, active[i]) {
+                return i;
+            }
         }
-        let primary = only_if(active, self.found[alert]);
-        let starred = primary.is_some();
-        self.found[alert] = None;
-        self.primaries[alert] = primary;
-        self.starred[alert] = starred;
-        self.up[alert] = active && !starred;
+        active.len()
     }
 
     // Whether an alert isn't active, nothing was found for it, and all that is told of it is that it is away.
-    fn stays_away(&self, alert: usize, active: bool) -> bool
+    fn is_away(&self, alert: usize, active: bool) -> bool
         requires { HasPlace alert self.now }
         ensures off { result ≡ true → active ≡ false }
         ensures found { result ≡ true → get_or self.now.found.items alert None ≡ None }
@@ -112,6 +116,19 @@ impl Stars {
         !(active | self.up[alert] | self.starred[alert])
             && self.found[alert].is_none()
             && self.primaries[alert].is_none()
+    }
+
+    // Takes over what was found for one alert.
+    fn star(&mut self, alert: usize, active: bool)
+        requires { HasPlace alert self.old }
+        ensures { Takes alert active self.old self.new }
+    {
+        let primary = only_if(active, self.found[alert]);
+        let starred = primary.is_some();
+        self.found[alert] = None;
+        self.primaries[alert] = primary;
+        self.starred[alert] = starred;
+        self.up[alert] = active && !starred;
     }
 }
 

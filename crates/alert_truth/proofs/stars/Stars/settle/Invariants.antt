@@ -1,7 +1,14 @@
+use Rattle.std.proofs.Common.{◌≤◌, ◌-◌, length}
 use Rattle.book_model.specs.Sealed.{the_book}
 use Rattle.alert_truth.proofs.Starring.{IsHalfTaken}
 use Rattle.alert_truth.proofs.stars.Stars.settle.Given as goal
 
 -- the alerts so far are settled, and have noted themselves
 abbrev pub invariant-loop-alert : goal.invariant-loop-alert
-invariant-loop-alert l = IsHalfTaken (the_book l.book) l.active l.self l.alert l.alert
+invariant-loop-alert l = record {
+  most : l.alert ≤ length l.active;
+  half : IsHalfTaken (the_book l.book) l.active l.self l.alert l.alert;
+}
+
+abbrev pub decreases-loop-alert : goal.decreases-loop-alert
+decreases-loop-alert l = length l.active - l.alert
