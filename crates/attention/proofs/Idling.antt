@@ -1,5 +1,5 @@
 -- An idle alert: a moment in which it isn't up, as in the last, and no press acknowledges, leaves what is kept of it.
-use Rattle.std.proofs.Common.{◌≡◌, ℕ, suc, Bool, true, false, not, ◌&&◌, ◌||◌, cond, refl, sym, ◌∙◌, ap}
+use Rattle.std.proofs.Common.{◌≡◌, ℕ, suc, ◌<◌, ◌≤◌, Bool, true, false, not, ◌&&◌, ◌||◌, cond, Some, List, get_or, slice_get, refl, sym, ◌∙◌, ap, arith}
 use Rattle.ecam_spec.specs.Past.{previous}
 use Rattle.ecam_spec.specs.declared.kinds.Level.{Level}
 use Rattle.ecam_spec.specs.declared.kinds.Level.TheVariants.{One, Two, Three}
@@ -58,3 +58,17 @@ module _ (a : lamps.Attention) (k i : ℕ) (w : Watch) (up pressing : Bool) (idl
 
   pub idle-silent : lamps.calls a i k ≡ false
   idle-silent = silent-down a k i w idle-stays (ap not off.0)
+
+-- some alerts in a row that are idle
+pub idle-row : (a : lamps.Attention) (k n from to : ℕ) (watches : List Watch) (ups : List Bool) (p : Presses) (pressing : Bool)
+    → ArePresses a k p → pressing ≡ (p.mw || (p.mc || p.emer)) → to ≤ n
+    → ((j : ℕ) → j < n → get_or ups j false ≡ a.up j k)
+    → ((j : ℕ) → from ≤ j → j < n → slice_get watches j ≡ Some (watch_after a j k))
+    → ((j : ℕ) (w : Watch) → from ≤ j → j < to → slice_get watches j ≡ Some w → not (w.up || (get_or ups j false || pressing)) ≡ true)
+    → (j : ℕ) → from ≤ j → j < to → (watch_after a j k ≡ watch_after a j (suc k)) × (lamps.calls a j k ≡ false)
+idle-row a k n from to watches ups p pressing are any within up kept idle j low below =
+    let here = idle j (watch_after a j k) low below (kept j low (omega arith)) in
+    let quiet : pressing ≡ false → lamps.acknowledges a (a.level j) k ≡ false = λ off. none-acknowledged a k p are (sym any ∙ off) (a.level j) in (
+      idle-stays a k j (watch_after a j k) (get_or ups j false) pressing here (up j (omega arith)) refl quiet,
+      idle-silent a k j (watch_after a j k) (get_or ups j false) pressing here (up j (omega arith)) refl quiet,
+    )

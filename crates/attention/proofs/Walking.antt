@@ -1,5 +1,5 @@
 -- A walk over the alerts, on its way: some have been stepped to the new moment, and the others haven't.
-use Rattle.std.proofs.Common.{◌≡◌, ◌≢◌, ℕ, zero, suc, ◌+◌, ◌<◌, ◌≤◌, Bool, true, false, List, [], ◌∷◌, ◌++◌, length, get_or, set, cond, add-one, slice_get, Some, inl, inr, refl, sym, ◌∙◌, ap, arith}
+use Rattle.std.proofs.Common.{◌≡◌, ◌≢◌, ℕ, zero, suc, ◌+◌, ◌-◌, ◌<◌, ◌≤◌, Bool, true, false, List, [], ◌∷◌, ◌++◌, length, get_or, set, cond, add-one, slice_get, Some, inl, inr, refl, sym, ◌∙◌, ap, subst, arith}
 use Rattle.std.specs.Prelude.{filter}
 use Rattle.std.proofs.lemmas.List.{append-nil, length-set, get_or-set_same, set-get_or}
 use Rattle.std.proofs.lemmas.List.Elements.{filter-append}
@@ -83,6 +83,28 @@ module _ (a : lamps.Attention) (k n : ℕ) (shown : ℕ → Bool) where
       → HalfWalked a k n i shown watches c → HalfWalked a k n (i + 1) shown watches c
   half-idle i watches c d within long stays silent half =
       half-more i watches watches c c (get_or watches i d) within long (sym (set-get_or watches i d)) stays (calls-idle i c silent half.calls) half
+
+  -- and so do some in a row
+  pub half-skip : (i d : ℕ) (watches : List Watch) (c : Calls) → i + d ≤ n → length watches ≡ n
+      → ((j : ℕ) → i ≤ j → j < i + d → (watch_after a j k ≡ watch_after a j (suc k)) × (lamps.calls a j k ≡ false))
+      → HalfWalked a k n i shown watches c → HalfWalked a k n (i + d) shown watches c
+  half-skip i zero watches c within long idle half = let e : i ≡ i + 0 = omega arith in subst (λ m. HalfWalked a k n m shown watches c) e half
+  half-skip i (suc d) watches c within long idle half =
+      let here = idle i (omega arith) (omega arith) in
+      let e : (i + 1) + d ≡ i + suc d = omega arith in
+      let stays : get_or watches i (watch_after a i k) ≡ watch_after a i (suc k) =
+      half-read i watches c (watch_after a i k) (omega arith) half ∙ here.0 in
+      subst (λ m. HalfWalked a k n m shown watches c) e
+      (half-skip (i + 1) d watches c (omega arith) long (λ j from below. idle j (omega arith) (omega arith))
+      (half-idle i watches c (watch_after a i k) (omega arith) long stays here.1 half))
+
+  pub half-on : (i j : ℕ) (watches : List Watch) (c : Calls) → i ≤ j → j ≤ n → length watches ≡ n
+      → ((m : ℕ) → i ≤ m → m < j → (watch_after a m k ≡ watch_after a m (suc k)) × (lamps.calls a m k ≡ false))
+      → HalfWalked a k n i shown watches c → HalfWalked a k n j shown watches c
+  half-on i j watches c order within long idle half =
+      let e : i + (j - i) ≡ j = omega arith in
+      subst (λ m. HalfWalked a k n m shown watches c) e
+      (half-skip i (j - i) watches c (omega arith) long (λ m from below. idle m from (omega arith)) half)
 
   -- the whole walk
   pub all-walked : (i : ℕ) (watches : List Watch) (c : Calls) → n ≤ i → HalfWalked a k n i shown watches c → AreWatched a (suc k) n watches

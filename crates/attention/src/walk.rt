@@ -1,10 +1,11 @@
 // One look at each alert.
-ghost use Rattle.std.specs.Prelude.{◌≡◌, ◌↔◌, ◌<◌, ℕ, suc, false, length, filter, get_or, slice_set};
+ghost use Rattle.std.specs.Prelude.{◌≡◌, ◌↔◌, ◌<◌, ◌≤◌, ◌||◌, ℕ, suc, Some, true, false, not, length, filter, get_or, slice_get, slice_set};
 ghost use Rattle.ecam_spec.specs.Lamps as lamps;
 ghost use Rattle.ecam_spec.specs.Places.{below};
 ghost use Rattle.attention.specs.Watches.{AreWatched};
 ghost use Rattle.attention.specs.Moments.{IsMoment};
 ghost use Rattle.attention.specs.Calling.{AreCalls};
+ghost use Rattle.attention.specs.declared.watch.Watch.{Watch};
 
 use crate::calls::Calls;
 use crate::moment::Moment;
@@ -29,19 +30,35 @@ pub fn walk(watches: &mut [Watch], alerts: &[Alert], moment: &Moment) -> Calls
 {
     let mut calls = Calls::none();
     let pressing = moment.presses.any();
-    for (i, alert) in alerts.iter().enumerate() {
-        // Most are idle, and call for nothing.
-        if watches[i].is_idle(moment.up[i], pressing) {
-            continue;
-        }
+    let mut i = next_busy(watches, moment.up, pressing, 0);
+    while i < alerts.len() {
+        let alert = &alerts[i];
         let pressed = moment.presses.acknowledge(alert.level);
         let watch = watches[i].next(moment.up[i], pressed, moment.number);
         keep(watches, i, watch);
         if moment.shown[i] {
             calls = calls.with(alert, watch);
         }
+        i = next_busy(watches, moment.up, pressing, i + 1);
     }
     calls
+}
+
+// The first alert from one on that isn't idle, or how many there are. Most are idle, and call for nothing.
+fn next_busy(watches: &[Watch], up: &[bool], pressing: bool, from: usize) -> usize
+    requires from { from ≤ length watches.now }
+    requires up { length up.now ≡ length watches.now }
+    ensures from { from ≤ result }
+    ensures end { result ≤ length watches.now }
+    ensures idle { (i : ℕ) (w : Watch) → from ≤ i → i < result → slice_get watches.now i ≡ Some w
+        → not (w.up || (get_or up.now i false || pressing)) ≡ true }
+{
+    for i in from..watches.len() {
+        if !watches[i].is_idle(up[i], pressing) {
+            return i;
+        }
+    }
+    watches.len()
 }
 
 // What is kept of an alert becomes this. It is written only where it is another than before.
