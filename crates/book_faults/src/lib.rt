@@ -4,7 +4,6 @@
 mod faults;
 mod keys;
 pub mod rules;
-mod same;
 mod searches;
 mod sections;
 mod tables;

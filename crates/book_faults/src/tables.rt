@@ -20,12 +20,12 @@ use crate::keys::{
     named_keys, page_keys, param_keys, phase_keys, status_keys, text_row_keys, value_row_keys,
 };
 use crate::rules::{Asked, has_wrong_count, leaf_breaks};
-use crate::same::is_same;
 use book_spec::{Inner, Item, Leaf, Rule, Shape};
 use book_tables::Scope;
 use book_tables::fields::{find, members_of};
 use ecam_spec::Kind;
 use std::alloc::{AllocError, Global};
+use term_text::is_same;
 use toml::{Table, Value};
 
 fn has_key<S>(keys: &[Key<S>], name: &str) -> bool

@@ -6,7 +6,6 @@ pub mod conditions;
 pub mod fields;
 mod names;
 pub mod places;
-mod same;
 pub mod texts;
 pub mod words;
 

@@ -3,9 +3,9 @@ ghost use Rattle.std.specs.Prelude.{◌≡◌};
 ghost use Rattle.term_text.specs.Words.{found_in};
 ghost use Rattle.book_spec.specs.Schema.{meaning, kind_words, sound_words, section_words, zone_words, colour_words};
 
-use crate::same::is_same;
 use ecam_kinds::{Colour, Sound};
 use ecam_spec::Kind;
+use term_text::is_same;
 
 /// How the words of a parameter are read: the kind that a word of the list names.
 #[tactic(auto, unfolding(book_spec::specs::Schema::kind_words))]

@@ -25,5 +25,6 @@ pub use error::TermError;
 pub use laws::readable_conditions;
 pub use names::{Dictionary, Names};
 pub use read::{read_term, read_term_by};
+pub use same::is_same;
 pub use words::is_reserved;
 pub use write::write_term;
