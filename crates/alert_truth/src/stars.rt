@@ -113,9 +113,11 @@ impl Stars {
         ensures starred { result ≡ true → get_or self.now.starred.items alert false ≡ false }
         ensures up { result ≡ true → get_or self.now.up.items alert false ≡ false }
     {
-        !(active | self.up[alert] | self.starred[alert])
-            && self.found[alert].is_none()
-            && self.primaries[alert].is_none()
+        !(active
+            | self.up[alert]
+            | self.starred[alert]
+            | self.found[alert].is_some()
+            | self.primaries[alert].is_some())
     }
 
     // Takes over what was found for one alert.

@@ -130,7 +130,7 @@ impl Sets {
         ensures shown { result ≡ true → up ≡ slice_index_or self.now.shown alert false }
         ensures touched { result ≡ true → is_touched (mark_at self.now alert) ≡ false }
     {
-        self.shown[alert] == up && !self.touched[alert]
+        !((self.shown[alert] != up) | self.touched[alert])
     }
 
     /// No alert is marked any more.
