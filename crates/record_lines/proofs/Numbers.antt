@@ -1,10 +1,10 @@
 -- The numbers of a line, against the lists of numbers that its form allows.
-use Rattle.std.proofs.Common.{◌≡◌, ℕ, zero, suc, ◌+◌, ◌<◌, Bool, true, false, ◌&&◌, List, [], ◌∷◌, ◌++◌, length, get_or, take, drop, Option, Some, None, cond, eqb, refl, sym, ◌∙◌, ap, arith, inl, inr}
+use Rattle.std.proofs.Common.{◌≡◌, ℕ, zero, suc, ◌+◌, ◌*◌, ◌<◌, Bool, true, false, ◌&&◌, List, [], ◌∷◌, ◌++◌, length, get_or, take, drop, Option, Some, None, cond, eqb, refl, sym, ◌∙◌, ap, arith, inl, inr}
 use Rattle.std.proofs.lemmas.Bool.{eqb-true, and_parts, cases_eq, ne_eqb, false≢true, false_from_ne_true}
 use Rattle.std.proofs.lemmas.Option.{same_Some}
 use Rattle.std.proofs.lemmas.Slice.Eq.{bytes_eq-Decides}
 use Rattle.std.proofs.lemmas.List.Folds.{find-append}
-use Rattle.std.proofs.lemmas.List.{take-append-drop, get_or-drop}
+use Rattle.std.proofs.lemmas.List.{take-append-drop, get_or-drop, get_or-map}
 use Rattle.std.specs.Option.{option_or}
 use Rattle.std.specs.Prelude.{find, map, decimal, codes, option_map}
 use Rattle.std.specs.Fmt.{digits}
@@ -13,7 +13,7 @@ use Rattle.std.proofs.Math.Bool.{and-false}
 use Rattle.ecam_spec.specs.declared.kinds.Key.{Key}
 use Rattle.ecam_spec.specs.declared.kinds.Key.TheVariants.{Clr, Rcl, Sts, All, Emer, ToCfg, Mw, Mc, Page}
 use Rattle.ecam_spec.specs.Places.{below}
-use Rattle.ecam_spec.specs.RecordLine.{bus_of, computer_of, digit_of, key_of, key_words}
+use Rattle.ecam_spec.specs.RecordLine.{bus_of, computer_of, key_of, key_words}
 use Rattle.record_lines.specs.Line.{number_within, named_key_of, worth}
 
 -- ---- two functions that agree at each number below a bound, by computing
@@ -191,11 +191,18 @@ key_of-prefix word number begins is bytes =
     let read : get_or word (2 + k) 0 ≡ get_or number k 0 = sym (get_or-drop 2 word k 0) ∙ ap (λ l. get_or l k 0) (sym is) in
     omega arith)
 
--- ---- what each byte is worth as a hexadecimal digit
+-- ---- what each byte is worth as a hexadecimal digit at a place
 
-worth-all : options_agree (λ c. Some (get_or (map worth (below 256)) c 0)) (λ c. Some (worth c)) 256 ≡ true
-unfolding options_agree same_option below worth digit_of
-worth-all = refl
+below-all : options_agree (λ c. Some (get_or (below 256) c 0)) (λ c. Some c) 256 ≡ true
+unfolding options_agree same_option below
+below-all = refl
 
-pub worth_at : (c : ℕ) → c < 256 → get_or (map worth (below 256)) c 0 ≡ worth c
-worth_at c small = same_Some (get_or (map worth (below 256)) c 0) (worth c) (options_agree-at (λ c. Some (get_or (map worth (below 256)) c 0)) (λ c. Some (worth c)) 256 c worth-all small)
+below-long : length (below 256) ≡ 256
+unfolding below
+below-long = refl
+
+below_at : (c : ℕ) → c < 256 → get_or (below 256) c 0 ≡ c
+below_at c small = same_Some (get_or (below 256) c 0) c (options_agree-at (λ c. Some (get_or (below 256) c 0)) (λ c. Some c) 256 c below-all small)
+
+pub worth_at : (place c : ℕ) → c < 256 → get_or (map (λ d. place * worth d) (below 256)) c 0 ≡ place * worth c
+worth_at place c small = get_or-map (λ d. place * worth d) (below 256) c 0 0 (let long = below-long in omega arith) ∙ ap (λ d. place * worth d) (below_at c small)
