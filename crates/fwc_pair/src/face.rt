@@ -27,16 +27,12 @@ fn mend_row(rows: &mut [Row], changed: &mut [bool], place: usize, row: &Row, nam
     }
 }
 
-// Whether any row is named, or all are meant. Its cost is a few looks at many flags at once, and none where it is known
-// that no row is meant.
-fn has_any(named: &[bool; ROWS], all: bool, none: bool) -> bool
-    requires named { none ≡ true → NoneChanged named.now }
-    requires all { none ≡ true → all ≡ false }
+// Whether any row is named, or all are meant. Its cost is a few looks at many flags at once.
+fn has_any(named: &[bool; ROWS], all: bool) -> bool
     ensures all { result ≡ false → all ≡ false }
     ensures named { result ≡ false → NoneChanged named.now }
-    ensures none { none ≡ true → result ≡ false }
 {
-    !none && (all || named.contains(&true))
+    all || named.contains(&true)
 }
 
 // Puts the named rows of a picture, or all of them, in their places.
@@ -60,30 +56,31 @@ fn mend_rows(
     }
 }
 
-// The same, where no row is looked at if none is named, and no flag if it is known that no row is meant.
+// The same, where no row is looked at if none is named.
 #[inline(always)]
-fn mend(
-    rows: &mut [Row],
-    changed: &mut [bool],
-    picture: &[Row],
-    named: &[bool; ROWS],
-    all: bool,
-    none: bool,
-)
+fn mend(rows: &mut [Row], changed: &mut [bool], picture: &[Row], named: &[bool; ROWS], all: bool)
     requires whole { IsWhole (tracked rows.old changed.old) }
     requires picture { length picture.now ≡ ROWS }
-    requires named { none ≡ true → NoneChanged named.now }
-    requires all { none ≡ true → all ≡ false }
     ensures whole { IsWhole (tracked rows.new changed.new) }
     ensures mended { (all ≡ false → OthersStand named.now (rows_of rows.old) (rows_of picture.now))
         → IsMended (rows_of picture.now) (tracked rows.old changed.old)
         (tracked rows.new changed.new) }
-    ensures kept { none ≡ true → changed.new ≡ changed.old }
 {
-    if has_any(named, all, none) {
+    if has_any(named, all) {
         mend_rows(rows, changed, picture, named, all);
     }
 }
+
+// Rows of which none is named stand mended as they are.
+#[inline(always)]
+fn keep(_rows: &[Row], _changed: &[bool], _picture: &[Row], _named: &[bool; ROWS])
+    requires whole { IsWhole (tracked _rows.now _changed.now) }
+    requires picture { length _picture.now ≡ ROWS }
+    requires named { NoneChanged _named.now }
+    ensures { OthersStand _named.now (rows_of _rows.now) (rows_of _picture.now)
+        → IsMended (rows_of _picture.now) (tracked _rows.now _changed.now)
+        (tracked _rows.now _changed.now) }
+{}
 
 // Mends the rows so that the picture stands that is shown while no computer is up.
 fn mend_dead(rows: &mut [Row], changed: &mut [bool])
@@ -116,16 +113,18 @@ fn show_lane(face: &mut Picture, changed: &mut [bool; ROWS], lane: &Lane) -> boo
     ensures still { result ≡ true → NoneChanged changed.new }
 {
     let begins = lane.moments < 2;
-    let still = lane.calm && !begins;
+    if lane.calm && !begins {
+        keep(&face.rows, changed, &lane.picture.rows, &lane.changed);
+        return true;
+    }
     mend(
         &mut face.rows,
         changed,
         &lane.picture.rows,
         &lane.changed,
         begins,
-        still,
     );
-    still
+    false
 }
 
 #[inline(never)]

@@ -11,7 +11,3 @@ returns-else-has_any-clause-mended c = λ others.
     let long = length-map c.args.picture.now row_of ∙ c.requires.picture in
     mended-stands (rows_of c.args.picture.now) (tracked c.args.rows.now c.args.changed.now) c.requires.whole.rows long
     (λ i within. others (c.has_any.ensures.all none) i within (c.has_any.ensures.named none i within))
-
-pub returns-then-has_any-clause-kept : goal.returns-then-has_any-clause-kept
-returns-then-has_any-clause-kept c = λ none.
-    absurd (let w : ⊥ = cc (c.has_any.ensures.none none, c.if-has_any.true) in w)
