@@ -68,6 +68,7 @@ impl Stars {
     /// Settles which of the active alerts are starred and which are up, in one walk: whatever lists an alert as secondary
     /// stands before it in the book. Its cost is one look at each alert, a few more at those that are active, starred or
     /// up, or were, and one at each secondary of the active ones.
+    #[inline(never)]
     pub fn settle(&mut self, active: &[bool], book: &Book)
         requires fits { StarsFit (the_book book.now) self.old }
         requires active { length active.now ≡ length book.now.alerts.items }
