@@ -8,7 +8,7 @@ use Rattle.book_spec.specs.declared.schema.Rule.{Rule}
 use Rattle.book_spec.specs.declared.schema.Rule.TheVariants as rules
 use Rattle.book_faults.specs.declared.rules.Asked.{Asked}
 use Rattle.book_faults.specs.declared.rules.Asked.TheVariants.{One, Every, Unread}
-use Rattle.book_faults.specs.Asked.{any_asked, keys_fail, table_fails}
+use Rattle.book_faults.specs.Asked.{keys_fail, table_fails}
 use Rattle.book_faults.specs.KeysOnce.{asks_known, asks_needed, value_fails, key_fails}
 use Rattle.book_faults.proofs.EveryRule.{any_or, keys_or_values}
 

@@ -1,11 +1,12 @@
 -- The rules for which conditions are read: what keeps them where no condition is refused.
-use Rattle.std.proofs.Common.{◌≡◌, ℕ, Bool, true, false, List, [], ◌∷◌, Option, Some, None, inl, inr, refl}
+use Rattle.std.proofs.Common.{◌≡◌, ℕ, Bool, true, false, List, [], ◌∷◌, Option, Some, None, is_some, inl, inr, refl}
 use Rattle.std.specs.Prelude.{codes, filter, unwrap_or}
 use Rattle.std.specs.List.{list_any}
 use Rattle.std.proofs.lemmas.Bool.{or_parts, cases_Bool}
 use Rattle.toml.specs.Data.{Data, Members, no_members, get_member, as_table}
 use Rattle.ecam_spec.specs.TermText.{Outcome, means}
-use Rattle.book_spec.specs.Schema.{Key, line_keys, status_keys, alert_keys, memo_keys, phase_keys, inner_keys, item_keys}
+use Rattle.book_spec.specs.Fields.{◌>>=◌}
+use Rattle.book_spec.specs.Schema.{Key, line_keys, status_keys, named_keys, alert_keys, memo_keys, phase_keys, inner_keys, item_keys}
 use Rattle.book_spec.specs.Rules.{Names, members_of, list_in, outcome_in, term_fails, parameter_fails, leaf_breaks, is_misspelled, has_unknown, is_too_much, has_wrong_number}
 use Rattle.book_spec.specs.TableRules.{is_no_table, list_breaks, keys_break, if_there, table_breaks, if_table, inner_breaks, shape_breaks, item_breaks}
 use Rattle.book_spec.specs.Defaults.{table_in}
@@ -17,6 +18,7 @@ use Rattle.book_spec.specs.declared.schema.Shape.TheVariants as shapes
 use Rattle.book_spec.specs.declared.schema.Item.TheVariants as items
 use Rattle.book_spec.specs.declared.schema.Rule.{Rule}
 use Rattle.book_spec.specs.declared.schema.Rule.TheVariants as rules
+use Rattle.book_tables.specs.Meant.{meant, meant_in}
 use Rattle.book_faults.specs.Refused.{refuses}
 use Rattle.book_faults.specs.Readable.{refused_at, refused_in_phase, refused_in_line, refused_in_alert, refused_in_memo}
 
@@ -232,6 +234,24 @@ module _ (names : Names) where
       rw (no_type r value)
       (of_table (λ t. table_breaks (shape_breaks names (rule_of r)) (rule_of r) alert_keys t) value
       (shapes_kept r alert_keys table (rw (shape_at r (get_member (codes "when") table) parts.0, lines_at r 0 16 (get_member (codes "line") table) parts.1) refl)))
+
+  -- the text of a named condition means one
+  meant_kept : (o : Option Outcome) → is_some (meant o) ≡ true → (elim o [ None ↦ false | Some outcome ↦ refuses outcome ]) ≡ false
+  meant_kept None h = absurd (cc)
+  meant_kept (Some (means tree)) h = refl
+  meant_kept (Some _) h = absurd (cc)
+
+  meant_at : (o : Option Data) → is_some (meant (o >>= outcome_in names)) ≡ true → if_there (term_fails names refuses leaves.Term) o ≡ false
+  meant_at None h = refl
+  meant_at (Some value) h = meant_kept (outcome_in names value) h
+
+  pub named_kept : (r : ReadRule) (value : Data) → is_some (meant_in names value) ≡ true → item_breaks names (rule_of r) items.Term value ≡ false
+  unfolding item_breaks item_keys named_keys
+  named_kept r value h =
+      let table = table_in value in
+      rw (no_type r value)
+      (of_table (λ t. table_breaks (shape_breaks names (rule_of r)) (rule_of r) named_keys t) value
+      (shapes_kept r named_keys table (rw (shape_at r (get_member (codes "when") table) (meant_at (get_member (codes "when") table) h)) refl)))
 
   pub memo_kept : (r : ReadRule) (value : Data) → refused_in_memo names value ≡ false → item_breaks names (rule_of r) items.Memo value ≡ false
   unfolding item_breaks item_keys memo_keys

@@ -64,7 +64,7 @@ module _ (top : Members) where
       system_fault code asked
       ∷ items_fault code asked section.Page (codes "page") PAGES items.Page
       ∷ items_fault code asked section.Param (codes "param") PARAMETERS items.Param
-      ∷ items_fault code asked section.Term (codes "term") NAMED_TERMS items.Term
+      ∷ items_fault code drafted section.Term (codes "term") NAMED_TERMS items.Term
       ∷ phase_fault code drafted
       ∷ alerts_fault code drafted
       ∷ items_fault code drafted section.Memo (codes "memo") MEMOS items.Memo

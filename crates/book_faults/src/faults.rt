@@ -7,6 +7,7 @@ ghost use Rattle.book_spec.specs.Document.{top_keys};
 ghost use Rattle.book_spec.specs.Rules.{list_in};
 ghost use Rattle.book_spec.specs.Document as spec;
 ghost use Rattle.book_tables.specs.Catalogue.{table_in, IsComplete};
+ghost use Rattle.book_tables.specs.Meant.{AreMeant};
 ghost use Rattle.book_faults.specs.declared.rules.Asked.TheVariants.{Every, Unread};
 ghost use Rattle.book_faults.specs.Readable.{AreReadable};
 ghost use Rattle.book_faults.specs.FaultParts.{system_fault, listed_fault, alerts_fault, phase_fault, asked_fault, taken_fault, rule_faults, ordered_fault, top_fault};
@@ -147,8 +148,8 @@ fn phase_fault(
     Ok(fault_at(code, Section::Phase, whole(breaks)))
 }
 
-/// The first section that breaks a rule that is asked for, and its first item. Of the flight phase, alerts and memos,
-/// whose conditions are drafted, other rules may be asked for than of the sections before them.
+/// The first section that breaks a rule that is asked for, and its first item. Of named conditions, the flight phase,
+/// alerts and memos, whose conditions are drafted, other rules may be asked for than of the sections before them.
 #[tactic(auto, unfolding(crate::specs::FaultParts::asked_fault))]
 fn rule_fault(
     alloc: Global,
@@ -172,7 +173,7 @@ fn rule_fault(
     if fault.is_some() {
         return Ok(fault);
     }
-    let fault = listed_fault(alloc, names, code, asked, &TERMS)?;
+    let fault = listed_fault(alloc, names, code, drafted, &TERMS)?;
     if fault.is_some() {
         return Ok(fault);
     }
@@ -310,12 +311,18 @@ fn top_fault(top: &Table) -> Option<BookFault>
     None
 }
 
-/// Whether a document breaks no rule but by the text of a condition that is drafted. It is one pass through it, which
-/// ends where a rule is broken; which one it is doesn't count here, so that no code is told.
+/// Whether a document breaks no rule but by the text of a condition of the flight phase, of an alert or of a memo. It is
+/// one pass through it, which ends where a rule is broken; which one it is doesn't count here, so that no code is told.
+/// Named conditions were read with the names.
 fn keeps_rules(alloc: Global, names: &Catalogue<'_>) -> Result<bool, AllocError>
     requires { IsComplete names.now }
-    ensures { IfOk result (λ b. b ≡ is_none (asked_fault (table_in names.now) 0 Every Unread)) }
+    ensures meant { IfOk result (λ b. b ≡ true → AreMeant (table_in names.now)) }
+    ensures kept { IfOk result (λ b. b ≡ true
+        → is_none (asked_fault (table_in names.now) 0 Every Unread) ≡ true) }
 {
+    if !names.are_meant() {
+        return Ok(false);
+    }
     let fault = rule_fault(alloc, names, 0, Asked::Every, Asked::Unread)?;
     Ok(fault.is_none())
 }
@@ -345,9 +352,9 @@ fn ordered_fault(alloc: Global, names: &Catalogue<'_>) -> Result<Option<BookFaul
     first_rule_fault(alloc, names, &AFTER_NAMES)
 }
 
-/// Whether a document has no fault but such as the texts of the conditions that are drafted have, which aren't read here:
-/// then it has none if each of them means a condition. It is one pass through the document, and two hashes of
-/// each name. An error is want of memory.
+/// Whether a document has no fault but such as the texts of the conditions of the flight phase, alerts and memos have:
+/// then it has none if each of them means a condition. It is one pass through the document, in which no condition is read,
+/// and two hashes of each name. An error is want of memory.
 pub fn is_faultless_if_readable(alloc: Global, names: &Catalogue<'_>) -> Result<bool, AllocError>
     requires { IsComplete names.now }
     ensures { IfOk result (λ b. b ≡ true → AreReadable (table_in names.now)

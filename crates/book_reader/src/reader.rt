@@ -111,10 +111,10 @@ fn draft_in(alloc: Global, top: &Table) -> Result<Draft, LoadError>
 }
 
 /// Reads a book: the draft that its document is, or the first of its faults with the codes 1 to 19, or
-/// `LoadError::Memory`, which tells that memory ran out and nothing of the book. It costs two passes through the
-/// document, one that reads no condition but named ones and one that drafts it and reads each of the others once; a
-/// look-up of a name costs a hash of it, and as a rule a comparison. Where there is a fault, each code up to its own is one
-/// more search.
+/// `LoadError::Memory`, which tells that memory ran out and nothing of the book. It reads each condition once, named ones
+/// with the names. It costs two passes through the document, one that reads no condition and one that drafts it and reads
+/// all but named ones; a look-up of a name costs a hash of it, and as a rule a comparison. Where there is a fault, each
+/// code up to its own is one more search.
 pub fn read_book(alloc: Global, bytes: &[u8]) -> Result<Draft, LoadError>
     ensures draft { IfOk result (λ d. spec.draft_of_bytes bytes.now ≡ Some (draft_of d)) }
     ensures sound { IfOk result (λ d. IsSound (draft_of d)) }

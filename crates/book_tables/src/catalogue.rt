@@ -1,9 +1,10 @@
 // The names of a document, its named conditions read.
-ghost use Rattle.std.specs.Prelude.{◌≡◌, take, IfOk};
+ghost use Rattle.std.specs.Prelude.{◌≡◌, true, take, IfOk};
 ghost use Rattle.toml.specs.View.{table_view};
 ghost use Rattle.term_tree.specs.View.{named_terms};
 ghost use Rattle.book_spec.specs.Document as document;
 ghost use Rattle.book_tables.specs.Places.{HasFewItems};
+ghost use Rattle.book_tables.specs.Meant.{AreMeant};
 
 use crate::conditions::named_in;
 use crate::fields::list_in;
@@ -20,6 +21,8 @@ pub struct Catalogue<'a> {
     pub places: Places<'a>,
     /// Its named conditions.
     pub terms: Vec<NamedTerm>,
+    are_meant: bool,
+    ghost meant: { are_meant ≡ true → AreMeant (table_view places.top.now) },
     pub ghost few: { HasFewItems (table_view places.top.now) },
 }
 
@@ -35,8 +38,19 @@ impl<'a> Catalogue<'a> {
         ensures complete { IfOk result IsComplete }
     {
         let places = Places::new(alloc, top)?;
-        let terms = named_terms(alloc, &places)?;
-        Ok(Catalogue { places, terms })
+        let (terms, are_meant) = named_terms(alloc, &places)?;
+        Ok(Catalogue {
+            places,
+            terms,
+            are_meant,
+        })
+    }
+
+    /// Whether the text of each named condition means one.
+    pub fn are_meant(&self) -> bool
+        ensures { result ≡ true → AreMeant (table_in self.now) }
+    {
+        self.are_meant
     }
 
     /// The names that conditions may use which aren't named themselves.
@@ -85,20 +99,24 @@ fn first(terms: &[NamedTerm], count: usize) -> &[NamedTerm]
     }
 }
 
-// The named conditions of a document, each read where those before it are known.
-fn named_terms(alloc: Global, places: &Places<'_>) -> Result<Vec<NamedTerm>, AllocError>
-    ensures { IfOk result (λ v. named_terms v.items
+// The named conditions of a document, each read where those before it are known, and whether the text of each means one.
+fn named_terms(alloc: Global, places: &Places<'_>) -> Result<(Vec<NamedTerm>, bool), AllocError>
+    ensures value { IfOk result (λ t. named_terms t.0.items
         ≡ document.named_terms (table_view places.now.top.now)) }
+    ensures meant { IfOk result (λ t. t.1 ≡ true
+        → AreMeant (table_view places.now.top.now)) }
 {
-    let mut terms = Vec::new(alloc);
     let items = list_in(places.top, "term");
+    let mut terms = Vec::with_capacity(alloc, items.len())?;
+    let mut are_meant = true;
     for item in items {
         let known = Scope {
             places,
             terms: terms.as_slice(),
         };
-        let term = named_in(alloc, &known, item)?;
+        let (term, is_meant) = named_in(alloc, &known, item)?;
         terms.push(term)?;
+        are_meant &= is_meant;
     }
-    Ok(terms)
+    Ok((terms, are_meant))
 }

@@ -1,5 +1,5 @@
 // The conditions of a document.
-ghost use Rattle.std.specs.Prelude.{◌≡◌, ◌≤◌, Some, length, option_copied, IfSome, IfOk};
+ghost use Rattle.std.specs.Prelude.{◌≡◌, ◌≤◌, Some, length, true, is_some, unwrap_or, option_copied, option_map, IfSome, IfOk};
 ghost use Rattle.std.specs.Option.{option_and_then};
 ghost use Rattle.toml.specs.Data.{get_member};
 ghost use Rattle.toml.specs.View.{view, table_view};
@@ -7,9 +7,11 @@ ghost use Rattle.ecam_spec.specs.Book.{constant};
 ghost use Rattle.term_tree.specs.View.{tree_of, named_term};
 ghost use Rattle.term_text.specs.Answer.{Tells};
 ghost use Rattle.book_spec.specs.Fields.{term_text_in};
+ghost use Rattle.book_spec.specs.Rules.{outcome_in};
 ghost use Rattle.book_spec.specs.Verdict.{verdict};
 ghost use Rattle.book_spec.specs.Defaults as defaults;
 ghost use Rattle.book_tables.specs.Catalogue.{names_in, term_names_in};
+ghost use Rattle.book_tables.specs.Meant.{meant, meant_in};
 
 use crate::fields::{find, name_or_none, table_or, term_text_in};
 use crate::names::Scope;
@@ -36,56 +38,65 @@ fn term_text_at<'a>(table: &'a Table, key: &str) -> Option<&'a str>
     term_text_in(find(table, key)?)
 }
 
-// The condition that a text means, or the constant.
-fn meaning_or(
-    alloc: Global,
-    names: &Scope<'_, '_>,
-    text: &str,
-    default: bool,
-) -> Result<Cond, AllocError>
+// The condition that a text means, if it means one.
+fn meaning_of(alloc: Global, names: &Scope<'_, '_>, text: &str) -> Result<Option<Cond>, AllocError>
     requires { length text.now ≤ TERM_TEXT }
-    ensures { IfOk result (λ c. tree_of c ≡ defaults.tree_or (constant default)
-        (Some (verdict (term_names_in names.now) text.now))) }
+    ensures { IfOk result (λ c. option_map tree_of c
+        ≡ meant (Some (verdict (term_names_in names.now) text.now))) }
 {
     match read_condition(alloc, text, names) {
-        Ok(cond) => Ok(cond),
+        Ok(cond) => Ok(Some(cond)),
         Err(TermError::Memory) => Err(AllocError),
-        Err(_) => Ok(Cond::Const(default)),
+        Err(_) => Ok(None),
     }
 }
 
-// The condition at a key, or this constant where there is none or its text is refused.
-#[tactic(auto, unfolding(book_spec::specs::Defaults::term_or, book_spec::specs::Rules::outcome_in))]
-fn condition_or(
+// The condition at a key, if there is one and its text means it.
+#[tactic(auto, unfolding(book_spec::specs::Rules::outcome_in))]
+fn meaning_at(
     alloc: Global,
     names: &Scope<'_, '_>,
     table: &Table,
     key: &str,
-    default: bool,
-) -> Result<Cond, AllocError>
-    ensures { IfOk result (λ c. tree_of c
-        ≡ defaults.term_or default (names_in names.now) key.now (table_view table.now)) }
+) -> Result<Option<Cond>, AllocError>
+    ensures { IfOk result (λ c. option_map tree_of c ≡ meant (option_and_then
+        (outcome_in (names_in names.now)) (get_member key.now (table_view table.now)))) }
 {
     match term_text_at(table, key) {
-        Some(text) => meaning_or(alloc, names, text, default),
-        None => Ok(Cond::Const(default)),
+        Some(text) => meaning_of(alloc, names, text),
+        None => Ok(None),
     }
 }
 
-/// The condition that an item names, which is `true` where its text means none.
-#[tactic(auto, unfolding(book_spec::specs::Defaults::named_in))]
+// The condition that a text means, or `true` where it means none.
+fn meaning_or_true(meaning: Option<Cond>) -> Cond
+    ensures { tree_of result ≡ unwrap_or (option_map tree_of meaning) (constant true) }
+{
+    match meaning {
+        Some(cond) => cond,
+        None => Cond::Const(true),
+    }
+}
+
+/// The condition that an item names, which is `true` where its text means none, and whether it means one.
+#[tactic(auto, using(crate::proofs::MeantTerms::named_meant))]
 pub(crate) fn named_in(
     alloc: Global,
     names: &Scope<'_, '_>,
     value: &Value,
-) -> Result<NamedTerm, AllocError>
-    ensures { IfOk result (λ t. named_term t
+) -> Result<(NamedTerm, bool), AllocError>
+    ensures value { IfOk result (λ t. named_term t.0
         ≡ defaults.named_in (names_in names.now) (view value.now)) }
+    ensures meant { IfOk result (λ t. t.1
+        ≡ is_some (meant_in (names_in names.now) (view value.now))) }
 {
     let empty = Table::new(alloc);
     let table = table_or(value, &empty);
-    Ok(NamedTerm {
+    let meaning = meaning_at(alloc, names, table, "when")?;
+    let is_meant = meaning.is_some();
+    let term = NamedTerm {
         name: name_or_none(table),
-        cond: condition_or(alloc, names, table, "when", true)?,
-    })
+        cond: meaning_or_true(meaning),
+    };
+    Ok((term, is_meant))
 }
