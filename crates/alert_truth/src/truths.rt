@@ -175,12 +175,34 @@ impl Truths {
         ensures moments { self.new.moments ≡ self.old.moments + 1 }
         ensures restless { self.new.restless ≡ self.old.restless }
         ensures changed { self.new.changed ≡ self.old.changing }
+        ensures changing { self.new.changing ≡ false }
     {
         if self.changing {
             self.stars.settle(&self.active, book);
         }
         self.changed = self.changing;
         self.changing = false;
+        self.moments += 1;
+    }
+
+    /// Ends the moment like `settle`, where no alert has become another in it, nor had in the moment before. Its cost is one
+    /// write.
+    pub fn pass(&mut self, book: &Book)
+        requires fits { TruthsFit (the_book book.now) self.old }
+        requires goes_on { CanGoOn self.old }
+        requires changing { self.old.changing ≡ false }
+        requires changed { self.old.changed ≡ false }
+        ensures fits { TruthsFit (the_book book.now) self.new }
+        ensures stands { (conditions : ℕ → Signal) (phases : ℕ → ℕ) (k : ℕ)
+            → HalfStand (the_book book.now) conditions phases k (length book.now.alerts.items)
+            self.old
+            → TruthsStand (the_book book.now) conditions phases (suc k) self.new }
+        ensures moments { self.new.moments ≡ self.old.moments + 1 }
+        ensures restless { self.new.restless ≡ self.old.restless }
+        ensures changed { self.new.changed ≡ self.old.changing }
+        ensures changing { self.new.changing ≡ false }
+    {
+        let _ = book;
         self.moments += 1;
     }
 }

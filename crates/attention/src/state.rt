@@ -148,6 +148,21 @@ impl Attention {
         self.changed = false; // the calls stay, and so does the sound
     }
 
+    /// Takes one moment more like `pass`, where the last one changed neither the lights nor the sound. Its cost is one write.
+    pub fn go_on(&mut self)
+        requires goes_on { CanGoOn self.old }
+        requires steady { IsSteady self.old }
+        requires changed { self.old.changed ≡ false }
+        ensures fits { (b : plain.Book) → AttentionFits b self.old → AttentionFits b self.new }
+        ensures moments { self.new.moments ≡ self.old.moments + 1 }
+        ensures changed { self.new.changed ≡ false }
+        ensures steady { IsSteady self.new }
+        ensures stands { (b : plain.Book) (a : lamps.Attention) (k : ℕ) → NothingComes a k
+            → AttentionStands b a (suc k) self.old → AttentionStands b a (suc (suc k)) self.new }
+    {
+        self.moments += 1;
+    }
+
     /// Takes one moment more like `step`, where each alert is up and shown as in the moment before. It looks at no alert
     /// unless a press acknowledges or the moment is the first.
     pub fn step_still(&mut self, book: &Book, up: &[bool], shown: &[bool], keys: &Keys)

@@ -8,4 +8,5 @@ pub mod Stepping
 pub mod Resting
 pub mod Ending
 pub mod Quiet
+pub mod Passing
 pub mod Settling

@@ -1,5 +1,5 @@
 -- What is kept of the crew's actions, as plain data.
-use Rattle.std.specs.Prelude.{◌≡◌, ℕ, ◌+◌, ◌-◌, ◌^◌, ◌<◌, Bool, false, ◌&&◌, nat_le, Option, get_or}
+use Rattle.std.specs.Prelude.{◌≡◌, ℕ, ◌+◌, ◌-◌, ◌^◌, ◌<◌, Bool, false, ◌&&◌, nat_le, Option, None, is_none, get_or, if◌then◌else◌}
 use Rattle.std.specs.Option.{option_map_or}
 use Rattle.ecam_spec.specs.declared.kinds.Key.TheVariants.{Clr}
 use Rattle.ecam_spec.specs.Crew.{is_alert}
@@ -47,6 +47,13 @@ strikes m keys a = is_pressed keys Clr && is_alert a m.first
 -- shown, that of the press among them
 abbrev pub stands_normal : Option ℕ → ℕ → Bool
 stands_normal press moments = option_map_or (λ j. nat_le (moments - j) 30) press false
+
+-- a moment in which nothing acts would leave all but the number of moments: such a one was the last
+pub record IsSettled (m : CrewMarks) : Type 0 where
+  pub target : m.target ≡ m.first
+  pub changed : m.changed ≡ false
+  pub held_since : m.held_since ≡ None
+  pub quiet_press : m.quiet_press ≡ (if is_none m.first then m.quiet_press else None)
 
 -- a moment ends that found this, and before whose end RCL was held since then
 pub record EndsMoment (found : Walked) (held : Option ℕ) (old new : CrewMarks) : Type 0 where

@@ -6,7 +6,7 @@ ghost use Rattle.ecam_spec.specs.Past.{Signal, previous, previously, last_since}
 ghost use Rattle.ecam_spec.specs.Crew.{Cockpit, normal};
 ghost use Rattle.ecam_kinds.specs.KeyState.{is_pressed};
 ghost use Rattle.book_model.specs.Sealed.{the_book};
-ghost use Rattle.crew_marks.specs.CrewMarks.{CanGoOn, EndsMoment, is_shown, is_cancelled, strikes, stands_normal};
+ghost use Rattle.crew_marks.specs.CrewMarks.{CanGoOn, EndsMoment, is_shown, is_cancelled, strikes, stands_normal, IsSettled};
 ghost use Rattle.crew_marks.specs.MarksState.{IsCrewOf, SeesCrew, AreStill, NothingActs, MarksFit, MarksStand, OnlyCleared};
 
 use crate::mark::actions_of;
@@ -188,9 +188,28 @@ impl Marks {
         ensures stands { (b : plain.Book) (c : Cockpit) (k : ℕ) → MarksFit b self.old
             → IsCrewOf b c → NothingActs c k → AreStill b c k → MarksStand b c k self.old
             → MarksStand b c (suc k) self.new }
+        ensures settled { IsSettled self.new }
     {
         let walked = Walked::unchanged(self.first);
         self.end_moment(walked, false, None);
+    }
+
+    /// Takes one moment more like `rest`, after one that it took. All stays as that left it: its cost is one write.
+    pub fn pass(&mut self)
+        requires goes_on { CanGoOn self.old }
+        requires settled { IsSettled self.old }
+        ensures fits { (b : plain.Book) → MarksFit b self.old → MarksFit b self.new }
+        ensures moments { self.new.moments ≡ self.old.moments + 1 }
+        ensures sets { self.new.sets ≡ self.old.sets }
+        ensures changed { self.new.changed ≡ false }
+        ensures normal { stands_normal self.old.quiet_press self.old.moments ≡ false
+            → stands_normal self.new.quiet_press self.new.moments ≡ false }
+        ensures stands { (b : plain.Book) (c : Cockpit) (k : ℕ) → MarksFit b self.old
+            → IsCrewOf b c → NothingActs c k → AreStill b c k → MarksStand b c k self.old
+            → MarksStand b c (suc k) self.new }
+        ensures settled { IsSettled self.new }
+    {
+        self.moments += 1;
     }
 
     // Ends the moment in which the marks became what they are.

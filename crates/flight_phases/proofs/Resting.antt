@@ -1,5 +1,5 @@
 -- A moment with the inputs of the one before.
-use Rattle.std.proofs.Common.{◌≡◌, ℕ, suc, ◌+◌, ◌<◌, ◌≤◌, ◌⊎◌, inl, inr, min, Bool, true, false, not, ◌&&◌, ◌||◌, nat_eq, refl, sym, ◌∙◌, ap, IsTrue, arith}
+use Rattle.std.proofs.Common.{◌≡◌, ℕ, suc, ◌+◌, ◌<◌, ◌≤◌, ◌⊎◌, inl, inr, min, Bool, true, false, not, ◌&&◌, ◌||◌, nat_eq, refl, sym, ◌∙◌, ap, IsTrue, subst, arith}
 use Rattle.std.proofs.Math.Nat.{eq-or-lt_of_le}
 use Rattle.std.proofs.lemmas.Bool.{cases_lt}
 use Rattle.ecam_spec.specs.Phase.{Flight, parked, running, airborne, trip, high_last, climbed, phase, ground_phase}
@@ -87,3 +87,13 @@ module _ (f : Flight) (k : ℕ) (same : SameInputs f k) where
         | inl young ↦ phase-shutdown f (suc k) (min (age + 1) 3000) after_trip next tripped (omega (arith, young)) ∙ sym (phase-shutdown f k age after_trip stands tripped (omega (arith, young)))
         | inr old ↦ phase-stand f (suc k) (min (age + 1) 3000) after_trip next (inl (tripped, omega (arith, old))) ∙ sym (phase-stand f k age after_trip stands (inl (tripped, old)))
       ]
+
+  -- it was parked for five minutes: nothing is counted any more
+  pub parked_long-rest : (age : ℕ) (after_trip : Bool) → age ≡ 3000 → StandsAs f k (Parked age after_trip) → StandsAs f (suc k) (Parked age after_trip)
+  parked_long-rest age after_trip is stands =
+      let end : min (age + 1) 3000 ≡ age = omega (arith, is) in
+      subst (λ n. StandsAs f (suc k) (Parked n after_trip)) end (parked_on-rest age after_trip stands)
+
+  pub phase-long-rest : (age : ℕ) (after_trip : Bool) → age ≡ 3000 → StandsAs f k (Parked age after_trip) → phase f (suc k) ≡ phase f k
+  phase-long-rest age true is stands = phase-shutdown-rest age true stands refl (rw is refl)
+  phase-long-rest age false is stands = phase-stand-rest age false stands refl

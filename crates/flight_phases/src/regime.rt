@@ -83,6 +83,20 @@ impl Regime {
         }
     }
 
+    /// Whether a moment that has the inputs of this one leaves the regime as it is, and so does each after it. Nothing is
+    /// counted any more where the aircraft was parked for five minutes, and while it isn't parked.
+    pub fn is_steady(self) -> bool
+        ensures phase { result ≡ true → (f : Flight) (k : ℕ) → StandsAs f k self → SameInputs f k
+            → phase f (suc k) ≡ phase f k }
+        ensures stands { result ≡ true → (f : Flight) (k : ℕ) → SameInputs f k → StandsAs f k self
+            → StandsAs f (suc k) self }
+    {
+        match self {
+            Regime::Parked { age, after_trip: _ } => age == SHUTDOWN_MOMENTS,
+            Regime::Running { .. } | Regime::Airborne { .. } => true,
+        }
+    }
+
     // The climb, where the next moment is in the air.
     fn next_climb(self, inputs: &PhaseInputs) -> Climb
         ensures { (f : Flight) (k : ℕ) → StandsAs f k self → IsTrue (airborne f (suc k))

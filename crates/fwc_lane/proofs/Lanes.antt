@@ -15,7 +15,7 @@ use Rattle.ecam_kinds.specs.KeyState.{KeysStand}
 use Rattle.param_table.specs.declared.table.Params.{Params}
 use Rattle.param_table.specs.TableState.{ParamsFit, ParamsStand}
 use Rattle.fwc_lane.specs.declared.lane.Lane.{Lane}
-use Rattle.fwc_lane.specs.Calm.{IsCalm}
+use Rattle.fwc_lane.specs.Calm.{IsCalm, IsIdle}
 use Rattle.fwc_lane.specs.LaneFits.{LaneFits}
 use Rattle.fwc_lane.specs.LaneStands.{WholeStands, Continues, HasWords, HasStrokes, LaneStands, AreUp}
 use Rattle.fwc_lane.specs.Given.{Came}
@@ -47,11 +47,11 @@ module _ (b : Book) (e : Era) (x : Event) (quiet : is_tick x ≡ false) where
         | inr lt ↦ ap (λ (z : Moment). z.strokes) (moment_kept e x i quiet lt)
       ]
 
-  module _ (old : Lane) (stands : LaneStands b e old) (p : Params) (q : Keys) where
-    whole-kept : (m : ℕ → Moment) → Continues (era_with e x) m → WholeStands b m (length (era_with e x).moments) (record old { params = p; keys = q })
+  module _ (old : Lane) (stands : LaneStands b e old) (p : Params) (q : Keys) (i : Bool) where
+    whole-kept : (m : ℕ → Moment) → Continues (era_with e x) m → WholeStands b m (length (era_with e x).moments) (record old { params = p; keys = q; idle = i })
     whole-kept m goes =
         let was = stands.whole m (whole-continues m goes) in
-        subst (λ n. WholeStands b m n (record old { params = p; keys = q })) (sym same-length) record {
+        subst (λ n. WholeStands b m n (record old { params = p; keys = q; idle = i })) (sym same-length) record {
           counted = was.counted;
           ticked = was.ticked;
           terms = was.terms;
@@ -68,10 +68,10 @@ module _ (b : Book) (e : Era) (x : Event) (quiet : is_tick x ≡ false) where
           changed = was.changed;
         }
 
-    quiet-lane : LaneFits b (record old { params = p; keys = q })
+    quiet-lane : LaneFits b (record old { params = p; keys = q; idle = i })
         → ((words : ℕ → List BusWord) → HasWords (era_with e x) words → ParamsStand b words (length e.moments) p)
         → ((strokes : ℕ → List Stroke) → HasStrokes (era_with e x) strokes → KeysStand strokes (length e.moments) q)
-        → LaneStands b (era_with e x) (record old { params = p; keys = q })
+        → LaneStands b (era_with e x) (record old { params = p; keys = q; idle = i })
     quiet-lane fits params keys = record {
       fits = fits;
       params = λ words has. subst (λ n. ParamsStand b words n p) (sym same-length) (params words has);
@@ -80,12 +80,30 @@ module _ (b : Book) (e : Era) (x : Event) (quiet : is_tick x ≡ false) where
     }
 
 -- a calm lane stays calm with other words and keys
-pub calm-with : (old : Lane) (p : Params) (q : Keys) → IsCalm old → IsCalm (record old { params = p; keys = q })
-calm-with old p q calm = record { ticked = calm.ticked; restless = calm.restless; steady = calm.steady; normal = calm.normal; changed = calm.changed }
+pub calm-with : (old : Lane) (p : Params) (q : Keys) (i : Bool) → IsCalm old → IsCalm (record old { params = p; keys = q; idle = i })
+calm-with old p q i calm = record { ticked = calm.ticked; restless = calm.restless; steady = calm.steady; normal = calm.normal; changed = calm.changed }
+
+-- an idle lane stays idle with other words
+pub idle-with : (old : Lane) (p : Params) → IsIdle old → IsIdle (record old { params = p })
+idle-with old p idle = record {
+  calm = calm-with old p old.keys old.idle idle.calm;
+  pressed = idle.pressed;
+  rcl = idle.rcl;
+  all = idle.all;
+  before = idle.before;
+  phase = idle.phase;
+  state = idle.state;
+  changing = idle.changing;
+  changed = idle.changed;
+  marks = idle.marks;
+  lights = idle.lights;
+  all_since = idle.all_since;
+  choice = idle.choice;
+}
 
 -- the parts of a lane that came into being fit as the lane did before
-pub fits-with : (b : Book) (old : Lane) (p : Params) (q : Keys) → LaneFits b old → ParamsFit b p → LaneFits b (record old { params = p; keys = q })
-fits-with b old p q fits own = record {
+pub fits-with : (b : Book) (old : Lane) (p : Params) (q : Keys) (i : Bool) → LaneFits b old → ParamsFit b p → (i ≡ true → IsIdle (record old { params = p; keys = q; idle = i })) → LaneFits b (record old { params = p; keys = q; idle = i })
+fits-with b old p q i fits own idle = record {
   params = own;
   truths = fits.truths;
   marks = fits.marks;
@@ -100,7 +118,8 @@ fits-with b old p q fits own = record {
   marks_moments = fits.marks_moments;
   attention_moments = fits.attention_moments;
   selector_moments = fits.selector_moments;
-  calm = λ on. calm-with old p q (fits.calm on);
+  calm = λ on. calm-with old p q i (fits.calm on);
+  idle = idle;
 }
 
 -- a word
@@ -110,7 +129,7 @@ pub word-lane : (b : Book) (e : Era) (bus bits : ℕ) (old : Lane) (p : Params) 
 word-lane b e bus bits old p stands fits takes =
     let x = Word bus bits in
     let at = moment_word e bus bits in
-    quiet-lane b e x refl old stands p old.keys (fits-with b old p old.keys stands.fits fits)
+    quiet-lane b e x refl old stands p old.keys old.idle (fits-with b old p old.keys old.idle stands.fits fits (λ on. idle-with old p (stands.fits.idle on)))
     (λ words has.
     takes (words_in b (moment_of e)) words (length e.moments)
     (record {
@@ -125,9 +144,9 @@ pub stroke-lane : (b : Book) (e : Era) (x : Event) (s : Stroke) (old : Lane) (q 
     → (moment_of (era_with e x) (length e.moments)).words ≡ (moment_of e (length e.moments)).words
     → (moment_of (era_with e x) (length e.moments)).strokes ≡ (moment_of e (length e.moments)).strokes ++ s ∷ []
     → LaneStands b e old → ((before after : ℕ → List Stroke) (k : ℕ) → OneMore before after k s → KeysStand before k old.keys → KeysStand after k q)
-    → LaneStands b (era_with e x) (record old { keys = q })
+    → LaneStands b (era_with e x) (record old { keys = q; idle = false })
 stroke-lane b e x s old q quiet words strokes stands takes =
-    quiet-lane b e x quiet old stands old.params q (fits-with b old old.params q stands.fits stands.fits.params)
+    quiet-lane b e x quiet old stands old.params q false (fits-with b old old.params q false stands.fits stands.fits.params (λ on. absurd (let w : ⊥ = cc in w)))
     (λ ws has. stands.params ws (words-kept b e x quiet words ws has))
     (λ ss has.
     takes (strokes_in b (moment_of e)) ss (length e.moments)
@@ -139,20 +158,20 @@ stroke-lane b e x s old q quiet words strokes stands takes =
 
 pub press-lane : (b : Book) (e : Era) (key : Key) (old : Lane) (q : Keys) → LaneStands b e old
     → ((before after : ℕ → List Stroke) (k : ℕ) → OneMore before after k (record { key = key; down = true }) → KeysStand before k old.keys → KeysStand after k q)
-    → LaneStands b (era_with e (Press key)) (record old { keys = q })
+    → LaneStands b (era_with e (Press key)) (record old { keys = q; idle = false })
 press-lane b e key old q stands takes =
     stroke-lane b e (Press key) (record { key = key; down = true }) old q refl (ap (λ (z : Moment). z.words) (moment_press e key)) (ap (λ (z : Moment). z.strokes) (moment_press e key)) stands takes
 
 pub release-lane : (b : Book) (e : Era) (key : Key) (old : Lane) (q : Keys) → LaneStands b e old
     → ((before after : ℕ → List Stroke) (k : ℕ) → OneMore before after k (record { key = key; down = false }) → KeysStand before k old.keys → KeysStand after k q)
-    → LaneStands b (era_with e (Release key)) (record old { keys = q })
+    → LaneStands b (era_with e (Release key)) (record old { keys = q; idle = false })
 release-lane b e key old q stands takes =
     stroke-lane b e (Release key) (record { key = key; down = false }) old q refl (ap (λ (z : Moment). z.words) (moment_release e key)) (ap (λ (z : Moment). z.strokes) (moment_release e key)) stands takes
 
 -- a computer fails or comes up
 computer-lane : (b : Book) (e : Era) (x : Event) (old : Lane) → is_tick x ≡ false → changes_computers x ≡ true → LaneStands b e old → LaneStands b (era_with e x) old
 computer-lane b e x old quiet changes stands =
-    quiet-lane b e x quiet old stands old.params old.keys stands.fits
+    quiet-lane b e x quiet old stands old.params old.keys old.idle stands.fits
     (λ ws has. stands.params ws (words-kept b e x quiet (ap (λ (z : Moment). z.words) (moment_computers e x changes)) ws has))
     (λ ss has. stands.keys ss (strokes-kept b e x quiet (ap (λ (z : Moment). z.strokes) (moment_computers e x changes)) ss has))
 

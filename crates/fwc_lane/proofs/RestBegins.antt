@@ -96,4 +96,4 @@ module _ (d : Draft) (sealed : IsSealed d) (m : ℕ → Moment) (old : Lane) (fi
   pub begun : HasBegun b m k old.terms.one_up old.terms.two_up false (record old { terms = unmarked })
   begun =
       has-begun b m k old.terms.one_up old.terms.two_up false old unmarked old.values was came begun-terms
-      (values-told b m k old.values.items (λ p lt. was.values p lt ∙ sym (stay (words_in b m) k came.words p lt))) (λ off. refl)
+      (values-told b m k old.values.items (λ p lt. was.values p lt ∙ sym (stay (words_in b m) k came.words p lt))) (λ off. refl) old.idle

@@ -1,5 +1,5 @@
 -- A moment in which nothing changes: what a lane is then.
-use Rattle.std.proofs.Common.{◌≡◌, ℕ, suc, ◌+◌, ◌-◌, ◌^◌, ◌≤◌, ◌<◌, min, false, not, [], length, refl, sym, ap, subst, ◌∙◌, arith, add-one}
+use Rattle.std.proofs.Common.{◌≡◌, ℕ, suc, ◌+◌, ◌-◌, ◌^◌, ◌≤◌, ◌<◌, min, Bool, false, not, [], length, refl, sym, ap, subst, ◌∙◌, arith, add-one}
 use Rattle.std.proofs.lemmas.Bool.{lt-ltb}
 use Rattle.ecam_spec.specs.Past.{Signal}
 use Rattle.ecam_spec.specs.Book.{Book}
@@ -179,7 +179,7 @@ module _ (d : Draft) (sealed : IsSealed d) (m : ℕ → Moment) (old : Lane) (fi
           calm_is = sym (normal-off b (cockpit b m) (suc k) marks marks-after (parts.normal rest.calm.normal));
         }
 
-    module _ (params : Params) (keys : Keys) (whole : IsWhole (tracked old.picture.rows old.changed)) where
+    module _ (params : Params) (keys : Keys) (idle : Bool) (whole : IsWhole (tracked old.picture.rows old.changed)) where
       pub rest-whole : WholeStands b m (suc k)
           (record old {
             phase_state = state;
@@ -190,6 +190,7 @@ module _ (d : Draft) (sealed : IsSealed d) (m : ℕ → Moment) (old : Lane) (fi
             moments = old.moments + 1;
             params = params;
             keys = keys;
+            idle = idle;
           })
       rest-whole = record {
         counted = add-one k;

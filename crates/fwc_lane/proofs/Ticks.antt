@@ -122,9 +122,9 @@ terms-after b m k visited t params keys kept one two same all came =
 
 -- a moment has begun in a lane that stood for those before it
 pub has-begun : (b : Book) (m : ℕ → Moment) (k : ℕ) (one two turned : Bool) (old : Lane) (t : Terms) (values : Vec (Option ℤ) Global) → WholeStands b m k old → Came b m k old.params old.keys one two
-    → BookHalf b m k 0 0 t.cells.visits t → ((p : ℕ) → p < length b.parameters → get_or values.items p None ≡ value_in b m p k) → (turned ≡ false → values.items ≡ old.values.items)
-    → HasBegun b m k one two turned (record old { terms = t; values = values })
-has-begun b m k one two turned old t values was came half told kept = record {
+    → BookHalf b m k 0 0 t.cells.visits t → ((p : ℕ) → p < length b.parameters → get_or values.items p None ≡ value_in b m p k) → (turned ≡ false → values.items ≡ old.values.items) → (idle : Bool)
+    → HasBegun b m k one two turned (record old { terms = t; values = values; idle = idle })
+has-begun b m k one two turned old t values was came half told kept idle = record {
   came = came;
   values = told;
   kept = λ off j e p lt. sym (told p lt) ∙ ap (λ vs. get_or vs p None) (kept off) ∙ value-before b m k old.values.items was.values j e p lt;

@@ -1,5 +1,5 @@
 -- When a lane is at rest.
-use Rattle.std.specs.Prelude.{◌≡◌, ℕ, suc, ◌<◌, true, false, List, length, get_or, slice_index}
+use Rattle.std.specs.Prelude.{◌≡◌, ℕ, suc, ◌<◌, true, false, List, None, length, get_or, slice_index}
 use Rattle.ecam_spec.specs.declared.kinds.Key.TheVariants.{Rcl, All}
 use Rattle.ecam_spec.specs.declared.limits.TheConstants.{PICTURE_ROWS}
 use Rattle.ecam_spec.specs.Book.{Book}
@@ -13,7 +13,7 @@ use Rattle.param_table.specs.TableState.{ParamsStand, value_before}
 use Rattle.flight_phases.specs.Inputs.{SameInputs}
 use Rattle.flight_phases.specs.State.{Stands}
 use Rattle.flight_phases.specs.declared.state.PhaseState.{PhaseState}
-use Rattle.crew_marks.specs.CrewMarks.{stands_normal}
+use Rattle.crew_marks.specs.CrewMarks.{stands_normal, IsSettled}
 use Rattle.attention.specs.State.{IsSteady}
 use Rattle.fwc_lane.specs.Strokes.{NonePressed}
 use Rattle.fwc_lane.specs.declared.lane.Lane.{Lane}
@@ -45,3 +45,20 @@ PhaseStays state = (f : Flight) (k : ℕ) → Stands f (suc k) state → SameInp
 abbrev pub ValuesStay : Book → Params → Type 0
 ValuesStay b params = (words : ℕ → List BusWord) (k : ℕ) → ParamsStand b words k params
     → (p : ℕ) → p < length b.parameters → value (parameter_at b p) words k ≡ value_before (parameter_at b p) words k
+
+-- nothing acts in the moment that hasn't ended, nor did in the one before, and the parts that this left stay as they are as long
+-- as nothing does
+pub record IsIdle (l : Lane) : Type 0 where
+  pub calm : IsCalm l
+  pub pressed : NonePressed l.keys
+  pub rcl : is_held l.keys Rcl ≡ false
+  pub all : is_held l.keys All ≡ false
+  pub before : NonePressed l.terms.keys
+  pub phase : PhaseStays l.phase_state
+  pub state : (f : Flight) (k : ℕ) → SameInputs f k → Stands f (suc k) l.phase_state → Stands f (suc (suc k)) l.phase_state
+  pub changing : l.truths.changing ≡ false
+  pub changed : l.truths.changed ≡ false
+  pub marks : IsSettled l.marks
+  pub lights : l.attention.changed ≡ false
+  pub all_since : l.selector.all_since ≡ None
+  pub choice : l.selector.changed ≡ false

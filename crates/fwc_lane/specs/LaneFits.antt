@@ -9,10 +9,10 @@ use Rattle.attention.specs.State.{AttentionFits}
 use Rattle.system_display.specs.Selecting.{SelectorFits}
 use Rattle.system_display.specs.Pages.{AreShort}
 use Rattle.fwc_lane.specs.TermsFit.{TermsFit}
-use Rattle.fwc_lane.specs.Calm.{IsCalm}
+use Rattle.fwc_lane.specs.Calm.{IsCalm, IsIdle}
 use Rattle.fwc_lane.specs.declared.lane.Lane.{Lane}
 
--- its parts were made for the book, and have counted the same moments, and it is calm where it says so. Nothing is said of
+-- its parts were made for the book, and have counted the same moments, and it is calm and idle where it says so. Nothing is said of
 -- any history
 pub record LaneFits (b : Book) (l : Lane) : Type 0 where
   pub params : ParamsFit b l.params
@@ -30,6 +30,7 @@ pub record LaneFits (b : Book) (l : Lane) : Type 0 where
   pub attention_moments : l.attention.moments ≡ l.moments
   pub selector_moments : l.selector.moments ≡ l.moments
   pub calm : l.calm ≡ true → IsCalm l
+  pub idle : l.idle ≡ true → IsIdle l
 
 -- the number of moments can grow: there are 2 ^ 63 moments of 100 ms in 29 thousand million years
 abbrev pub CanGoOn : Lane → Type 0

@@ -5,6 +5,7 @@ ghost use Rattle.ecam_spec.specs.Value.{BusWord};
 ghost use Rattle.ecam_spec.specs.History.{Flags, Moment, Stroke, Era, empty_era, era_with};
 ghost use Rattle.ecam_spec.specs.Replay.{is_tick, moment_of};
 ghost use Rattle.ecam_spec.specs.Keys.{IsEvent};
+ghost use Rattle.ecam_spec.specs.declared.kinds.Event.TheVariants.{Word};
 ghost use Rattle.book_model.specs.Sealed.{the_book};
 ghost use Rattle.fwc_lane.specs.LaneFits.{LaneFits, CanGoOn};
 ghost use Rattle.fwc_lane.specs.LaneStands.{LaneStands, WholeStands, AreUp};
@@ -67,6 +68,9 @@ pub struct Lane {
     /// The last moment left all at rest: no alert is restless, no chime or NORMAL can end, and no row changed. Where it isn't
     /// set it says nothing.
     pub calm: bool,
+    /// The last moment changed nothing, and no key came since: where no value turns, no condition is due and no computer fails
+    /// or comes up, this one changes nothing either. Where it isn't set it says nothing.
+    pub idle: bool,
     /// How many moments there were: the number of the one that hasn't ended.
     pub moments: u64,
     /// The picture of the last moment, blank before the first.
@@ -109,6 +113,7 @@ impl Lane {
             memos,
             ticked: false,
             calm: false,
+            idle: false,
             moments: 0,
             picture: Picture::blank(),
             changed: [false; ROWS],
@@ -137,13 +142,14 @@ impl Lane {
         self.keys = Strokes::new();
         self.ticked = false;
         self.calm = false;
+        self.idle = false;
         self.moments = 0;
         self.picture.copy_from(&Picture::blank());
         self.changed = [false; ROWS];
     }
 
-    /// Takes over all that another lane of the same book holds, but for the count of visits, and for `calm`, which the next
-    /// moment says again. Its cost is a copy of each of its lists.
+    /// Takes over all that another lane of the same book holds, but for the count of visits, and for `calm` and `idle`,
+    /// which the next moments say again. Its cost is a copy of each of its lists.
     pub fn copy_from(&mut self, other: &Lane)
         requires { (b : plain.Book) × LaneFits b self.old × LaneFits b other.now }
         ensures fits { (b : plain.Book) → LaneFits b self.old → LaneFits b other.now
@@ -167,6 +173,7 @@ impl Lane {
         self.memos.copy_from_slice(&other.memos);
         self.ticked = other.ticked;
         self.calm = false;
+        self.idle = false;
         self.moments = other.moments;
         self.picture.copy_from(&other.picture);
         self.changed = other.changed;
@@ -179,7 +186,8 @@ impl Lane {
     /// of the conditions that the moment wakes, and a few looks at each alert, line and memo; a zone of the picture is filled
     /// only where something that it shows turned. A Tick in which no parameter may have another value, no condition is due
     /// and no key acts, after one that left all at rest, costs a few looks and writes, besides what the end of a moment costs
-    /// the parameters: it looks at no condition, alert, line, memo or row.
+    /// the parameters: it looks at no condition, alert, line, memo or row. After another such Tick, with no key between them
+    /// and the phase not timed, it costs eight looks and six counts in all.
     // (It stands in its caller, so that a word goes to its sources at once.)
     #[inline(always)]
     pub fn event(&mut self, book: &Book, event: &Event, one_up: bool, two_up: bool)
@@ -206,17 +214,66 @@ impl Lane {
         match event {
             Event::Word { bus, bits } => self.params.take(book, *bus, *bits),
             Event::Tick => self.tick(book, one_up, two_up),
-            Event::Press(key) => self.keys.press(*key),
-            Event::Release(key) => self.keys.release(*key),
+            Event::Press(key) => {
+                self.keys.press(*key);
+                self.idle = false;
+            }
+            Event::Release(key) => {
+                self.keys.release(*key);
+                self.idle = false;
+            }
             Event::Fail(_) => {}
             Event::Up(_) => {}
             Event::End => {}
         }
     }
 
-    // The moment ends. (It stands by itself, so that a word takes none of the room that a Tick needs.)
-    #[inline(never)]
+    /// Whether any source of the book listens to a word's bus and label. A word to which none does leaves each lane of the book
+    /// as it is. Its cost is one look-up.
+    #[inline(always)]
+    pub fn hears(&self, book: &Book, bus: u8, bits: u32) -> bool
+        requires { LaneFits (the_book book.now) self.now }
+        ensures { result ≡ false → (l : Lane) (e : Era) → LaneStands (the_book book.now) e l
+            → LaneStands (the_book book.now) (era_with e (Word bus bits)) l }
+    {
+        self.params.listens(book, bus, bits)
+    }
+
+    // The moment ends. (It stands in its caller, so that an idle moment costs no call.)
+    #[inline(always)]
     fn tick(&mut self, book: &Book, one_up: bool, two_up: bool)
+        requires fits { LaneFits (the_book book.now) self.old }
+        requires goes_on { CanGoOn self.old }
+        ensures fits { LaneFits (the_book book.now) self.new }
+        ensures moments { self.new.moments ≡ self.old.moments + 1 }
+        ensures params { (words : ℕ → List BusWord) (k : ℕ) → words (suc k) ≡ []
+            → ParamsStand (the_book book.now) words k self.old.params
+            → ParamsStand (the_book book.now) words (suc k) self.new.params }
+        ensures keys { (strokes : ℕ → List Stroke) (k : ℕ) → strokes (suc k) ≡ []
+            → KeysStand strokes k self.old.keys → KeysStand strokes (suc k) self.new.keys }
+        ensures whole { (m : ℕ → Moment)
+            → Came (the_book book.now) m self.old.moments self.old.params self.old.keys one_up
+            two_up
+            → WholeStands (the_book book.now) m self.old.moments self.old
+            → WholeStands (the_book book.now) m (suc self.old.moments) self.new }
+        ensures visits { (m : ℕ → Moment)
+            → Came (the_book book.now) m self.old.moments self.old.params self.old.keys one_up
+            two_up
+            → WholeStands (the_book book.now) m self.old.moments self.old
+            → self.new.terms.cells.visits ≡ min (self.old.terms.cells.visits
+            + visits (the_book book.now) m self.old.moments) (2 ^ 64 - 1) }
+    {
+        if self.idles(book, one_up, two_up) {
+            self.pass(book);
+            return;
+        }
+        self.rest_or_step(book, one_up, two_up)
+    }
+
+    // The moment ends, where it isn't known beforehand that nothing acts. (It stands by itself, so that an idle moment takes
+    // none of the room that this needs.)
+    #[inline(never)]
+    fn rest_or_step(&mut self, book: &Book, one_up: bool, two_up: bool)
         requires fits { LaneFits (the_book book.now) self.old }
         requires goes_on { CanGoOn self.old }
         ensures fits { LaneFits (the_book book.now) self.new }
@@ -270,6 +327,7 @@ impl Lane {
             → self.new.terms.cells.visits ≡ min (self.old.terms.cells.visits
             + visits (the_book book.now) m self.old.moments) (2 ^ 64 - 1) }
     {
+        self.idle = false;
         let values = begin_moment(
             &mut self.terms,
             &mut self.values,
@@ -286,6 +344,7 @@ impl Lane {
     // The moment that has begun ends, whatever it wakes.
     fn finish(&mut self, book: &Book, values: bool, one_up: bool, two_up: bool)
         requires fits { LaneFits (the_book book.now) self.old }
+        requires idle { self.old.idle ≡ false }
         requires goes_on { CanGoOn self.old }
         ensures fits { LaneFits (the_book book.now) self.new }
         ensures moments { self.new.moments ≡ self.old.moments + 1 }

@@ -4,13 +4,13 @@ ghost use Rattle.ecam_spec.specs.Value.{BusWord};
 ghost use Rattle.ecam_spec.specs.History.{Moment, Stroke};
 ghost use Rattle.ecam_kinds.specs.KeyState.{KeysStand};
 ghost use Rattle.book_model.specs.Sealed.{the_book};
-ghost use Rattle.param_table.specs.TableState.{ParamsFit, ParamsStand};
+ghost use Rattle.param_table.specs.TableState.{ParamsFit, ParamsStand, IsStill};
 ghost use Rattle.wakes.specs.Marks.{is_marked};
 ghost use Rattle.crew_marks.specs.CrewMarks.{stands_normal};
 ghost use Rattle.attention.specs.State.{IsSteady};
 ghost use Rattle.zone_rows.specs.Tracked.{tracked, IsWhole};
 ghost use Rattle.fwc_lane.specs.Given.{Came};
-ghost use Rattle.fwc_lane.specs.Calm.{RestsNow, PhaseStays, ValuesStay};
+ghost use Rattle.fwc_lane.specs.Calm.{IsIdle, RestsNow, PhaseStays, ValuesStay};
 ghost use Rattle.fwc_lane.specs.LaneFits.{LaneFits, CanGoOn};
 ghost use Rattle.fwc_lane.specs.LaneStands.{WholeStands};
 ghost use Rattle.fwc_lane.specs.Visits.{visits};
@@ -26,6 +26,67 @@ use param_table::Params;
 use wakes::Wakes;
 
 impl Lane {
+    /// Whether it is known that nothing changes in the moment, after which these computers are up, since nothing did in the one
+    /// before: no key came, the same computers were up in it, no condition is due, no parameter may have another value, and no
+    /// word's freshness may end with it. Its cost is seven looks, and at most one more for each 64 parameters.
+    #[inline(always)]
+    pub(crate) fn idles(&self, book: &Book, one_up: bool, two_up: bool) -> bool
+        requires fits { LaneFits (the_book book.now) self.now }
+        requires goes_on { CanGoOn self.now }
+        ensures idle { result ≡ true → IsIdle self.now }
+        ensures rest { result ≡ true → RestsNow self.now }
+        ensures one_up { result ≡ true → self.now.terms.one_up ≡ one_up }
+        ensures two_up { result ≡ true → self.now.terms.two_up ≡ two_up }
+        ensures values { result ≡ true → ValuesStay (the_book book.now) self.now.params }
+        ensures params { result ≡ true → IsStill self.now.params }
+    {
+        let now = self.moments;
+        self.idle
+            && (self.terms.one_up == one_up) & (self.terms.two_up == two_up)
+            && none_due(&self.terms.dues, now)
+            && self.params.is_still(book)
+    }
+
+    /// Ends a moment in which nothing changes, after one in which nothing did: but for the numbers of moments all stays as that
+    /// left it.
+    #[inline(always)]
+    pub(crate) fn pass(&mut self, book: &Book)
+        requires fits { LaneFits (the_book book.now) self.old }
+        requires goes_on { CanGoOn self.old }
+        requires idle { IsIdle self.old }
+        requires rest { RestsNow self.old }
+        requires values { ValuesStay (the_book book.now) self.old.params }
+        requires params { IsStill self.old.params }
+        ensures fits { LaneFits (the_book book.now) self.new }
+        ensures moments { self.new.moments ≡ self.old.moments + 1 }
+        ensures params { (words : ℕ → List BusWord) (k : ℕ) → words (suc k) ≡ []
+            → ParamsStand (the_book book.now) words k self.old.params
+            → ParamsStand (the_book book.now) words (suc k) self.new.params }
+        ensures keys { (strokes : ℕ → List Stroke) (k : ℕ) → strokes (suc k) ≡ []
+            → KeysStand strokes k self.old.keys → KeysStand strokes (suc k) self.new.keys }
+        ensures whole { (m : ℕ → Moment)
+            → Came (the_book book.now) m self.old.moments self.old.params self.old.keys
+            self.old.terms.one_up self.old.terms.two_up
+            → WholeStands (the_book book.now) m self.old.moments self.old
+            → WholeStands (the_book book.now) m (suc self.old.moments) self.new }
+        ensures visits { (m : ℕ → Moment)
+            → Came (the_book book.now) m self.old.moments self.old.params self.old.keys
+            self.old.terms.one_up self.old.terms.two_up
+            → WholeStands (the_book book.now) m self.old.moments self.old
+            → self.new.terms.cells.visits ≡ min (self.old.terms.cells.visits
+            + visits (the_book book.now) m self.old.moments) (2 ^ 64 - 1) }
+    {
+        book.sealed();
+        whole(&self.picture.rows, &self.changed);
+        self.truths.pass(book);
+        self.marks.pass();
+        self.attention.go_on();
+        self.selector.pass();
+        self.moments += 1;
+        self.params.pass(book);
+        self.keys.pass();
+    }
+
     /// Whether it is known that nothing changes in the moment, after which these computers are up: the moment before left all
     /// at rest, the phase stays, no key acts or was pressed in the moment before, the same computers were up in it, no
     /// condition is due, and no parameter may have another value. Its cost is a few looks, and at most one more for each 64
@@ -85,7 +146,8 @@ impl Lane {
         self.selector.rest();
         self.moments += 1;
         self.params.tick(book);
-        self.keys.tick();
+        self.keys.pass();
+        self.idle = self.phase_state.is_steady() && !self.truths.changed();
     }
 }
 

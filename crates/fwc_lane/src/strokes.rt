@@ -75,6 +75,13 @@ impl Strokes {
         }
     }
 
+    /// The moment ends, in which none was pressed: it changes nothing.
+    pub fn pass(&self)
+        requires { NonePressed self.now }
+        ensures { (strokes : ℕ → List Stroke) (k : ℕ) → strokes (suc k) ≡ []
+            → KeysStand strokes k self.now → KeysStand strokes (suc k) self.now }
+    {}
+
     /// Takes over the keys of another computer, or of another moment.
     pub fn copy_from(&mut self, other: &Strokes)
         ensures { self.new ≡ other.now }

@@ -241,6 +241,17 @@ module _ (b : Book) (h : List Event) where
             };
       }
 
+  -- a word to which no source listens leaves the pair as it is
+  pub unheard : (bus bits : ℕ) (p : Pair) → PairStands b h p → ((l : Lane) (e : Era) → LaneStands b e l → LaneStands b (era_with e (Word bus bits)) l) → PairStands b (h ++ Word bus bits ∷ []) p
+  unfolding flags_with
+  unheard bus bits p st kept =
+      let x = Word bus bits in
+      let on : begun h x ≡ era h = goes-on h x refl in
+      went-on x p p p st st.fits refl refl
+      (λ e. subst (λ d. LaneStands b (era_with d x) p.one) (sym on) (kept p.one (era h) (st.up.one e)))
+      (λ e. subst (λ d. LaneStands b (era_with d x) p.two) (sym on) (kept p.two (era h) (st.up.two e)))
+      (λ quiet. refl) (λ quiet. refl) (λ tick. absurd (let w : ⊥ = cc in w))
+
   -- the end of a record is no event
   pub ended : (p : Pair) → PairStands b (h ++ End ∷ []) p → PairStands b h p
   unfolding flags_with era_with

@@ -1,7 +1,7 @@
 // The two flight warning computers, and the picture that they show.
 ghost use Rattle.std.specs.Prelude.{◌≡◌, ◌↔◌, ◌<◌, ◌^◌, ◌==◌, ◌++◌, ◌∷◌, ℕ, [], List, true, false, length, IfOk, IfSome, IsNone, if◌then◌else◌};
 ghost use Rattle.ecam_spec.specs.declared.kinds.Event.{Event};
-ghost use Rattle.ecam_spec.specs.declared.kinds.Event.TheVariants.{Up, End};
+ghost use Rattle.ecam_spec.specs.declared.kinds.Event.TheVariants.{Word, Up, End};
 ghost use Rattle.ecam_spec.specs.Book as plain;
 ghost use Rattle.ecam_spec.specs.Keys.{IsEvent};
 ghost use Rattle.ecam_spec.specs.History.{none_up, set_flag, flags_with, flags_after, changes_computers, era, begun};
@@ -73,7 +73,8 @@ impl Pair {
         self.still = false;
     }
 
-    /// Takes the next event of a history. A word costs a visit of the sources that listen to it, a stroke a write. A
+    /// Takes the next event of a history. A word costs one look-up, and where any source listens to it one for each computer
+    /// that is up and a visit of the sources that listen to it, a stroke a write. A
     /// Tick costs what it costs each computer that is up, and the comparison of the rows that changed. A computer that
     /// fails costs nothing; one that comes up takes over all that the other holds, or starts cold where that is down
     /// too.
@@ -99,9 +100,33 @@ impl Pair {
         ensures unvisited { is_tick event.now ≡ false → NoVisits self.old self.new }
     {
         match event {
-            Event::Word { bus: _, bits: _ } => self.take(book, event),
+            Event::Word { bus, bits } => self.take_word(book, event, *bus, *bits),
             Event::Tick => self.take(book, event),
             _ => self.take(book, event),
+        }
+    }
+
+    // The same, where it is a word. One to which no source listens is looked up once, and not by each computer.
+    #[inline(always)]
+    fn take_word(&mut self, book: &Book, event: &Event, bus: u8, bits: u32)
+        requires word { event.now ≡ Word bus bits }
+        requires fits { PairFits (the_book book.now) self.old }
+        requires event { IsEvent event.now }
+        requires moments { is_tick event.now ≡ true → moments_of self.old < 2 ^ 63 }
+        ensures fits { PairFits (the_book book.now) self.new }
+        ensures stands { (h : List Event) → PairStands (the_book book.now) h self.old
+            → PairStands (the_book book.now) (h ++ event.now ∷ []) self.new }
+        ensures end { event.now ≡ End → (h : List Event) → PairStands (the_book book.now) h self.old
+            → PairStands (the_book book.now) h self.new }
+        ensures visits { (h : List Event) → PairStands (the_book book.now) h self.old
+            → is_tick event.now ≡ true
+            → Visits self.old.one_up (tick_visits (the_book book.now) h) self.old.one self.new.one
+            × Visits self.old.two_up (tick_visits (the_book book.now) h) self.old.two
+            self.new.two }
+        ensures unvisited { is_tick event.now ≡ false → NoVisits self.old self.new }
+    {
+        if self.one.hears(book, bus, bits) {
+            self.take(book, event);
         }
     }
 

@@ -1,10 +1,10 @@
 -- A table of a book as a whole, step by step.
-use Rattle.std.proofs.Common.{◌≡◌, ℕ, zero, suc, ◌+◌, ◌-◌, ◌*◌, ◌/◌, ◌^◌, ◌<◌, ◌≤◌, true, ltb, List, [], ◌∷◌, false, length, map, get_or, slice_index, set, replicate, Option, Some, None, All, cond, refl, sym, ap, ◌∙◌, subst, arith, inl, inr}
+use Rattle.std.proofs.Common.{◌≡◌, ℕ, zero, suc, ◌+◌, ◌-◌, ◌*◌, ◌/◌, ◌^◌, ◌<◌, ◌≤◌, true, ltb, List, [], ◌∷◌, false, length, map, get_or, slice_index, set, replicate, Option, Some, None, All, cond, refl, sym, ap, ◌∙◌, subst, arith, add-one, inl, inr}
 use Rattle.std.specs.Prelude.{IfSome, MatchOption, is_some, option_map, ◌==◌}
 use Rattle.std.specs.Option.{option_map_or}
-use Rattle.std.proofs.lemmas.Bool.{cases_Bool, and_parts, eqb-true, false≢true, cases_order}
+use Rattle.std.proofs.lemmas.Bool.{cases_Bool, and_parts, eqb-true, false≢true, cases_order, cases_lt}
 use Rattle.std.proofs.lemmas.Option.{same_Some, none-some}
-use Rattle.std.proofs.lemmas.List.{get_or-set_same, get_or-set_other, length-map}
+use Rattle.std.proofs.lemmas.List.{get_or-set_same, get_or-set_other, get_or_past, length-map}
 use Rattle.ecam_spec.specs.Book.{Source, Parameter, Book}
 use Rattle.ecam_spec.specs.Draft.{book_of}
 use Rattle.ecam_spec.specs.KeepsLimits.{IsSoundParameter}
@@ -24,7 +24,7 @@ use Rattle.param_table.specs.Places.{parameter_with, source_at, listens, takes_a
 use Rattle.param_table.specs.Rules.{IsRule, AreRules}
 use Rattle.param_table.specs.HeldValues.{given, kept_word, entry, is_ending, is_repeated, repeated, set_back}
 use Rattle.param_table.specs.HeldState.{AreDue, Renews, WillLook}
-use Rattle.param_table.specs.TableState.{SourceStands, IsHeld, ParamsFit, ParamsStand, IsValueOf}
+use Rattle.param_table.specs.TableState.{SourceStands, IsHeld, ParamsFit, ParamsStand, IsValueOf, IsStill}
 use Rattle.param_table.proofs.Sources.{not_even}
 use Rattle.param_table.proofs.Entering.{none_replicate}
 use Rattle.param_table.proofs.Said.{start_stands, moment_stands, set_back_stands, word_stands, given_is, source_before-below}
@@ -296,3 +296,39 @@ back_fits b old new full half index rules same marks dues fits = record {
         (subst (λ t. IfSome (get_or old.held.received.items.items q None) (IsHeld b.parameters t q)) full (fits.held.each q)));
   };
 }
+
+-- ---- a moment whose end changes nothing but the clock
+
+abbrev pub passed : Params → Params
+passed p = record p { clock = p.clock + 1 }
+
+pub passed-fits : (b : Book) (p : Params) → ParamsFit b p → ParamsFit b (passed p)
+passed-fits b p fits = record {
+  sound = fits.sound;
+  index = fits.index;
+  rules = fits.rules;
+  held = record {
+    places = fits.held.places;
+    room = fits.held.room;
+    dues = fits.held.dues;
+    each = λ q. later_held b.parameters p.clock q (get_or p.held.received.items.items q None) (fits.held.each q);
+  };
+}
+
+module _ (b : Book) (p : Params) (fits : ParamsFit b p) (still : IsStill p) where
+  none-ending : AreDue p.clock p.held → (q : ℕ) → is_ending (p.clock + 1) (get_or p.held.received.items.items q None) ≡ false
+  none-ending due q = elim (cases_lt q (length p.held.received.items.items)) [
+    | inl within ↦ elim (cases_Bool (is_ending (p.clock + 1) (get_or p.held.received.items.items q None))) [
+      | inl on ↦ (
+          let comes : slice_index p.held.dues q ≤ suc p.clock = (will_look p.clock p.held p.held refl refl due).ending q (subst (λ t. is_ending t (get_or p.held.received.items.items q None) ≡ true) (add-one p.clock) on) in
+          absurd (let w : ⊥ = (let later = still.dues q (omega (arith, within, fits.held.places, fits.held.dues)) in omega (arith, later, comes)) in w))
+      | inr off ↦ off
+    ]
+    | inr past ↦ ap (is_ending (p.clock + 1)) (get_or_past p.held.received.items.items q None past)
+  ]
+
+  pub passed-stands : (words : ℕ → List BusWord) (k : ℕ) → words (suc k) ≡ [] → ParamsStand b words k p → ParamsStand b words (suc k) (passed p)
+  passed-stands words k none stands =
+      let will : WillLook (p.clock + 1) p.held = subst (λ t. WillLook t p.held) (sym (add-one p.clock)) (will_look p.clock p.held p.held refl refl stands.due) in
+      moment b words k p (passed p) (passed-fits b p fits) none (add-one p.clock) refl will.due
+      (λ q off. none-ending stands.due q) (λ j calm. still.none j) stands

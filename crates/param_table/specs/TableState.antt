@@ -1,5 +1,5 @@
 -- What a table of parameters says of the words so far.
-use Rattle.std.specs.Prelude.{◌≡◌, ℕ, zero, suc, ◌+◌, ◌-◌, ◌*◌, ◌/◌, ◌≤◌, false, ℤ, pos, neg_ℤ, ◌≤ℤ◌, ◌⊎◌, List, length, get_or, Option, Some, None, All, IfSome, option_map, true}
+use Rattle.std.specs.Prelude.{◌≡◌, ℕ, zero, suc, ◌+◌, ◌-◌, ◌*◌, ◌/◌, ◌^◌, ◌<◌, ◌≤◌, false, ℤ, pos, neg_ℤ, ◌≤ℤ◌, ◌⊎◌, List, length, get_or, slice_index, Option, Some, None, All, IfSome, option_map, true}
 use Rattle.ecam_spec.specs.declared.limits.TheConstants.{NUMBER}
 use Rattle.ecam_spec.specs.declared.kinds.Kind.{Kind}
 use Rattle.ecam_spec.specs.declared.kinds.Kind.TheVariants.{Disc, Bnr, Bcd}
@@ -81,3 +81,9 @@ pub record ParamsStand (b : Book) (words : ℕ → List BusWord) (k : ℕ) (p : 
   pub unchanged : (q : ℕ) (s : Source) → source_at b.parameters q ≡ Some s → is_marked p.held.changed (q / 3) ≡ false
       → given p.clock (get_or p.held.received.items.items q None) ≡ source_before (parameter_with b.parameters q).kind (parameter_with b.parameters q).stale s words k
   pub told : (j : ℕ) → is_marked p.held.changed j ≡ true → MayDiffer (parameter_at b j) words k
+
+-- nothing of the table changes with the end of the moment but its clock: no parameter is marked, and no place is looked at
+pub record IsStill (p : Params) : Type 0 where
+  pub clock : p.clock < 2 ^ 32 - 1
+  pub dues : (q : ℕ) → q < length p.held.dues → p.clock + 1 < slice_index p.held.dues q
+  pub none : (j : ℕ) → is_marked p.held.changed j ≡ false

@@ -1,11 +1,11 @@
 // The values of parameters.
-ghost use Rattle.std.specs.Prelude.{◌≡◌, ℕ, suc, ◌+◌, ◌-◌, ◌*◌, ◌<◌, ◌≤◌, ◌^◌, List, [], length, map, slice_index, unwrap_or, IfOk, IfSome};
+ghost use Rattle.std.specs.Prelude.{◌≡◌, ℕ, suc, ◌+◌, ◌-◌, ◌*◌, ◌<◌, ◌≤◌, ◌^◌, true, false, List, [], length, map, slice_index, unwrap_or, IfOk, IfSome};
 ghost use Rattle.ecam_spec.specs.Value.{BusWord, value};
 ghost use Rattle.ecam_spec.specs.Book as plain;
 ghost use Rattle.ecam_spec.specs.Situation.{parameter_at};
 ghost use Rattle.ecam_spec.specs.History.{OneMore};
 ghost use Rattle.book_model.specs.Sealed.{the_book};
-ghost use Rattle.param_table.specs.TableState.{ParamsFit, ParamsStand, IsValueOf, MayDiffer, value_before};
+ghost use Rattle.param_table.specs.TableState.{ParamsFit, ParamsStand, IsValueOf, MayDiffer, IsStill, value_before};
 ghost use Rattle.param_table.specs.HeldValues.{first_given, set_back};
 
 use crate::held::{Held, look_soon, none_received};
@@ -115,6 +115,18 @@ impl Params {
         }
     }
 
+    /// Whether any source of the book listens to a word's bus and label. A word to which none does leaves each table of the book
+    /// as it is. Its cost is one look-up.
+    #[inline(always)]
+    pub fn listens(&self, _book: &Book, bus: u8, bits: u32) -> bool
+        requires { ParamsFit (the_book _book.now) self.now }
+        ensures { result ≡ false → (p : Params) (old new : ℕ → List BusWord) (k : ℕ)
+            → OneMore old new k (record { bus = bus; bits = bits })
+            → ParamsStand (the_book _book.now) old k p → ParamsStand (the_book _book.now) new k p }
+    {
+        self.index.last(bus, &Word::new(bits)).is_some()
+    }
+
     /// The moment ends. What is fresh is told by the clock, so that a Tick costs a look at the sources whose freshness
     /// may end with it, no more looks in all than words, and a write for each 64 parameters; but one in 2^31 costs a few
     /// writes a source.
@@ -132,6 +144,37 @@ impl Params {
         self.clock += 1;
         self.held.forget_changes();
         self.held.look_at_due(self.clock);
+    }
+
+    /// Whether it is known that the end of the moment changes nothing but the clock: no parameter may have another value than in
+    /// the moment before, and the freshness of no word may end with this one. Its cost is three looks, and at most one more for
+    /// each 64 parameters.
+    #[inline(always)]
+    pub fn is_still(&self, _book: &Book) -> bool
+        requires { ParamsFit (the_book _book.now) self.now }
+        ensures still { result ≡ true → IsStill self.now }
+        ensures same { result ≡ true → (words : ℕ → List BusWord) (k : ℕ)
+            → ParamsStand (the_book _book.now) words k self.now
+            → (p : ℕ) → p < length (the_book _book.now).parameters
+            → value (parameter_at (the_book _book.now) p) words k
+            ≡ value_before (parameter_at (the_book _book.now) p) words k }
+    {
+        self.clock != u32::MAX
+            && self.held.dues.first(u64::from(self.clock) + 1).is_none()
+            && self.held.changed.first_from(0).is_none()
+    }
+
+    /// The moment ends like by `tick`, where nothing but the clock changes. Its cost is one write.
+    #[inline(always)]
+    pub fn pass(&mut self, _book: &Book)
+        requires fits { ParamsFit (the_book _book.now) self.old }
+        requires still { IsStill self.old }
+        ensures fits { ParamsFit (the_book _book.now) self.new }
+        ensures stands { (words : ℕ → List BusWord) (k : ℕ) → words (suc k) ≡ []
+            → ParamsStand (the_book _book.now) words k self.old
+            → ParamsStand (the_book _book.now) words (suc k) self.new }
+    {
+        self.clock += 1;
     }
 
     /// The value of a parameter in the moment that hasn't ended, by the words so far: `None` exactly where no

@@ -36,13 +36,13 @@ macro_rules! digits {
     };
 }
 
-const FIRST: [u64; 256] = digits!(1, NO_DIGIT);
-
-const SECOND: [u64; 256] = digits!(16, 16 * NO_DIGIT);
-
-const THIRD: [u64; 256] = digits!(256, 256 * NO_DIGIT);
-
-const FOURTH: [u64; 256] = digits!(4096, 4096 * NO_DIGIT);
+// The tables of the four last places, in one, so that the address of one is known where they are looked up.
+const PLACES: [[u64; 256]; 4] = [
+    digits!(1, NO_DIGIT),
+    digits!(16, 16 * NO_DIGIT),
+    digits!(256, 256 * NO_DIGIT),
+    digits!(4096, 4096 * NO_DIGIT),
+];
 
 // What a hexadecimal digit is worth at a place, by the table of that place.
 fn worth_in(table: &[u64; 256], digit: u8) -> u64
@@ -58,28 +58,28 @@ fn first(digit: u8) -> u64
     ensures value { result ≡ worth digit }
     ensures bound { result ≤ 2 ^ 32 }
 {
-    worth_in(&FIRST, digit)
+    worth_in(&PLACES[0], digit)
 }
 
 fn second(digit: u8) -> u64
     ensures value { result ≡ 16 * worth digit }
     ensures bound { result ≤ 16 * 2 ^ 32 }
 {
-    worth_in(&SECOND, digit)
+    worth_in(&PLACES[1], digit)
 }
 
 fn third(digit: u8) -> u64
     ensures value { result ≡ 256 * worth digit }
     ensures bound { result ≤ 256 * 2 ^ 32 }
 {
-    worth_in(&THIRD, digit)
+    worth_in(&PLACES[2], digit)
 }
 
 fn fourth(digit: u8) -> u64
     ensures value { result ≡ 4096 * worth digit }
     ensures bound { result ≤ 4096 * 2 ^ 32 }
 {
-    worth_in(&FOURTH, digit)
+    worth_in(&PLACES[3], digit)
 }
 
 // What four bytes are worth together, highest first.

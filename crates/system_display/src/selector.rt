@@ -1,5 +1,5 @@
 // What the system display is asked to show, moment by moment.
-ghost use Rattle.std.specs.Prelude.{◌≡◌, ◌↔◌, ◌<◌, ◌+◌, ℕ, suc, false, length, IfSome, Option};
+ghost use Rattle.std.specs.Prelude.{◌≡◌, ◌↔◌, ◌<◌, ◌+◌, ℕ, suc, false, length, IfSome, Option, None};
 ghost use Rattle.ecam_spec.specs.Book as plain;
 ghost use Rattle.ecam_spec.specs.Past.{Signal, running_since};
 ghost use Rattle.ecam_spec.specs.Selection.{Panel};
@@ -65,12 +65,30 @@ impl Selector {
         ensures moments { self.new.moments ≡ self.old.moments + 1 }
         ensures selection { self.new.selection ≡ self.old.selection }
         ensures changed { self.new.changed ≡ false }
+        ensures all_since { self.new.all_since ≡ None }
         ensures stands { (p : Panel) (k : ℕ) → SelectsNothing p k → Stands p k self.old
             → Stands p (suc k) self.new }
     {
         self.moments += 1;
         self.all_since = None;
         self.changed = false;
+    }
+
+    /// Takes one moment more like `rest`, where ALL wasn't held in the last one, nor was the choice changed by it. The cost is
+    /// one write.
+    pub fn pass(&mut self)
+        requires goes_on { CanGoOn self.old }
+        requires changed { self.old.changed ≡ false }
+        requires all_since { self.old.all_since ≡ None }
+        ensures fits { (b : plain.Book) → SelectorFits b self.old → SelectorFits b self.new }
+        ensures moments { self.new.moments ≡ self.old.moments + 1 }
+        ensures selection { self.new.selection ≡ self.old.selection }
+        ensures changed { self.new.changed ≡ false }
+        ensures all_since { self.new.all_since ≡ None }
+        ensures stands { (p : Panel) (k : ℕ) → SelectsNothing p k → Stands p k self.old
+            → Stands p (suc k) self.new }
+    {
+        self.moments += 1;
     }
 
     fn take(&mut self, inputs: &Inputs)

@@ -26,6 +26,7 @@ returns-clause-fits c = record {
   attention_moments = c.clear-5.ensures.moments;
   selector_moments = c.new-self-2.ensures.moments;
   calm = λ on. absurd (let w : ⊥ = cc in w);
+  idle = λ on. absurd (let w : ⊥ = cc in w);
 }
 
 pub returns-clause-stands : goal.returns-clause-stands

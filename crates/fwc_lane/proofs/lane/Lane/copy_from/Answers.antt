@@ -22,6 +22,7 @@ returns-clause-fits c = λ b fits other. record {
   attention_moments = c.copy_from-5.ensures.moments ∙ other.attention_moments;
   selector_moments = other.selector_moments;
   calm = λ on. absurd (let w : ⊥ = cc in w);
+  idle = λ on. absurd (let w : ⊥ = cc in w);
 }
 
 pub returns-clause-stands : goal.returns-clause-stands

@@ -24,6 +24,7 @@ returns-clause-fits c = record {
   attention_moments = c.in_ok-attention.ensures.moments;
   selector_moments = c.new-7.ensures.moments;
   calm = λ on. absurd (let w : ⊥ = cc in w);
+  idle = λ on. absurd (let w : ⊥ = cc in w);
 }
 
 pub returns-clause-stands : goal.returns-clause-stands

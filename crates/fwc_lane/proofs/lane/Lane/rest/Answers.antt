@@ -17,7 +17,7 @@ returns-clause-whole c = λ m came was.
       selected = c.rest-3.ensures.stands;
       selector_changed = c.rest-3.ensures.changed;
     })
-    c.tick.new.self c.tick-2.new.self c.whole.ensures
+    c.tick.new.self c.args.self.now.keys c.if-is_steady.self c.whole.ensures
 
 pub returns-clause-visits : goal.returns-clause-visits
 returns-clause-visits c = λ m came was.

@@ -1,4 +1,4 @@
-use Rattle.std.proofs.Common.{◌≡◌, ◌+◌, ◌-◌, ◌^◌, min, sym, subst}
+use Rattle.std.proofs.Common.{◌≡◌, ◌+◌, ◌-◌, ◌^◌, min, false, sym, subst}
 use Rattle.ecam_spec.specs.Situation.{words_in}
 use Rattle.book_model.specs.Sealed.{the_book}
 use Rattle.fwc_lane.specs.Conditions.{BookHalf}
@@ -15,7 +15,7 @@ returns-clause-whole c = λ m came was.
     c.finish.ensures.whole m
     (has-begun b m k c.args.one_up c.args.two_up c.begin_moment-values.result c.args.self.now t c.begin_moment-values.new.values was came
     (subst (λ n. BookHalf b m k 0 0 n t) (sym begin.visits) (begin.begins m came was.terms was.values))
-    (values-told b m k c.begin_moment-values.new.values.items (begin.values (words_in b m) k came.words was.values)) begin.kept)
+    (values-told b m k c.begin_moment-values.new.values.items (begin.values (words_in b m) k came.words was.values)) begin.kept false)
 
 pub returns-clause-visits : goal.returns-clause-visits
 returns-clause-visits c = λ m came was.
@@ -27,4 +27,4 @@ returns-clause-visits c = λ m came was.
     (c.finish.ensures.visits m
     (has-begun b m k c.args.one_up c.args.two_up c.begin_moment-values.result c.args.self.now t c.begin_moment-values.new.values was came
     (subst (λ n. BookHalf b m k 0 0 n t) (sym begin.visits) (begin.begins m came was.terms was.values))
-    (values-told b m k c.begin_moment-values.new.values.items (begin.values (words_in b m) k came.words was.values)) begin.kept))
+    (values-told b m k c.begin_moment-values.new.values.items (begin.values (words_in b m) k came.words was.values)) begin.kept false))

@@ -1,0 +1,16 @@
+use Rattle.std.proofs.Common.{suc, ◌+◌, Some, refl, ◌∙◌, ap}
+use Rattle.attention.proofs.StandsOn.{stands-next}
+use Rattle.attention.proofs.Resting.{watch-rests, calls-rest}
+use Rattle.attention.proofs.Steady.{steady-on, steady-tells}
+use Rattle.attention.proofs.state.Attention.go_on.Goals as goal
+
+pub returns-clause-steady : goal.returns-clause-steady
+returns-clause-steady c = steady-on c.args.self.now.calls c.args.self.now.moments c.requires.steady
+
+pub returns-clause-stands : goal.returns-clause-stands
+returns-clause-stands c = λ b a k nothing stands.
+    stands-next b a (suc k) c.args.self.now _ stands (steady-tells c.args.self.now _ refl refl c.requires.steady c.requires.changed)
+    stands.fits
+    (ap (λ n. n + 1) stands.moments)
+    (λ i h. stands.watches i h ∙ ap Some (watch-rests a k nothing i))
+    (calls-rest a k nothing c.args.self.now.calls (stands.calls k refl))
