@@ -1,2 +1,9 @@
+pub mod Places
+pub mod Flat
 pub mod Appending
 pub mod Walking
+pub mod NamesWithin
+pub mod Asked
+pub mod Chaining
+pub mod Walked
+pub mod Asking

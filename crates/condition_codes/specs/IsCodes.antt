@@ -5,4 +5,4 @@ use Rattle.condition_codes.specs.Pieces.{AreCodes}
 use Rattle.condition_codes.specs.declared.codes.Codes.{Codes}
 
 pub record IsCodes (b : Book) (c : Codes) : Type 0 where
-  pub codes : AreCodes (places b) c.longest c.starts.items.items c.steps.items.items
+  pub codes : AreCodes (places b) c.starts.items.items c.steps.items.items

@@ -1,11 +1,13 @@
 // The codes of a book in one list.
-ghost use Rattle.std.specs.Prelude.{◌≡◌, ℕ, ◌-◌, ◌<◌, ◌≤◌, ◌^◌, length, slice_get, Some, IfOk};
+ghost use Rattle.std.specs.Prelude.{◌≡◌, ℕ, ◌<◌, length, slice_get, Some, IfOk};
+ghost use Rattle.std.specs.Box.{boxed_slice_items};
 ghost use Rattle.ecam_spec.specs.Book as plain;
 ghost use Rattle.ecam_spec.specs.TermSize.{Placed};
 ghost use Rattle.term_eval.specs.Code.{IsCode};
 ghost use Rattle.book_model.specs.Sealed.{the_book};
 ghost use Rattle.book_model.specs.Conditions.{places};
 ghost use Rattle.condition_codes.specs.IsCodes.{IsCodes};
+ghost use Rattle.condition_codes.specs.Places.{nodes_before};
 
 use crate::book::add_all;
 use crate::pieces::Pieces;
@@ -14,12 +16,12 @@ use std::alloc::{AllocError, Global};
 use std::boxed::BoxedSlice;
 use term_eval::Step;
 
-/// The codes of all conditions of a book, each under its number in stepping order. Nothing changes them, and they can't grow.
+/// The codes of all conditions of a book, each under its number in stepping order. Nothing changes them, and they can't
+/// grow.
 #[derive(Drop)]
 pub struct Codes {
     steps: BoxedSlice<Step>,
     starts: BoxedSlice<usize>,
-    longest: usize,
 }
 
 impl Codes {
@@ -32,26 +34,40 @@ impl Codes {
         Ok(Codes {
             steps: pieces.steps.into_boxed_slice(),
             starts: pieces.starts.into_boxed_slice(),
-            longest: pieces.longest,
         })
     }
 
     /// The code of the condition of this number. A look-up costs two reads.
     pub fn code(&self, number: usize) -> &[Step]
         requires { (b : plain.Book) × IsCodes b self.now × (number < length (places b)) }
-        ensures code { (b : plain.Book) → IsCodes b self.now → (p : Placed)
+        ensures { (b : plain.Book) → IsCodes b self.now → (p : Placed)
             → slice_get (places b) number ≡ Some p → IsCode p.tree p.at result.now }
-        ensures short { (b : plain.Book) → IsCodes b self.now → number < length (places b)
-            → length result.now ≤ self.now.longest }
     {
-        &self.steps[self.starts[number]..self.starts[number + 1]]
+        &self.steps[self.start(number)..self.starts[number + 1]]
     }
 
-    /// How many steps the longest code has.
-    pub fn longest(&self) -> usize
-        ensures value { result ≡ self.now.longest }
-        ensures few { (b : plain.Book) → IsCodes b self.now → result < 2 ^ 64 - 1 }
+    /// The number of its first node among the nodes of all conditions, which are numbered in stepping order. A look-up
+    /// costs one read.
+    pub fn start(&self, number: usize) -> usize
+        requires { (b : plain.Book) × IsCodes b self.now × (number < length (places b)) }
+        ensures { (b : plain.Book) → IsCodes b self.now → number < length (places b)
+            → result ≡ nodes_before (places b) number }
     {
-        self.longest
+        self.starts[number]
+    }
+
+    /// How many nodes all conditions have. Its cost is one read.
+    pub fn count(&self) -> usize
+        ensures { (b : plain.Book) → IsCodes b self.now
+            → result ≡ nodes_before (places b) (length (places b)) }
+    {
+        self.steps.len()
+    }
+
+    /// All steps, one behind another.
+    pub(crate) fn steps(&self) -> &[Step]
+        ensures { result.now ≡ boxed_slice_items self.now.steps }
+    {
+        &self.steps
     }
 }

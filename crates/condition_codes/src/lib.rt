@@ -1,8 +1,12 @@
-//! The codes of all conditions of a book, by which a moment steps them, one behind another in one list.
+//! The codes of all conditions of a book, by which a moment steps them, one behind another in one list, and which of their
+//! nodes ask for an operand.
 #![tactic(auto)]
 
+mod askers;
 mod book;
+mod chains;
 mod codes;
 mod pieces;
 
+pub use askers::Askers;
 pub use codes::Codes;

@@ -15,8 +15,6 @@ pub struct Pieces {
     pub steps: Vec<Step>,
     /// Where each starts, and where the last ends.
     pub starts: Vec<usize>,
-    /// How many steps the longest has.
-    pub longest: usize,
 }
 
 impl Pieces {
@@ -29,7 +27,6 @@ impl Pieces {
         Ok(Pieces {
             steps: Vec::new(alloc),
             starts,
-            longest: 0,
         })
     }
 
@@ -38,11 +35,8 @@ impl Pieces {
         requires { term.now.at + slots (tree_in term.now) < 2 ^ 64 }
         ensures { OnOk result (AddsCodes (placed_of term.now ∷ []) self.old self.new) }
     {
-        let start = self.steps.len();
         add_code(&mut self.steps, &term.cond, term.at)?;
-        let end = self.steps.len();
-        self.longest = self.longest.max(end - start);
-        self.starts.push(end)?;
+        self.starts.push(self.steps.len())?;
         Ok(())
     }
 }

@@ -1,6 +1,5 @@
 -- One alert more is stepped.
 use Rattle.std.proofs.Common.{◌≡◌, ℕ, zero, suc, ◌+◌, ◌-◌, ◌^◌, ◌<◌, ◌≤◌, Bool, true, false, not, ◌&&◌, None, is_some, eqb, List, length, take, get_or, slice_get, Some, refl, sym, ap, subst, ◌∙◌, arith}
-use Rattle.std.specs.List.{list_any}
 use Rattle.ecam_spec.specs.Book as plain
 use Rattle.ecam_spec.specs.Past.{previous}
 use Rattle.ecam_spec.specs.Term.{holds}
@@ -22,25 +21,26 @@ use Rattle.alert_truth.specs.Alerts.{active}
 use Rattle.alert_truth.specs.TruthsState.{HalfStand, TruthsStand}
 use Rattle.term_eval.specs.declared.env.Env.{Env}
 use Rattle.term_eval.specs.Shown.{Shows}
-use Rattle.term_eval.specs.Woken.{Operand, operands, moved, differ}
+use Rattle.term_eval.specs.Woken.{Operand, moved, differ}
+use Rattle.condition_codes.specs.Places.{nodes_before}
 use Rattle.fwc_lane.specs.declared.terms.Terms.{Terms}
 use Rattle.wakes.specs.Marks.{is_marked}
 use Rattle.alert_truth.proofs.Stepping.{half-rests}
-use Rattle.fwc_lane.specs.Waking.{WakesBy, NoneMarked}
+use Rattle.fwc_lane.specs.Waking.{HasWoken, NoneMarked}
 use Rattle.fwc_lane.specs.Conditions.{IsLeft, HalfStepped, StepsTerm, TellsMoved, BookHalf, AlertsHalf, known_world}
 use Rattle.fwc_lane.specs.Given.{Lends}
 use Rattle.fwc_lane.proofs.Showing.{shows-own, active-is}
-use Rattle.fwc_lane.proofs.Stages.{more-known, alert-moves}
+use Rattle.fwc_lane.proofs.Stages.{more-known, alert-moves, same-tells}
 use Rattle.fwc_lane.proofs.Stepping.{half-rest, rest-holds}
-use Rattle.fwc_lane.proofs.Hitting.{wakes-off}
+use Rattle.fwc_lane.proofs.Awake.{awake-off}
 use Rattle.fwc_lane.proofs.FlagSteps.{with-item}
 
 module _ (d : Draft) (sealed : IsSealed d) (xs : List Alert) (a : ℕ) (x : Alert) (same : xs ≡ d.alerts.items) (within : a < length xs) (here : x ≡ get_or xs a x)
     (m : ℕ → Moment) (k : ℕ) (env : Env) (lends : Lends (the_book d) m k env) (t : Truths) (phase : env.phase.number ≡ phase_in (the_book d) m k)
     (actives : env.active.now ≡ take a t.active.items) (visited number : ℕ) (numbered : number ≡ alerts_from + a) (old new : Terms) (answer : Bool)
-    (stepped : StepsTerm env k number (placed_of x.when) old new answer) (half : AlertsHalf (the_book d) m k a visited old t) where
-  steps : StepsTerm env k (alerts_from + a) (placed_of x.when) old new answer
-  steps = subst (λ n. StepsTerm env k n (placed_of x.when) old new answer) numbered stepped
+    (stepped : StepsTerm (places (the_book d)) env k number (placed_of x.when) old new answer) (half : AlertsHalf (the_book d) m k a visited old t) where
+  steps : StepsTerm (places (the_book d)) env k (alerts_from + a) (placed_of x.when) old new answer
+  steps = subst (λ n. StepsTerm (places (the_book d)) env k n (placed_of x.when) old new answer) numbered stepped
 
   own-is : world_of (the_book d) m (alerts_from + a) ≡ alert_world (the_book d) m (known_below (the_book d) m a)
   own-is = own-world (the_book d) m a (omega (arith, many-alerts d, ap length same))
@@ -49,19 +49,19 @@ module _ (d : Draft) (sealed : IsSealed d) (xs : List Alert) (a : ℕ) (x : Aler
   shown = subst (λ w. Shows env w k) (sym own-is) (shows-own (the_book d) m k env lends t a phase actives half.alerts)
 
   tells : TellsMoved (moved (known_world (the_book d) m (suc a)) k) (world_of (the_book d) m (alerts_from + a)) k (placed_of x.when)
-  tells = ap (λ w. list_any (moved w k) (operands (tree_in x.when))) (sym own-is)
+  tells = same-tells (known_world (the_book d) m (suc a)) (world_of (the_book d) m (alerts_from + a)) k (placed_of x.when) own-is
 
   pub own-truth : answer ≡ condition_in (the_book d) m a k
   unfolding condition_in situation.condition
   own-truth =
-      steps.truth (places (the_book d)) (world_of (the_book d) m) (moved (known_world (the_book d) m (suc a)) k) visited (own-place d sealed xs a x same within here) shown tells half.terms
+      steps.truth (world_of (the_book d) m) (moved (known_world (the_book d) m (suc a)) k) visited (own-place d sealed xs a x same within here) shown tells half.terms
       ∙ ap (λ w. holds w (tree_in x.when) k) own-is
       ∙ ap (λ (y : plain.Alert). holds (alert_world (the_book d) m (known_below (the_book d) m a)) y.when k) (sym (alert-read d xs a x same within here))
 
   pub own-stands : BookHalf (the_book d) m k (alerts_from + suc a) (suc a) visited new
   own-stands =
       subst (λ n. BookHalf (the_book d) m k n (suc a) visited new) (let e : suc (alerts_from + a) ≡ alerts_from + suc a = omega arith in e)
-      (steps.stands (places (the_book d)) (world_of (the_book d) m) (moved (known_world (the_book d) m (suc a)) k) visited (own-place d sealed xs a x same within here) (ranges-apart (the_book d)) shown tells half.terms)
+      (steps.stands (world_of (the_book d) m) (moved (known_world (the_book d) m (suc a)) k) visited (own-place d sealed xs a x same within here) (ranges-apart (the_book d)) shown tells half.terms)
 
 -- what an alert was and is
 pub was-active : (b : plain.Book) (m : ℕ → Moment) (k h a : ℕ) (t : Truths) → k ≡ suc h → a < length b.alerts → HalfStand b (condition_in b m) (phase_in b m) k a t
@@ -70,12 +70,12 @@ unfolding previous
 was-active b m k h a t e lt half = (half.left a (omega arith) lt).active ∙ ap (previous (active b (condition_in b m) (phase_in b m) a)) e ∙ active-is b m a h
 
 -- one alert more is known
-pub alert-known : (d : Draft) (sealed : IsSealed d) (m : ℕ → Moment) (k a visited : ℕ) (t : Terms) (marks : List ℕ) (other now was : Bool) → a < length (the_book d).alerts → other ≡ differ now was
+pub alert-known : (d : Draft) (sealed : IsSealed d) (m : ℕ → Moment) (k a visited : ℕ) (t new : Terms) (other now was : Bool) → a < length (the_book d).alerts → other ≡ differ now was
     → now ≡ active_in (the_book d) m a k → ((h : ℕ) → k ≡ suc h → was ≡ active_in (the_book d) m a h)
-    → WakesBy (the_book d) (λ o. other && eqb o (length (the_book d).parameters + a)) t.woken marks
-    → BookHalf (the_book d) m k (alerts_from + suc a) (suc a) visited t → BookHalf (the_book d) m k (alerts_from + suc a) (suc (suc a)) visited (record t { woken = marks })
-alert-known d sealed m k a visited t marks other now was lt is now-is was-is wakes half =
-    more-known d sealed m k (alerts_from + suc a) (suc a) visited t marks (λ o. other && eqb o (length (the_book d).parameters + a)) wakes
+    → HasWoken (the_book d) (λ o. other && eqb o (length (the_book d).parameters + a)) t new
+    → BookHalf (the_book d) m k (alerts_from + suc a) (suc a) visited t → BookHalf (the_book d) m k (alerts_from + suc a) (suc (suc a)) visited new
+alert-known d sealed m k a visited t new other now was lt is now-is was-is wakes half =
+    more-known d sealed m k (alerts_from + suc a) (suc a) visited t new (λ o. other && eqb o (length (the_book d).parameters + a)) wakes
     (λ h e. alert-moves (the_book d) m k h a other now was e is now-is (was-is h e) lt) half
 
 pub differ-self : (b : Bool) → differ b b ≡ false
@@ -97,7 +97,7 @@ module _ (d : Draft) (sealed : IsSealed d) (m : ℕ → Moment) (k visited : ℕ
 
     tells-own : TellsMoved hits (world_of (the_book d) m (alerts_from + a)) k (placed_of x.when)
     unfolding hits
-    tells-own = ap (λ w. list_any (moved w k) (operands (tree_in x.when))) (sym own-world-is)
+    tells-own = same-tells (known_world (the_book d) m (suc a)) (world_of (the_book d) m (alerts_from + a)) k (placed_of x.when) own-world-is
 
     at-place : slice_get (places (the_book d)) (alerts_from + a) ≡ Some (placed_of x.when)
     at-place = own-place d sealed d.alerts.items a x refl within here
@@ -106,7 +106,7 @@ module _ (d : Draft) (sealed : IsSealed d) (m : ℕ → Moment) (k visited : ℕ
     unfolding hits
     was = half.terms
 
-    own-left : IsLeft (world_of (the_book d) m (alerts_from + a)) hits k (alerts_from + a) (placed_of x.when) terms
+    own-left : IsLeft (world_of (the_book d) m (alerts_from + a)) hits k (alerts_from + a) (nodes_before (places (the_book d)) (alerts_from + a)) (placed_of x.when) terms
     own-left = was.left (alerts_from + a) (placed_of x.when) (let w : alerts_from + a ≤ alerts_from + a = omega arith in w) at-place
 
     -- its condition holds where it held
@@ -115,7 +115,7 @@ module _ (d : Draft) (sealed : IsSealed d) (m : ℕ → Moment) (k visited : ℕ
     same-condition h e =
         ap (λ (y : plain.Alert). holds (alert_world (the_book d) m (known_below (the_book d) m a)) y.when h) (alert-read d d.alerts.items a x refl within here)
         ∙ subst (λ w. holds w (tree_in x.when) h ≡ holds w (tree_in x.when) k) own-world-is
-        (rest-holds (world_of (the_book d) m (alerts_from + a)) hits k h (alerts_from + a) (placed_of x.when) terms small e tells-own own-left off)
+        (rest-holds (world_of (the_book d) m (alerts_from + a)) hits k h (alerts_from + a) (nodes_before (places (the_book d)) (alerts_from + a)) (placed_of x.when) terms small e tells-own own-left off)
         ∙ sym (ap (λ (y : plain.Alert). holds (alert_world (the_book d) m (known_below (the_book d) m a)) y.when k) (alert-read d d.alerts.items a x refl within here))
 
     truths-rest : (n : ℕ) → k ≡ n → HalfStand (the_book d) (condition_in (the_book d) m) (phase_in (the_book d) m) k (suc a) t
@@ -140,8 +140,8 @@ module _ (d : Draft) (sealed : IsSealed d) (m : ℕ → Moment) (k visited : ℕ
 
     alert-off : AlertsHalf (the_book d) m k (suc a) visited terms t
     alert-off = record {
-      terms = alert-known d sealed m k a visited terms terms.woken false (active_in (the_book d) m a k) (active_in (the_book d) m a k) there (sym (differ-self (active_in (the_book d) m a k))) refl
-          (λ h e. same-active h e) (wakes-off (the_book d) (length (the_book d).parameters + a) terms.woken false refl) terms-rest;
+      terms = alert-known d sealed m k a visited terms terms false (active_in (the_book d) m a k) (active_in (the_book d) m a k) there (sym (differ-self (active_in (the_book d) m a k))) refl
+          (λ h e. same-active h e) (awake-off (the_book d) (length (the_book d).parameters + a) terms false refl) terms-rest;
       alerts = truths-rest k refl;
     }
 

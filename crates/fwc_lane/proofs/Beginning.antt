@@ -27,12 +27,13 @@ use Rattle.fwc_lane.specs.declared.terms.Terms.{Terms}
 use Rattle.fwc_lane.specs.TermsFit.{TermsFit}
 use Rattle.fwc_lane.specs.Given.{Came}
 use Rattle.fwc_lane.specs.Visits.{visits_below}
-use Rattle.fwc_lane.specs.Waking.{sizes_in, ranged, value_turned, key_turned, WakesBy}
+use Rattle.fwc_lane.specs.Waking.{sizes_in, ranged, value_turned, key_turned, HasWoken}
 use Rattle.fwc_lane.specs.Conditions.{TermsStand, HalfStepped, known_world, BookHalf}
 use Rattle.fwc_lane.proofs.KeyNumbers.{not-eight, few-keys}
 use Rattle.std.proofs.Math.Bool.{and-false, and-true, or-false}
 use Rattle.fwc_lane.proofs.Ranges.{ranged-in, ranged-above, ranged-below}
 use Rattle.fwc_lane.proofs.NamesWithin.{names-within}
+use Rattle.fwc_lane.proofs.Askers.{asks-operand}
 use Rattle.fwc_lane.proofs.Hitting.{any-none}
 use Rattle.fwc_lane.proofs.Stages.{half-more}
 
@@ -66,7 +67,9 @@ module _ (b : Book) (m : ℕ → Moment) (k : ℕ) (small : k < 2 ^ 63) (old : T
     left = λ j p le is.
         let within : j < length (places b) = slice_get_within (places b) j p is in
         let inside : j < length old.truths.items = omega (arith, within, fits.truths) in (record {
+          short = (fits.codes.codes.codes j p is).short;
           stands = stands.cells j p is;
+          nodes = stands.nodes j p is;
           first = λ e. first e j inside;
           later = λ h e. (record {
             due = slice_index old.dues j;
@@ -78,6 +81,7 @@ module _ (b : Book) (m : ℕ → Moment) (k : ℕ) (small : k < 2 ^ 63) (old : T
                 ∙ due-now (world_of b m j) p h (slice_index old.dues j) (omega (arith, small, e)) (stands.next h e j p is)
                 ∙ sym (ap (λ x. x || eqb (slice_index old.dues j) (suc h)) (none-any (operands p.tree)));
             kept = kept j inside;
+            noted = λ n x asks on. absurd (let w : ⊥ = (let clash : false ≡ true = on in cc) in w);
           });
         });
     counted = omega (arith, fits.visits);
@@ -187,18 +191,21 @@ module _ (b : Book) where
     ]
 
 -- with what came, the moment has begun
-pub begins : (d : Draft) → IsSealed d → (m : ℕ → Moment) (k visited : ℕ) (old t : Terms) (marks : List ℕ) (params : Params) (keys : Keys) (up1 up2 : Bool) (was now : List (Option ℤ))
+pub begins : (d : Draft) → IsSealed d → (m : ℕ → Moment) (k visited : ℕ) (old t new : Terms) (params : Params) (keys : Keys) (up1 up2 : Bool) (was now : List (Option ℤ))
     → TermsStand (the_book d) m k old → Came (the_book d) m k params keys up1 up2
     → ((h : ℕ) → k ≡ suc h → (p : ℕ) → p < length (the_book d).parameters → get_or was p None ≡ value_in (the_book d) m p h)
     → ((p : ℕ) → p < length (the_book d).parameters → get_or now p None ≡ value_in (the_book d) m p k)
     → HalfStepped (places (the_book d)) (world_of (the_book d) m) none-hit k 0 visited t
-    → WakesBy (the_book d) (given (the_book d) (value_turned was now) (key_turned old.keys keys) (differ up1 old.one_up) (differ up2 old.two_up)) t.woken marks
-    → BookHalf (the_book d) m k 0 0 visited (record t { woken = marks })
-begins d sealed m k visited old t marks params keys up1 up2 was now stands came before told half wakes =
+    → HasWoken (the_book d) (given (the_book d) (value_turned was now) (key_turned old.keys keys) (differ up1 old.one_up) (differ up2 old.two_up)) t new
+    → BookHalf (the_book d) m k 0 0 visited new
+begins d sealed m k visited old t new params keys up1 up2 was now stands came before told half wakes =
     let b = the_book d in
     let hit : Operand → Bool = λ x. given b (value_turned was now) (key_turned old.keys keys) (differ up1 old.one_up) (differ up2 old.two_up) (operand_number (sizes_in b) x) in
-    half-more (places b) (world_of b m) none-hit (moved (known_world b m 0) k) k 0 visited t marks (λ p. list_any hit (operands p.tree)) wakes
+    half-more (places b) (world_of b m) none-hit (moved (known_world b m 0) k) k 0 visited t new (λ p. list_any hit (operands p.tree)) wakes.rest wakes.nodes wakes.terms
     (λ h e j p is.
     any_same (sizes_in b) (moved (known_world b m 0) k) hit (given-is b m k old params keys up1 up2 was now stands came before told h e) p.tree (names-within d sealed j p is)
     ∙ sym (ap (λ x. x || list_any hit (operands p.tree)) (none-any (operands p.tree))))
+    (λ h e j p is n x asks on.
+    let own = asks-operand (sizes_in b) p.tree (names-within d sealed j p is) n x asks in
+    inr (wakes.noted j p is n x asks (sym (given-is b m k old params keys up1 up2 was now stands came before told h e x own) ∙ on)))
     half

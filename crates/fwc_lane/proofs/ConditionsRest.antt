@@ -18,7 +18,7 @@ use Rattle.alert_truth.specs.TruthsState.{HalfStand, TruthsStand}
 use Rattle.fwc_lane.specs.declared.terms.Terms.{Terms}
 use Rattle.fwc_lane.specs.Conditions.{BookHalf, AlertsHalf, LinesHalf, MemosHalf, AllStepped, WasPhase, LinesWere, MemosWere}
 use Rattle.fwc_lane.specs.PhaseTruths.{inputs_by}
-use Rattle.fwc_lane.proofs.Hitting.{wakes-off}
+use Rattle.fwc_lane.proofs.Awake.{awake-off}
 use Rattle.fwc_lane.proofs.Stages.{more-known, phase-moves}
 use Rattle.fwc_lane.proofs.FlightSteps.{inputs-rest, inputs-kept}
 use Rattle.fwc_lane.proofs.AlertSteps.{alerts-begin, alerts-skip, alerts-end}
@@ -36,7 +36,7 @@ module _ (d : Draft) (sealed : IsSealed d) (m : ℕ → Moment) (k visited : ℕ
     phase-known =
         let b = the_book d in
         let inputs = inputs-rest d sealed d.phase refl m k small visited t (λ j from to. off j) half in
-        more-known d sealed m k alerts_from 0 visited t t.woken (λ o. false && eqb o (length b.parameters + length b.alerts)) (wakes-off b (length b.parameters + length b.alerts) t.woken false refl)
+        more-known d sealed m k alerts_from 0 visited t t (λ o. false && eqb o (length b.parameters + length b.alerts)) (awake-off b (length b.parameters + length b.alerts) t false refl)
         (λ h e. phase-moves b m k h was.number was.number false e (sym (ap not (eq-eqb was.number was.number refl))) stays (before h e)) inputs
 
     module _ (alerts : Truths) (rests : (a : ℕ) → is_marked alerts.restless a ≡ false) (stands : TruthsStand (the_book d) (condition_in (the_book d) m) (phase_in (the_book d) m) k alerts) where

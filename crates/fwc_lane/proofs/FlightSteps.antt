@@ -1,7 +1,6 @@
 -- The six inputs of the phase, stepped one after another.
 use Rattle.std.proofs.Common.{◌≡◌, ℕ, suc, ◌<◌, ◌^◌, Bool, false, length, slice_get, Some, refl, sym, ap, subst, ◌∙◌, arith}
 use Rattle.std.specs.Prelude.{slice_index_or}
-use Rattle.std.specs.List.{list_any}
 use Rattle.ecam_spec.specs.Book as plain
 use Rattle.ecam_spec.specs.Term.{holds}
 use Rattle.ecam_spec.specs.TermSize.{Placed}
@@ -22,13 +21,15 @@ use Rattle.book_model.proofs.ConditionWorlds.{phase-world}
 use Rattle.flight_phases.specs.Inputs.{AreInputs}
 use Rattle.term_eval.specs.declared.env.Env.{Env}
 use Rattle.term_eval.specs.Shown.{Shows}
-use Rattle.term_eval.specs.Woken.{operands, moved}
+use Rattle.term_eval.specs.Woken.{moved}
+use Rattle.condition_codes.specs.Places.{nodes_before}
 use Rattle.fwc_lane.specs.declared.terms.Terms.{Terms}
 use Rattle.fwc_lane.specs.Conditions.{StepsTerm, TellsMoved, TermsStand, BookHalf, known_world}
 use Rattle.fwc_lane.specs.Given.{Lends}
 use Rattle.fwc_lane.specs.PhaseTruths.{inputs_by}
 use Rattle.fwc_lane.specs.Waking.{NoneMarked}
 use Rattle.fwc_lane.proofs.Showing.{shows-flight}
+use Rattle.fwc_lane.proofs.Stages.{same-tells}
 use Rattle.fwc_lane.proofs.Stepping.{rest-asked, half-rest}
 
 -- where an input lies, and what it may name
@@ -40,23 +41,23 @@ module _ (d : Draft) (sealed : IsSealed d) (p : PhaseTerms) (same : p ≡ d.phas
   input-names c is = phase-names d sealed i c (ap (λ q. slice_get (phase_trees q) i) (sym same) ∙ is)
 
 tells : (d : Draft) (m : ℕ → Moment) (k i : ℕ) → i < alerts_from → (t : Placed) → TellsMoved (moved (known_world (the_book d) m 0) k) (world_of (the_book d) m i) k t
-tells d m k i lt t = ap (λ w. list_any (moved w k) (operands t.tree)) (sym (phase-world (the_book d) m i lt))
+tells d m k i lt t = same-tells (known_world (the_book d) m 0) (world_of (the_book d) m i) k t (phase-world (the_book d) m i lt)
 
 module _ (d : Draft) (sealed : IsSealed d) (p : PhaseTerms) (same : p ≡ d.phase) (m : ℕ → Moment) (k : ℕ) (env : Env) (lends : Lends (the_book d) m k env)
     (one : env.phase.number ≡ 1) (none : length env.active.now ≡ 0) where
   shows : (i : ℕ) → i < alerts_from → Shows env (world_of (the_book d) m i) k
   shows i lt = subst (λ w. Shows env w k) (sym (phase-world (the_book d) m i lt)) (shows-flight (the_book d) m k env lends one none)
 
-  module _ (i : ℕ) (lt : i < alerts_from) (t : Placed) (is : slice_get (phase_places p) i ≡ Some t) (visited : ℕ) (old new : Terms) (answer : Bool) (steps : StepsTerm env k i t old new answer)
+  module _ (i : ℕ) (lt : i < alerts_from) (t : Placed) (is : slice_get (phase_places p) i ≡ Some t) (visited : ℕ) (old new : Terms) (answer : Bool) (steps : StepsTerm (places (the_book d)) env k i t old new answer)
       (half : BookHalf (the_book d) m k i 0 visited old) where
     pub input-truth : answer ≡ holds (flight_world (the_book d) m) t.tree k
     input-truth =
-        steps.truth (places (the_book d)) (world_of (the_book d) m) (moved (known_world (the_book d) m 0) k) visited (input-place d sealed p same i t is) (shows i lt) (tells d m k i lt t) half
+        steps.truth (world_of (the_book d) m) (moved (known_world (the_book d) m 0) k) visited (input-place d sealed p same i t is) (shows i lt) (tells d m k i lt t) half
         ∙ ap (λ w. holds w t.tree k) (phase-world (the_book d) m i lt)
 
     pub input-stands : BookHalf (the_book d) m k (suc i) 0 visited new
     input-stands =
-        steps.stands (places (the_book d)) (world_of (the_book d) m) (moved (known_world (the_book d) m 0) k) visited (input-place d sealed p same i t is) (ranges-apart (the_book d)) (shows i lt) (tells d m k i lt t) half
+        steps.stands (world_of (the_book d) m) (moved (known_world (the_book d) m 0) k) visited (input-place d sealed p same i t is) (ranges-apart (the_book d)) (shows i lt) (tells d m k i lt t) half
 
 -- the answers are the inputs of the moment
 pub record SixAnswers (d : Draft) (m : ℕ → Moment) (k : ℕ) (p : PhaseTerms) (gnd run tp fast high low : Bool) : Type 0 where
@@ -87,7 +88,7 @@ module _ (d : Draft) (sealed : IsSealed d) (p : PhaseTerms) (same : p ≡ d.phas
   truth : (i : ℕ) → i < alerts_from → (q : Placed) → slice_get (phase_places p) i ≡ Some q → BookHalf (the_book d) m k i 0 visited t
       → slice_index_or t.truths.items i false ≡ holds (flight_world (the_book d) m) q.tree k
   truth i lt q is before =
-      (rest-asked (world_of (the_book d) m i) (moved (known_world (the_book d) m 0) k) k i q t small (tells d m k i lt q)
+      (rest-asked (world_of (the_book d) m i) (moved (known_world (the_book d) m 0) k) k i (nodes_before (places (the_book d)) i) q t small (tells d m k i lt q)
       (before.left i q (omega arith) (input-place d sealed p same i q is)) (off i (omega arith) lt)).told
       ∙ ap (λ w. holds w q.tree k) (phase-world (the_book d) m i lt)
 

@@ -1,6 +1,9 @@
 pub mod KeyNumbers
 pub mod Ranges
+pub mod Askers
 pub mod Hitting
+pub mod Awake
+pub mod Unheard
 pub mod NamesWithin
 pub mod Stages
 pub mod Beginning
@@ -20,6 +23,8 @@ pub mod ZonePictures
 pub mod Lanes
 pub mod FreshLanes
 pub mod ValueSteps
+pub mod TurnedFlags
+pub mod PageRest
 pub mod ZoneSteps
 pub mod Ticks
 pub mod PictureRest

@@ -20,6 +20,7 @@ use Rattle.book_model.proofs.ConditionWorlds.{rest-world}
 use Rattle.term_eval.specs.declared.env.Env.{Env}
 use Rattle.term_eval.specs.Shown.{Shows}
 use Rattle.term_eval.specs.Woken.{Operand, moved}
+use Rattle.condition_codes.specs.Places.{nodes_before}
 use Rattle.fwc_lane.specs.declared.terms.Terms.{Terms}
 use Rattle.fwc_lane.specs.Visits.{visits_below}
 use Rattle.fwc_lane.specs.Conditions.{StepsTerm, TellsMoved, IsLeft, HalfStepped, BookHalf, MemosHalf, MemosWere, AllStepped, known_world}
@@ -31,7 +32,7 @@ use Rattle.fwc_lane.proofs.Stepping.{half-rest, rest-holds}
 
 module _ (d : Draft) (sealed : IsSealed d) (xs : List Memo) (j : ℕ) (x : Memo) (same : xs ≡ d.memos.items) (within : j < length xs) (here : x ≡ get_or xs j x)
     (m : ℕ → Moment) (k : ℕ) (env : Env) (shows : Shows env (world (the_book d) m) k) (visited : ℕ) (old new : Terms) (answer : Bool)
-    (steps : StepsTerm env k (memos_from (the_book d) + j) (placed_of x.when) old new answer) (flags later : List Bool) (is : later ≡ set flags j answer) (room : j < length flags)
+    (steps : StepsTerm (places (the_book d)) env k (memos_from (the_book d) + j) (placed_of x.when) old new answer) (flags later : List Bool) (is : later ≡ set flags j answer) (room : j < length flags)
     (half : MemosHalf (the_book d) m k j visited old flags) where
   place : ℕ
   place = memos_from (the_book d) + j
@@ -55,7 +56,7 @@ module _ (d : Draft) (sealed : IsSealed d) (xs : List Memo) (j : ℕ) (x : Memo)
   truth : answer ≡ holds (world (the_book d) m) (tree_in x.when) k
   unfolding place hit
   truth =
-      steps.truth (places (the_book d)) (world_of (the_book d) m) hit visited (memo-place-at d sealed xs j x same within here) shown tells half.terms
+      steps.truth (world_of (the_book d) m) hit visited (memo-place-at d sealed xs j x same within here) shown tells half.terms
       ∙ ap (λ w. holds w (tree_in x.when) k) world-is
 
   told : (i : ℕ) (y : plain.Memo) → i < suc j → slice_get (the_book d).memos i ≡ Some y → get_or later i false ≡ holds (world (the_book d) m) y.when k
@@ -74,7 +75,7 @@ module _ (d : Draft) (sealed : IsSealed d) (xs : List Memo) (j : ℕ) (x : Memo)
       let next : suc j ≡ j + 1 = omega arith in
       subst (λ n. MemosHalf (the_book d) m k n visited new later) next record {
         terms = subst (λ n. BookHalf (the_book d) m k n (suc (length (the_book d).alerts)) visited new) (let e : suc place ≡ memos_from (the_book d) + suc j = omega arith in e)
-            (steps.stands (places (the_book d)) (world_of (the_book d) m) hit visited (memo-place-at d sealed xs j x same within here) (ranges-apart (the_book d)) shown tells half.terms);
+            (steps.stands (world_of (the_book d) m) hit visited (memo-place-at d sealed xs j x same within here) (ranges-apart (the_book d)) shown tells half.terms);
         told = told;
         left = λ h e i y le there. set-behind flags later j answer false is i le ∙ half.left h e i y (let w : j ≤ i = omega arith in w) there;
       }
@@ -100,13 +101,13 @@ module _ (d : Draft) (sealed : IsSealed d) (m : ℕ → Moment) (k visited : ℕ
     unfolding hits
     was = half.terms
 
-    own : IsLeft (world_of (the_book d) m (memos_from (the_book d) + j)) hits k (memos_from (the_book d) + j) (placed_of x.when) t
+    own : IsLeft (world_of (the_book d) m (memos_from (the_book d) + j)) hits k (memos_from (the_book d) + j) (nodes_before (places (the_book d)) (memos_from (the_book d) + j)) (placed_of x.when) t
     own = was.left (memos_from (the_book d) + j) (placed_of x.when) (let w : memos_from (the_book d) + j ≤ memos_from (the_book d) + j = omega arith in w) at-place
 
     held : (h : ℕ) → k ≡ suc h → holds (world (the_book d) m) (tree_in x.when) h ≡ holds (world (the_book d) m) (tree_in x.when) k
     held h e =
         subst (λ w. holds w (tree_in x.when) h ≡ holds w (tree_in x.when) k) world-there
-        (rest-holds (world_of (the_book d) m (memos_from (the_book d) + j)) hits k h (memos_from (the_book d) + j) (placed_of x.when) t small e tells-there own off)
+        (rest-holds (world_of (the_book d) m (memos_from (the_book d) + j)) hits k h (memos_from (the_book d) + j) (nodes_before (places (the_book d)) (memos_from (the_book d) + j)) (placed_of x.when) t small e tells-there own off)
 
     by-moment : (n : ℕ) → k ≡ n → (i : ℕ) (y : plain.Memo) → i ≡ j → memo_of x ≡ y → slice_get (the_book d).memos i ≡ Some y → get_or flags i false ≡ holds (world (the_book d) m) y.when k
     by-moment zero e i y same one there = absurd (let w : ⊥ = (let clash : true ≡ false = sym (own.first e) ∙ off in cc) in w)

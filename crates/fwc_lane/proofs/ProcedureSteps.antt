@@ -31,6 +31,7 @@ use Rattle.term_eval.specs.declared.env.Env.{Env}
 use Rattle.ecam_spec.specs.TermSize.{Placed}
 use Rattle.term_eval.specs.Shown.{Shows}
 use Rattle.term_eval.specs.Woken.{Operand, moved}
+use Rattle.condition_codes.specs.Places.{nodes_before}
 use Rattle.fwc_lane.specs.declared.terms.Terms.{Terms}
 use Rattle.fwc_lane.specs.Conditions.{StepsLine, HalfStepped, TellsMoved, BookHalf, LinesHalf, LinesWere, known_world}
 use Rattle.fwc_lane.proofs.Stages.{rest-tells}
@@ -57,7 +58,7 @@ module _ (d : Draft) (sealed : IsSealed d) (xs : List Alert) (a : ℕ) (x : Aler
   done-here = ap (slice_get (places (the_book d))) (sym (add-one first)) ∙ line-done d sealed xs a x same within here ls j l own inside at
 
   module _ (m : ℕ → Moment) (k : ℕ) (env : Env) (shows : Shows env (world (the_book d) m) k) (visited : ℕ) (old new : Terms) (answer : Bool)
-      (steps : StepsLine env k (lines_from (the_book d) + 2 * line) (placed_of l.when) (placed_of l.done) old new answer) (flags later : List Bool) (is : later ≡ set flags line answer) (room : line < length flags)
+      (steps : StepsLine (places (the_book d)) env k (lines_from (the_book d) + 2 * line) (placed_of l.when) (placed_of l.done) old new answer) (flags later : List Bool) (is : later ≡ set flags line answer) (room : line < length flags)
       (half : LinesHalf (the_book d) m k line visited old flags) where
     hit : Operand → Bool
     hit = moved (known_world (the_book d) m (suc (length (the_book d).alerts))) k
@@ -77,14 +78,14 @@ module _ (d : Draft) (sealed : IsSealed d) (xs : List Alert) (a : ℕ) (x : Aler
     unfolding first hit
     old-half = half.terms
 
-    own-steps : StepsLine env k first (placed_of l.when) (placed_of l.done) old new answer
+    own-steps : StepsLine (places (the_book d)) env k first (placed_of l.when) (placed_of l.done) old new answer
     unfolding first
     own-steps = steps
 
     truth : answer ≡ line_stands (the_book d) m k (line_of l)
     unfolding line_stands
     truth =
-        own-steps.truth (places (the_book d)) (world_of (the_book d) m) hit visited when-here done-here (ranges-apart (the_book d)) (world-at first from) (world-at (suc first) (omega (arith, from)))
+        own-steps.truth (world_of (the_book d) m) hit visited when-here done-here (ranges-apart (the_book d)) (world-at first from) (world-at (suc first) (omega (arith, from)))
         (tells-at first from _ when-here) (tells-at (suc first) (omega (arith, from)) _ done-here) old-half
         ∙ ap (λ w. holds w (tree_in l.when) k && not (holds (world_of (the_book d) m (suc first)) (tree_in l.done) k)) (rest-world (the_book d) m first from)
         ∙ ap (λ w. holds (world (the_book d) m) (tree_in l.when) k && not (holds w (tree_in l.done) k)) (rest-world (the_book d) m (suc first) (omega (arith, from)))
@@ -106,7 +107,7 @@ module _ (d : Draft) (sealed : IsSealed d) (xs : List Alert) (a : ℕ) (x : Aler
         let after : suc (suc first) ≡ lines_from (the_book d) + 2 * suc line = omega arith in
         subst (λ n. LinesHalf (the_book d) m k n visited new later) next record {
           terms = subst (λ n. BookHalf (the_book d) m k n (suc (length (the_book d).alerts)) visited new) after
-              (own-steps.stands (places (the_book d)) (world_of (the_book d) m) hit visited when-here done-here (ranges-apart (the_book d)) (world-at first from) (world-at (suc first) (omega (arith, from)))
+              (own-steps.stands (world_of (the_book d) m) hit visited when-here done-here (ranges-apart (the_book d)) (world-at first from) (world-at (suc first) (omega (arith, from)))
               (tells-at first from _ when-here) (tells-at (suc first) (omega (arith, from)) _ done-here) old-half);
           told = told;
           left = λ h e i y le there. set-behind flags later line answer false is i le ∙ half.left h e i y (let w : line ≤ i = omega arith in w) there;
@@ -135,7 +136,7 @@ module _ (d : Draft) (sealed : IsSealed d) (xs : List Alert) (a : ℕ) (x : Aler
         → holds (world (the_book d) m) p.tree h ≡ holds (world (the_book d) m) p.tree k
     keeps h i e le next p here' off =
         subst (λ w. holds w p.tree h ≡ holds w p.tree k) (rest-world (the_book d) m i le)
-        (rest-holds (world_of (the_book d) m i) hits k h i p t small e (tells-there i le p here') (was.left i p next here') off)
+        (rest-holds (world_of (the_book d) m i) hits k h i (nodes_before (places (the_book d)) i) p t small e (tells-there i le p here') (was.left i p next here') off)
 
     stood : (h : ℕ) → k ≡ suc h → line_stands (the_book d) m h (line_of l) ≡ line_stands (the_book d) m k (line_of l)
     unfolding line_stands first
@@ -237,11 +238,11 @@ line-places d sealed n less =
 -- a line that is stepped
 pub line-next : (d : Draft) → IsSealed d → (n : ℕ) → n < length (lines_of (the_book d).alerts) → (m : ℕ → Moment) (k : ℕ) (env : Env) → Shows env (world (the_book d) m) k → (visited : ℕ) (old new : Terms) (answer : Bool)
     → ((w p : Placed) → slice_get (places (the_book d)) (lines_from (the_book d) + 2 * n) ≡ Some w → slice_get (places (the_book d)) (suc (lines_from (the_book d) + 2 * n)) ≡ Some p
-    → IsWithin (length d.params.items) (length d.alerts.items) w.tree → IsWithin (length d.params.items) (length d.alerts.items) p.tree → StepsLine env k (lines_from (the_book d) + 2 * n) w p old new answer)
+    → IsWithin (length d.params.items) (length d.alerts.items) w.tree → IsWithin (length d.params.items) (length d.alerts.items) p.tree → StepsLine (places (the_book d)) env k (lines_from (the_book d) + 2 * n) w p old new answer)
     → (flags later : List Bool) → later ≡ set flags n answer → n < length flags → LinesHalf (the_book d) m k n visited old flags → LinesHalf (the_book d) m k (n + 1) visited new later
 line-next d sealed n less m k env shows visited old new answer steps flags later is room half =
     with-line d (λ n. ((w p : Placed) → slice_get (places (the_book d)) (lines_from (the_book d) + 2 * n) ≡ Some w → slice_get (places (the_book d)) (suc (lines_from (the_book d) + 2 * n)) ≡ Some p
-    → IsWithin (length d.params.items) (length d.alerts.items) w.tree → IsWithin (length d.params.items) (length d.alerts.items) p.tree → StepsLine env k (lines_from (the_book d) + 2 * n) w p old new answer)
+    → IsWithin (length d.params.items) (length d.alerts.items) w.tree → IsWithin (length d.params.items) (length d.alerts.items) p.tree → StepsLine (places (the_book d)) env k (lines_from (the_book d) + 2 * n) w p old new answer)
     → later ≡ set flags n answer → n < length flags → LinesHalf (the_book d) m k n visited old flags → LinesHalf (the_book d) m k (n + 1) visited new later) n less
     (λ a x within here j l inside at steps is room half.
     let e : start d a + (j + 1) ≡ start d a + j + 1 = omega arith in

@@ -24,7 +24,7 @@ use Rattle.fwc_lane.specs.Conditions.{HalfStepped, BookHalf}
 use Rattle.fwc_lane.specs.Waking.{ranged, value_turned, key_turned}
 use Rattle.fwc_lane.proofs.AlertSteps.{differ-self}
 use Rattle.fwc_lane.proofs.Beginning.{none-hit, given, half-due, begins}
-use Rattle.fwc_lane.proofs.Hitting.{wakes-none}
+use Rattle.fwc_lane.proofs.Awake.{awake-none}
 use Rattle.fwc_lane.proofs.KeyNumbers as keys
 use Rattle.fwc_lane.proofs.Ticks.{has-begun, values-told, value-before}
 use Rattle.fwc_lane.proofs.ValueSteps as values
@@ -88,12 +88,12 @@ module _ (d : Draft) (sealed : IsSealed d) (m : ℕ → Moment) (old : Lane) (fi
 
   begun-terms : BookHalf b m k 0 0 old.terms.cells.visits unmarked
   begun-terms =
-      begins d sealed m k old.terms.cells.visits old.terms (record old.terms { woken = []; dues = old.terms.dues }) [] old.params old.keys old.terms.one_up old.terms.two_up old.values.items old.values.items
+      begins d sealed m k old.terms.cells.visits old.terms (record old.terms { woken = []; dues = old.terms.dues }) unmarked old.params old.keys old.terms.one_up old.terms.two_up old.values.items old.values.items
       was.terms came (value-before b m k old.values.items was.values)
       (values-told b m k old.values.items (λ p lt. was.values p lt ∙ sym (stay (words_in b m) k came.words p lt))) half
-      (wakes-none b all-given [] none-given)
+      (awake-none b all-given unmarked none-given)
 
   pub begun : HasBegun b m k old.terms.one_up old.terms.two_up false (record old { terms = unmarked })
   begun =
-      has-begun b m k old.terms.one_up old.terms.two_up false old unmarked old.values was came begun-terms
-      (values-told b m k old.values.items (λ p lt. was.values p lt ∙ sym (stay (words_in b m) k came.words p lt))) (λ off. refl) old.idle
+      has-begun b m k old.terms.one_up old.terms.two_up false old unmarked old.values old.turned was came begun-terms
+      (values-told b m k old.values.items (λ p lt. was.values p lt ∙ sym (stay (words_in b m) k came.words p lt))) (λ off. refl) (λ p off. refl) old.idle

@@ -124,7 +124,7 @@ module _ (d : Draft) (sealed : IsSealed d) (m : ℕ → Moment) (old : Lane) (fi
 
   all-asked : AllStepped b m k visited old.terms
   all-asked = record {
-    asked = λ j p is. (record { stands = (stepped.asked j p is).stands; told = (stepped.asked j p is).told; next = (stepped.asked j p is).next });
+    asked = λ j p is. (record { stands = (stepped.asked j p is).stands; nodes = (stepped.asked j p is).nodes; told = (stepped.asked j p is).told; next = (stepped.asked j p is).next });
     counted = stepped.counted;
   }
 

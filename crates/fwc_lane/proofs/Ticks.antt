@@ -113,6 +113,7 @@ terms-after b m k visited t params keys kept one two same all came =
     let back : (h : ℕ) → suc k ≡ suc h → k ≡ h = λ h e. omega (arith, e) in
     record {
       cells = λ j p is. (all.asked j p is).stands;
+      nodes = λ j p is. (all.asked j p is).nodes;
       told = λ h e j p is. (all.asked j p is).told ∙ ap (holds (world_of b m j) p.tree) (back h e);
       next = λ h e j p is. subst (λ n. IsDue (staying (world_of b m j) n) p.tree n (slice_index t.dues j)) (back h e) (all.asked j p is).next;
       keys = λ h e x at. same x at ∙ came.strokes.pressed x at ∙ ap (pressed (strokes_in b m) x) (back h e);
@@ -121,13 +122,15 @@ terms-after b m k visited t params keys kept one two same all came =
     }
 
 -- a moment has begun in a lane that stood for those before it
-pub has-begun : (b : Book) (m : ℕ → Moment) (k : ℕ) (one two turned : Bool) (old : Lane) (t : Terms) (values : Vec (Option ℤ) Global) → WholeStands b m k old → Came b m k old.params old.keys one two
-    → BookHalf b m k 0 0 t.cells.visits t → ((p : ℕ) → p < length b.parameters → get_or values.items p None ≡ value_in b m p k) → (turned ≡ false → values.items ≡ old.values.items) → (idle : Bool)
-    → HasBegun b m k one two turned (record old { terms = t; values = values; idle = idle })
-has-begun b m k one two turned old t values was came half told kept idle = record {
+pub has-begun : (b : Book) (m : ℕ → Moment) (k : ℕ) (one two turned : Bool) (old : Lane) (t : Terms) (values : Vec (Option ℤ) Global) (flags : Vec Bool Global) → WholeStands b m k old → Came b m k old.params old.keys one two
+    → BookHalf b m k 0 0 t.cells.visits t → ((p : ℕ) → p < length b.parameters → get_or values.items p None ≡ value_in b m p k) → (turned ≡ false → values.items ≡ old.values.items)
+    → ((p : ℕ) → get_or flags.items p false ≡ false → get_or values.items p None ≡ get_or old.values.items p None)
+    → (idle : Bool) → HasBegun b m k one two turned (record old { terms = t; values = values; turned = flags; idle = idle })
+has-begun b m k one two turned old t values flags was came half told kept stays idle = record {
   came = came;
   values = told;
   kept = λ off j e p lt. sym (told p lt) ∙ ap (λ vs. get_or vs p None) (kept off) ∙ value-before b m k old.values.items was.values j e p lt;
+  flags = λ j e p lt off. sym (told p lt) ∙ stays p off ∙ value-before b m k old.values.items was.values j e p lt;
   terms = half;
   ticked = was.ticked;
   phases = was.phases;

@@ -122,6 +122,13 @@ module _ (b : Book) (m : ℕ → Moment) (k j : ℕ) where
 
   -- ---- the system display
 
+  -- the situation calls for the same page
+  pub called-kept : phase_in b m k ≡ phase_in b m j → shown_in b m k ≡ shown_in b m j → called_page (display b m k) ≡ called_page (display b m j)
+  unfolding called_page display
+  called-kept phase shown =
+      ap (λ p. option_or (option_and_then (slice_get b.pages) (option_and_then (λ a. (alert_at b a).page) (first_in (shown_in b m k)))) (find (λ (x : plain.Page). in_set x.phases p) b.pages)) phase
+      ∙ ap (λ xs. option_or (option_and_then (slice_get b.pages) (option_and_then (λ a. (alert_at b a).page) (first_in xs))) (find (λ (x : plain.Page). in_set x.phases (phase_in b m j)) b.pages)) shown
+
   module _ (values : (p : ℕ) → p < length b.parameters → value_in b m p k ≡ value_in b m p j) where
     shown-same : (r : plain.PageRow) (p : ℕ) (v : Option ℤ) → shown_value (display b m k) r p v ≡ shown_value (display b m j) r p v
     unfolding shown_value display
@@ -155,12 +162,8 @@ module _ (b : Book) (m : ℕ → Moment) (k j : ℕ) where
     one-page-kept i = page-kept (slice_get b.pages i)
 
     pub called-page-kept : phase_in b m k ≡ phase_in b m j → shown_in b m k ≡ shown_in b m j → display_rows (display b m k) Auto ≡ display_rows (display b m j) Auto
-    unfolding display_rows called_page display
-    called-page-kept phase shown =
-        page-kept (called_page (display b m k))
-        ∙ ap (page_rows (display b m j))
-        (ap (λ p. option_or (option_and_then (slice_get b.pages) (option_and_then (λ a. (alert_at b a).page) (first_in (shown_in b m k)))) (find (λ (x : plain.Page). in_set x.phases p) b.pages)) phase
-        ∙ ap (λ xs. option_or (option_and_then (slice_get b.pages) (option_and_then (λ a. (alert_at b a).page) (first_in xs))) (find (λ (x : plain.Page). in_set x.phases (phase_in b m j)) b.pages)) shown)
+    unfolding display_rows
+    called-page-kept phase shown = page-kept (called_page (display b m k)) ∙ ap (page_rows (display b m j)) (called-kept phase shown)
 
   pub status-page-kept : (q : ℕ) → status_in b m k ≡ status_in b m j → display_rows (display b m k) (Status q) ≡ display_rows (display b m j) (Status q)
   unfolding display_rows display

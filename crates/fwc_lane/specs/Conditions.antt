@@ -17,9 +17,13 @@ use Rattle.book_model.specs.Conditions.{places, lines_from, memos_from, alerts_f
 use Rattle.term_eval.specs.declared.env.Env.{Env}
 use Rattle.term_eval.specs.Shown.{Shows}
 use Rattle.term_eval.specs.CellState.{Stand}
+use Rattle.term_eval.specs.Code.{IsShort}
+use Rattle.term_eval.specs.NodeState.{state_at, NodesStand}
+use Rattle.term_eval.specs.Asked.{Asks}
 use Rattle.term_eval.specs.Due.{staying, IsDue}
 use Rattle.term_eval.specs.Woken.{Operand, operands, moved}
 use Rattle.wakes.specs.Marks.{is_marked}
+use Rattle.condition_codes.specs.Places.{nodes_before}
 use Rattle.alert_truth.specs.declared.truths.Truths.{Truths}
 use Rattle.alert_truth.specs.TruthsState.{HalfStand, TruthsStand}
 use Rattle.flight_phases.specs.State as flight_phases
@@ -29,59 +33,65 @@ use Rattle.fwc_lane.specs.Visits.{visits_below, visits}
 
 -- ---- one condition
 
--- condition j has been asked in moment k: its cells stand for one moment more, and its truth and when it turns are noted
-pub record IsAsked (w : World) (k j : ℕ) (p : Placed) (t : Terms) : Type 0 where
+-- condition j, whose nodes start at a place, has been asked in moment k: its cells and its nodes stand for one moment more, and
+-- its truth and when it turns are noted
+pub record IsAsked (w : World) (k j start : ℕ) (p : Placed) (t : Terms) : Type 0 where
   pub stands : Stand w (suc k) p.tree p.at t.cells.slots
+  pub nodes : NodesStand w (suc k) p.tree start t.nodes
   pub told : slice_index_or t.truths.items j false ≡ holds w p.tree k
   pub next : IsDue (staying w k) p.tree k (slice_index t.dues j)
 
 -- condition j waits to be asked in moment h + 1: what is noted of it is told of moment h, and it is marked where an operand
--- passes the test or where it is due
-pub record IsWaiting (w : World) (hit : Operand → Bool) (h j : ℕ) (p : Placed) (t : Terms) : Type 0 where
+-- passes the test or where it is due. Of its nodes those are marked that ask for such an operand
+pub record IsWaiting (w : World) (hit : Operand → Bool) (h j start : ℕ) (p : Placed) (t : Terms) : Type 0 where
   pub due : ℕ
   pub told : slice_index_or t.truths.items j false ≡ holds w p.tree h
   pub next : IsDue (staying w h) p.tree h due
   pub marks : is_marked t.woken j ≡ (list_any hit (operands p.tree) || (due == suc h))
   pub kept : is_marked t.woken j ≡ false → slice_index t.dues j ≡ due
+  pub noted : (i : ℕ) (x : Operand) → Asks p.tree i x → hit x ≡ true → (state_at t.nodes (start + i)).wake ≡ 0
 
 -- condition j hasn't been stepped by moment k yet. In the first moment it is marked, whatever it names
-pub record IsLeft (w : World) (hit : Operand → Bool) (k j : ℕ) (p : Placed) (t : Terms) : Type 0 where
+pub record IsLeft (w : World) (hit : Operand → Bool) (k j start : ℕ) (p : Placed) (t : Terms) : Type 0 where
+  pub short : IsShort p.tree
   pub stands : Stand w k p.tree p.at t.cells.slots
+  pub nodes : NodesStand w k p.tree start t.nodes
   pub first : k ≡ 0 → is_marked t.woken j ≡ true
-  pub later : (h : ℕ) → k ≡ suc h → IsWaiting w hit h j p t
+  pub later : (h : ℕ) → k ≡ suc h → IsWaiting w hit h j start p t
 
 -- ---- some conditions
 
 -- in moment k, which hasn't ended, those below i have been stepped, and the others haven't. So many nodes were visited
 -- before the moment, and since then those of the conditions that it woke
 pub record HalfStepped (ps : List Placed) (worlds : ℕ → World) (hit : Operand → Bool) (k i visited : ℕ) (t : Terms) : Type 0 where
-  pub stepped : (j : ℕ) (p : Placed) → j < i → slice_get ps j ≡ Some p → IsAsked (worlds j) k j p t
-  pub left : (j : ℕ) (p : Placed) → i ≤ j → slice_get ps j ≡ Some p → IsLeft (worlds j) hit k j p t
+  pub stepped : (j : ℕ) (p : Placed) → j < i → slice_get ps j ≡ Some p → IsAsked (worlds j) k j (nodes_before ps j) p t
+  pub left : (j : ℕ) (p : Placed) → i ≤ j → slice_get ps j ≡ Some p → IsLeft (worlds j) hit k j (nodes_before ps j) p t
   pub counted : t.cells.visits ≡ min (visited + visits_below ps worlds k i) (2 ^ 64 - 1)
 
 -- of what the condition names, the operands that pass the test are those that moved
-abbrev pub TellsMoved : (Operand → Bool) → World → ℕ → Placed → Type 0
-TellsMoved hit w k p = list_any hit (operands p.tree) ≡ list_any (moved w k) (operands p.tree)
+pub record TellsMoved (hit : Operand → Bool) (w : World) (k : ℕ) (p : Placed) : Type 0 where
+  pub any : list_any hit (operands p.tree) ≡ list_any (moved w k) (operands p.tree)
+  pub each : (i : ℕ) (x : Operand) → Asks p.tree i x → hit x ≡ moved w k x
 
--- condition i was stepped by moment k: wherever it is the next of some conditions with slots of their own, the answer is its
--- truth, and it is stepped then
-pub record StepsTerm (env : Env) (k i : ℕ) (p : Placed) (old new : Terms) (answer : Bool) : Type 0 where
-  pub truth : (ps : List Placed) (worlds : ℕ → World) (hit : Operand → Bool) (visited : ℕ) → slice_get ps i ≡ Some p
+-- condition i of some was stepped by moment k: wherever it is the next of them, and they have slots of their own, the answer is
+-- its truth, and it is stepped then
+pub record StepsTerm (ps : List Placed) (env : Env) (k i : ℕ) (p : Placed) (old new : Terms) (answer : Bool) : Type 0 where
+  pub truth : (worlds : ℕ → World) (hit : Operand → Bool) (visited : ℕ) → slice_get ps i ≡ Some p
       → Shows env (worlds i) k → TellsMoved hit (worlds i) k p → HalfStepped ps worlds hit k i visited old
       → answer ≡ holds (worlds i) p.tree k
-  pub stands : (ps : List Placed) (worlds : ℕ → World) (hit : Operand → Bool) (visited : ℕ) → slice_get ps i ≡ Some p
+  pub stands : (worlds : ℕ → World) (hit : Operand → Bool) (visited : ℕ) → slice_get ps i ≡ Some p
       → AllPairs EndsBefore ps → Shows env (worlds i) k → TellsMoved hit (worlds i) k p
       → HalfStepped ps worlds hit k i visited old → HalfStepped ps worlds hit k (suc i) visited new
 
 -- both conditions of a line were stepped, `when` and then `done`: the answer is whether the line stands
-pub record StepsLine (env : Env) (k i : ℕ) (when_at done_at : Placed) (old new : Terms) (answer : Bool) : Type 0 where
-  pub truth : (ps : List Placed) (worlds : ℕ → World) (hit : Operand → Bool) (visited : ℕ)
+pub record StepsLine (ps : List Placed) (env : Env) (k i : ℕ) (when_at done_at : Placed) (old new : Terms) (answer : Bool) : Type 0 where
+  pub truth : (worlds : ℕ → World) (hit : Operand → Bool) (visited : ℕ)
       → slice_get ps i ≡ Some when_at → slice_get ps (suc i) ≡ Some done_at → AllPairs EndsBefore ps
       → Shows env (worlds i) k → Shows env (worlds (suc i)) k
       → TellsMoved hit (worlds i) k when_at → TellsMoved hit (worlds (suc i)) k done_at
       → HalfStepped ps worlds hit k i visited old
       → answer ≡ (holds (worlds i) when_at.tree k && not (holds (worlds (suc i)) done_at.tree k))
-  pub stands : (ps : List Placed) (worlds : ℕ → World) (hit : Operand → Bool) (visited : ℕ)
+  pub stands : (worlds : ℕ → World) (hit : Operand → Bool) (visited : ℕ)
       → slice_get ps i ≡ Some when_at → slice_get ps (suc i) ≡ Some done_at → AllPairs EndsBefore ps
       → Shows env (worlds i) k → Shows env (worlds (suc i)) k
       → TellsMoved hit (worlds i) k when_at → TellsMoved hit (worlds (suc i)) k done_at
@@ -90,9 +100,11 @@ pub record StepsLine (env : Env) (k i : ℕ) (when_at done_at : Placed) (old new
 -- ---- a book's conditions
 
 module _ (b : Book) (moments : ℕ → Moment) where
-  -- what is kept of them between moments, after k of them. Before the first nothing but the cells says anything
+  -- what is kept of them between moments, after k of them. Before the first nothing but the cells and the nodes says anything
   pub record TermsStand (k : ℕ) (t : Terms) : Type 0 where
     pub cells : (j : ℕ) (p : Placed) → slice_get (places b) j ≡ Some p → Stand (world_of b moments j) k p.tree p.at t.cells.slots
+    pub nodes : (j : ℕ) (p : Placed) → slice_get (places b) j ≡ Some p
+        → NodesStand (world_of b moments j) k p.tree (nodes_before (places b) j) t.nodes
     pub told : (h : ℕ) → k ≡ suc h → (j : ℕ) (p : Placed) → slice_get (places b) j ≡ Some p
         → slice_index_or t.truths.items j false ≡ holds (world_of b moments j) p.tree h
     pub next : (h : ℕ) → k ≡ suc h → (j : ℕ) (p : Placed) → slice_get (places b) j ≡ Some p
@@ -113,7 +125,7 @@ module _ (b : Book) (moments : ℕ → Moment) where
 
   -- all were stepped by moment k, before which so many nodes were visited
   pub record AllStepped (k visited : ℕ) (t : Terms) : Type 0 where
-    pub asked : (j : ℕ) (p : Placed) → slice_get (places b) j ≡ Some p → IsAsked (world_of b moments j) k j p t
+    pub asked : (j : ℕ) (p : Placed) → slice_get (places b) j ≡ Some p → IsAsked (world_of b moments j) k j (nodes_before (places b) j) p t
     pub counted : t.cells.visits ≡ min (visited + visits b moments k) (2 ^ 64 - 1)
 
   -- this was the phase of the moment before k

@@ -8,6 +8,7 @@ pub mod PhaseTruths
 pub mod ChangedRows
 pub mod CrewStands
 pub mod Drawn
+pub mod PageKept
 pub mod Scenes
 pub mod Calm
 pub mod LaneFits

@@ -26,16 +26,19 @@ pub record SceneFits (b : Book) (s : Scene) : Type 0 where
   pub values : length s.values.now ≡ length b.parameters
   pub lines : length s.lines.now ≡ length (lines_of b.alerts)
   pub memos : length s.memos.now ≡ length b.memos
+  pub turned : length s.turned.now ≡ length b.parameters
   pub short : AreShort s.values.now
   pub first : 1 ≤ s.phase.number
   pub last : s.phase.number ≤ 10
 
--- it is what moment k shows
+-- it is what moment k shows, and a parameter whose flag isn't set has the value of the moment before
 pub record SceneStands (b : Book) (m : ℕ → Moment) (k : ℕ) (s : Scene) : Type 0 where
   pub phase : s.phase.number ≡ phase_in b m k
   pub values : (p : ℕ) → p < length b.parameters → slice_index_or s.values.now p None ≡ value_in b m p k
   pub lines : TellsOf s.lines.now (lines_of b.alerts) (line_stands b m k)
   pub memos : TellsOf s.memos.now b.memos (λ x. holds (world b m) x.when k)
+  pub turned : (j : ℕ) → k ≡ suc j → (p : ℕ) → p < length b.parameters → slice_index_or s.turned.now p false ≡ false
+      → value_in b m p k ≡ value_in b m p j
   pub truths : TruthsStand b (condition_in b m) (phase_in b m) (suc k) s.truths.now
   pub marks : MarksStand b (cockpit b m) (suc k) s.marks.now
   pub attention : AttentionStands b (attention b m) (suc k) s.attention.now

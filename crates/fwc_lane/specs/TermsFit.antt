@@ -1,5 +1,5 @@
 -- When what a lane keeps of the conditions was made for a book.
-use Rattle.std.specs.Prelude.{◌≡◌, ◌<◌, ◌≤◌, ◌-◌, ◌^◌, length}
+use Rattle.std.specs.Prelude.{◌≡◌, ◌≤◌, ◌-◌, ◌^◌, length}
 use Rattle.ecam_spec.specs.Book.{Book}
 use Rattle.ecam_spec.specs.BookTerms.{terms_of, slots_in}
 use Rattle.book_model.specs.declared.draft.Draft.{Draft}
@@ -8,18 +8,21 @@ use Rattle.book_model.specs.Conditions.{places}
 use Rattle.watch_lists.specs.declared.watch.Watch.{Watch}
 use Rattle.watch_lists.specs.Watching.{IsWatch}
 use Rattle.wakes.specs.Marks.{room}
+use Rattle.condition_codes.specs.Places.{nodes_before}
 use Rattle.condition_codes.specs.IsCodes.{IsCodes}
+use Rattle.condition_codes.specs.IsAskers.{IsAskers}
 use Rattle.fwc_lane.specs.declared.terms.Terms.{Terms}
 
 -- the lists tell which of the book's conditions name which operand
 abbrev pub Watches : Book → Watch → Type 0
 Watches b w = (d : Draft) × (the_book d ≡ b) × IsWatch d w
 
--- it has room for the book's slots and conditions and for a run of each code, and the codes and the lists are the book's.
+-- it has room for the book's slots, nodes and conditions, and the codes and the lists are the book's.
 -- Nothing is said of any history
 pub record TermsFit (b : Book) (t : Terms) : Type 0 where
   pub codes : IsCodes b t.codes
-  pub totals : t.codes.longest < length t.totals.items
+  pub nodes : length t.nodes ≡ nodes_before (places b) (length (places b))
+  pub askers : IsAskers b t.askers
   pub slots : length t.cells.slots ≡ slots_in (terms_of b)
   pub visits : t.cells.visits ≤ 2 ^ 64 - 1
   pub truths : length t.truths.items ≡ length (places b)
@@ -30,6 +33,7 @@ pub record TermsFit (b : Book) (t : Terms) : Type 0 where
 -- all that is kept of the moments so far was taken over from another's
 pub record TookTerms (other t : Terms) : Type 0 where
   pub slots : t.cells.slots ≡ other.cells.slots
+  pub nodes : t.nodes ≡ other.nodes
   pub truths : t.truths.items ≡ other.truths.items
   pub dues : t.dues ≡ other.dues
   pub keys : t.keys ≡ other.keys

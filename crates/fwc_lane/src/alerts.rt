@@ -52,12 +52,12 @@ fn step_alert(
     let holds = step_term(terms, alert_number(alert), own, &earlier, now);
     let active = truths.step_one(book, alert, holds, env.phase);
     let other = differ(active, was);
-    wake_alert(&mut terms.woken, &terms.watch, book, alert, other);
+    wake_alert(terms, book, alert, other);
 }
 
 /// Steps by moment `now` the alerts that may change, and settles which are starred and up: those whose condition is woken,
 /// and those that are restless. The others are as they were, and aren't looked at. Its cost is a look for each 64 alerts and
-/// a few at each that may change, one visit of each node of the conditions that are woken, a write for each condition that an
+/// a few at each that may change, a look at each node of the conditions that are woken, a write for each condition that an
 /// alert wakes, and, where an alert changed, a look at each and one at each secondary of the active ones.
 pub fn step_alerts(terms: &mut Terms, truths: &mut Truths, book: &Book, env: &Env<'_>, now: u64)
     requires terms { TermsFit (the_book book.now) terms.old }

@@ -18,12 +18,13 @@ use book_model::Book;
 use param_table::Params;
 
 /// Begins the end of moment `now`: reads its values, and marks the conditions that are due, and those that name a value, a
-/// key or a computer that is another than it was. Answers whether some value is. Its cost is a look for each 64 parameters
-/// and at each source of those that may have another value, two at each key if one is or was pressed, and a write for each
-/// condition that names what is another, or is due.
+/// key or a computer that is another than it was. Tells in `turned` which values are, and answers whether some is. Its cost
+/// is a look for each 64 parameters, a write of a byte for each, a look at each source of those that may have another value,
+/// two at each key if one is or was pressed, and a write for each condition that names what is another, or is due.
 pub fn begin_moment(
     terms: &mut Terms,
     values: &mut Vec<Option<i64>>,
+    turned: &mut Vec<bool>,
     params: &Params,
     keys: &Strokes,
     book: &Book,
@@ -34,10 +35,14 @@ pub fn begin_moment(
     requires fits { TermsFit (the_book book.now) terms.old }
     requires params { ParamsFit (the_book book.now) params.now }
     requires many { length values.old.items ≡ length (the_book book.now).parameters }
+    requires flags { length turned.old.items ≡ length (the_book book.now).parameters }
     requires short { AreShort values.old.items }
     requires now { now < 2 ^ 63 }
     ensures fits { TermsFit (the_book book.now) terms.new }
     ensures many { length values.new.items ≡ length values.old.items }
+    ensures flags { length turned.new.items ≡ length turned.old.items }
+    ensures turned { (p : ℕ) → slice_index_or turned.new.items p false ≡ false
+        → slice_index_or values.new.items p None ≡ slice_index_or values.old.items p None }
     ensures values { (words : ℕ → List BusWord) (k : ℕ)
         → ParamsStand (the_book book.now) words k params.now
         → AreBefore (the_book book.now) words k values.old.items
@@ -55,10 +60,10 @@ pub fn begin_moment(
 {
     book.sealed();
     wake_first(&mut terms.woken, &mut terms.dues, terms.truths.len(), now);
-    let turned = read_values(values, &mut terms.woken, &terms.watch, params, book);
-    wake_keys(&mut terms.woken, &terms.watch, book, &terms.keys, keys);
+    let any = read_values(values, turned, terms, params, book);
+    wake_keys(terms, book, keys);
     let one = differ(one_up, terms.one_up);
     let two = differ(two_up, terms.two_up);
-    wake_computers(&mut terms.woken, &terms.watch, book, one, two);
-    turned
+    wake_computers(terms, book, one, two);
+    any
 }

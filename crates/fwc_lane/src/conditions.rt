@@ -14,7 +14,8 @@ use book_model::Term;
 use term_eval::Env;
 
 /// Steps a condition by moment `now`, which has this number, and answers whether it holds in it. One that the moment doesn't
-/// wake holds where it held, and costs a look; one that is woken costs one visit of each of its nodes.
+/// wake holds where it held, and costs a look; one that is woken costs a look at each of its nodes, and a few more at those
+/// that may turn.
 #[inline(always)]
 pub fn step_term(terms: &mut Terms, number: usize, _term: &Term, env: &Env<'_>, now: u64) -> bool
     requires place { (b : plain.Book) × TermsFit b terms.old
@@ -25,7 +26,9 @@ pub fn step_term(terms: &mut Terms, number: usize, _term: &Term, env: &Env<'_>, 
     requires last { env.now.phase.number ≤ 10 }
     requires now { now < 2 ^ 63 }
     ensures fits { (b : plain.Book) → TermsFit b terms.old → TermsFit b terms.new }
-    ensures steps { StepsTerm env.now now number (placed_of _term.now) terms.old terms.new result }
+    ensures steps { (b : plain.Book) → TermsFit b terms.old
+        → slice_get (places b) number ≡ Some (placed_of _term.now)
+        → StepsTerm (places b) env.now now number (placed_of _term.now) terms.old terms.new result }
 {
     step_numbered(terms, number, env, now)
 }
@@ -44,7 +47,7 @@ pub fn step_numbered(terms: &mut Terms, number: usize, env: &Env<'_>, now: u64) 
     ensures steps { (b : plain.Book) (p : Placed) → TermsFit b terms.old
         → slice_get (places b) number ≡ Some p
         → IsWithin (length env.now.values.now) (length env.now.active.now) p.tree
-        → StepsTerm env.now now number p terms.old terms.new result }
+        → StepsTerm (places b) env.now now number p terms.old terms.new result }
 {
     if !terms.woken.has(number) {
         return terms.truths[number];
@@ -66,11 +69,10 @@ fn run_term(terms: &mut Terms, number: usize, env: &Env<'_>, now: u64) -> bool
     ensures steps { (b : plain.Book) (p : Placed) → TermsFit b terms.old
         → slice_get (places b) number ≡ Some p
         → IsWithin (length env.now.values.now) (length env.now.active.now) p.tree
-        → StepsTerm env.now now number p terms.old terms.new result }
+        → StepsTerm (places b) env.now now number p terms.old terms.new result }
 {
-    let turn = terms
-        .cells
-        .run(terms.codes.code(number), &mut terms.totals, env, now);
+    let start = terms.codes.start(number);
+    let turn = terms.cells.run(&mut terms.nodes, terms.codes.code(number), start, env, now);
     terms.truths[number] = turn.holds;
     terms.dues.set(number, turn.due);
     turn.holds

@@ -1,25 +1,27 @@
 // S01 to S18: a page of the book, or a status page.
-ghost use Rattle.std.specs.Prelude.{◌≡◌, ◌<◌, ◌≤◌, ◌||◌, ℕ, suc, length, map, slice_get, find, IfSome};
+ghost use Rattle.std.specs.Prelude.{◌≡◌, ◌<◌, ◌≤◌, ◌||◌, ℕ, suc, true, length, map, slice_get, find, IfSome};
 ghost use Rattle.std.specs.Option.{option_and_then};
 ghost use Rattle.ecam_spec.specs.Book as plain;
 ghost use Rattle.ecam_spec.specs.Term.{in_set};
 ghost use Rattle.ecam_spec.specs.History.{Moment};
 ghost use Rattle.ecam_spec.specs.Situation.{alert_at};
-ghost use Rattle.ecam_spec.specs.SystemDisplay.{Display, called_page};
+ghost use Rattle.ecam_spec.specs.SystemDisplay.{Display, called_page, page_rows};
 ghost use Rattle.book_model.specs.View.{page_of};
 ghost use Rattle.ecam_kinds.specs.Shown.{rows_of};
 ghost use Rattle.book_model.specs.Sealed.{the_book};
 ghost use Rattle.zone_rows.specs.Tracked.{tracked, IsWhole};
 ghost use Rattle.zone_rows.specs.Mended.{Mends};
 ghost use Rattle.zone_rows.specs.Zones.{StandAt};
+ghost use Rattle.system_display.specs.Pages.{Displays, AreShort};
 ghost use Rattle.fwc_lane.specs.Scenes.{SceneFits, SceneStands, AreTurned, shown_turned};
+ghost use Rattle.fwc_lane.specs.PageKept.{KeepsPage, PageStands, HasStood};
 ghost use Rattle.fwc_lane.specs.Drawn.{display_rows_in};
 
 use crate::scene::{Scene, Turned};
 use book_model::{Book, Page};
 use ecam_kinds::{Phase, Picture, ROWS};
 use status_page::fill_status;
-use system_display::{Choice, fill_page};
+use system_display::{Choice, fill_page, mend_page};
 
 // The first page that is shown in a phase of itself.
 fn page_of_phase(pages: &[Page], phase: Phase) -> Option<usize>
@@ -93,7 +95,21 @@ fn shown_turned(turned: Turned, choice: Choice, truths: bool) -> bool
     }
 }
 
-/// S01 to S18.
+// Whether the page that is shown is that of the moment before, by what turned and the choice.
+fn keeps_page(turned: Turned, choice: Choice, chosen: bool) -> bool
+    ensures { result ≡ true → KeepsPage turned choice chosen }
+{
+    if turned.first || chosen {
+        return false;
+    }
+    match choice {
+        Choice::Auto => !(turned.marks || turned.phase),
+        Choice::Page(_) => true,
+        Choice::Status(_) => false,
+    }
+}
+
+/// S01 to S18. Where the page is that of the moment before, only its rows of values that turned are looked at.
 pub fn draw_display(
     book: &Book,
     scene: &Scene<'_>,
@@ -112,31 +128,51 @@ pub fn draw_display(
         (tracked picture.new.rows changed.new) }
 {
     let choice = scene.selector.choice();
-    if !display_turned(
-        turned,
-        choice,
-        scene.selector.changed(),
-        scene.truths.changed(),
-    ) {
+    let chosen = scene.selector.changed();
+    if !display_turned(turned, choice, chosen, scene.truths.changed()) {
         return;
     }
-    fill_display(book, scene, picture, changed);
+    let stays = keeps_page(turned, choice, chosen);
+    fill_display(book, scene, stays, picture, changed);
 }
 
-fn fill_display(book: &Book, scene: &Scene<'_>, picture: &mut Picture, changed: &mut [bool; ROWS])
+fn fill_display(
+    book: &Book,
+    scene: &Scene<'_>,
+    stays: bool,
+    picture: &mut Picture,
+    changed: &mut [bool; ROWS],
+)
     requires fits { SceneFits (the_book book.now) scene.now }
     requires whole { IsWhole (tracked picture.old.rows changed.old) }
     ensures whole { IsWhole (tracked picture.new.rows changed.new) }
     ensures rows { (m : ℕ → Moment) (k : ℕ) → SceneStands (the_book book.now) m k scene.now
+        → (stays ≡ true → PageStands (the_book book.now) m k (rows_of picture.old.rows))
         → Mends 15 (display_rows_in (the_book book.now) m k) (tracked picture.old.rows changed.old)
         (tracked picture.new.rows changed.new) }
 {
     match scene.selector.choice() {
         Choice::Auto => {
             let page = called_page(book, scene.marks.first(), scene.phase);
-            fill_page(book, page, scene.values, picture, changed);
+            draw_page(
+                book,
+                page,
+                scene.values,
+                scene.turned,
+                stays,
+                picture,
+                changed,
+            );
         }
-        Choice::Page(page) => fill_page(book, Some(page), scene.values, picture, changed),
+        Choice::Page(page) => draw_page(
+            book,
+            Some(page),
+            scene.values,
+            scene.turned,
+            stays,
+            picture,
+            changed,
+        ),
         Choice::Status(page) => fill_status(
             book,
             scene.truths.active(),
@@ -145,5 +181,35 @@ fn fill_display(book: &Book, scene: &Scene<'_>, picture: &mut Picture, changed: 
             picture,
             changed,
         ),
+    }
+}
+
+// A page with the values of the moment: where it stays it is mended, else filled. (It takes lists and no scene, which would
+// have to stand in memory for it.)
+fn draw_page(
+    book: &Book,
+    page: Option<usize>,
+    values: &[Option<i64>],
+    turned: &[bool],
+    stays: bool,
+    picture: &mut Picture,
+    changed: &mut [bool; ROWS],
+)
+    requires page { IfSome page (λ i. i < length book.now.pages.items) }
+    requires values { length values.now ≡ length book.now.params.items }
+    requires turned { length turned.now ≡ length book.now.params.items }
+    requires short { AreShort values.now }
+    requires whole { IsWhole (tracked picture.old.rows changed.old) }
+    ensures whole { IsWhole (tracked picture.new.rows changed.new) }
+    ensures rows { (d : Display) → Displays (the_book book.now) values.now d
+        → (stays ≡ true → HasStood (the_book book.now) turned.now d
+        (option_and_then (slice_get (the_book book.now).pages) page) (rows_of picture.old.rows))
+        → Mends 15 (page_rows d (option_and_then (slice_get (the_book book.now).pages) page))
+        (tracked picture.old.rows changed.old) (tracked picture.new.rows changed.new) }
+{
+    if stays {
+        mend_page(book, page, values, turned, picture, changed);
+    } else {
+        fill_page(book, page, values, picture, changed);
     }
 }

@@ -43,6 +43,8 @@ pub struct Lane {
     pub params: Params,
     /// Per parameter its value in the last moment; before the first none has one.
     pub values: Vec<Option<i64>>,
+    /// Per parameter whether its value turned in the last moment that wasn't at rest; between moments they say nothing.
+    pub turned: Vec<bool>,
     /// What is kept of the conditions.
     pub terms: Terms,
     /// What the phases so far leave for the next.
@@ -92,6 +94,7 @@ impl Lane {
     {
         let params = Params::new(alloc, book)?;
         let values = vec![in alloc; None; book.params().len()]?;
+        let turned = vec![in alloc; false; book.params().len()]?;
         let terms = Terms::new(alloc, book)?;
         let truths = Truths::new(alloc, book)?;
         let marks = Marks::new(alloc, book)?;
@@ -101,6 +104,7 @@ impl Lane {
         Ok(Lane {
             params,
             values,
+            turned,
             terms,
             phase_state: PhaseState::new(),
             phase: Phase { number: 1 },
@@ -148,8 +152,8 @@ impl Lane {
         self.changed = [false; ROWS];
     }
 
-    /// Takes over all that another lane of the same book holds, but for the count of visits, and for `calm` and `idle`,
-    /// which the next moments say again. Its cost is a copy of each of its lists.
+    /// Takes over all that another lane of the same book holds, but for the count of visits, and for `calm`, `idle` and
+    /// `turned`, which the next moments say again. Its cost is a copy of each of its lists.
     pub fn copy_from(&mut self, other: &Lane)
         requires { (b : plain.Book) × LaneFits b self.old × LaneFits b other.now }
         ensures fits { (b : plain.Book) → LaneFits b self.old → LaneFits b other.now
@@ -182,7 +186,7 @@ impl Lane {
 
     /// Takes one event more, after which these computers are up. A word costs a look at the sources that listen to it, a
     /// key one write or two; what becomes of the computers themselves changes nothing here. A Tick costs a look at each
-    /// condition and at the sources of the parameters that may have another value, two at each key, one visit of each node
+    /// condition and at the sources of the parameters that may have another value, two at each key, one at each node
     /// of the conditions that the moment wakes, and a few looks at each alert, line and memo; a zone of the picture is filled
     /// only where something that it shows turned. A Tick in which no parameter may have another value, no condition is due
     /// and no key acts, after one that left all at rest, costs a few looks and writes, besides what the end of a moment costs
@@ -331,6 +335,7 @@ impl Lane {
         let values = begin_moment(
             &mut self.terms,
             &mut self.values,
+            &mut self.turned,
             &self.params,
             &self.keys,
             book,
@@ -404,6 +409,7 @@ impl Lane {
             values: &self.values,
             lines: &self.lines,
             memos: &self.memos,
+            turned: &self.turned,
             truths: &self.truths,
             marks: &self.marks,
             attention: &self.attention,

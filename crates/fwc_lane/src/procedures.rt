@@ -37,7 +37,7 @@ fn step_line(terms: &mut Terms, number: usize, env: &Env<'_>, now: u64) -> bool
         → slice_get (places b) number ≡ Some w → slice_get (places b) (suc number) ≡ Some p
         → IsWithin (length env.now.values.now) (length env.now.active.now) w.tree
         → IsWithin (length env.now.values.now) (length env.now.active.now) p.tree
-        → StepsLine env.now now number w p terms.old terms.new result }
+        → StepsLine (places b) env.now now number w p terms.old terms.new result }
 {
     let when = step_numbered(terms, number, env, now);
     let done = step_numbered(terms, number + 1, env, now);
@@ -52,7 +52,7 @@ fn stands(when: bool, done: bool) -> bool
 
 /// Steps all lines by moment `now`: `flags` has, per line, whether it stands, and before it of the moment before. Answers
 /// whether any flag turned. Lines of which no condition is woken stand where they stood, and aren't looked at. The cost is a
-/// look for each 64 conditions, a few for each line of which one is woken, and one visit of each node that is woken.
+/// look for each 64 conditions, a few for each line of which one is woken, and a look at each node of those that are.
 pub fn step_lines(
     terms: &mut Terms,
     flags: &mut Vec<bool>,

@@ -68,6 +68,8 @@ pub struct Scene<'a> {
     pub lines: &'a [bool],
     /// Per memo whether it holds.
     pub memos: &'a [bool],
+    /// Per parameter whether its value is another than in the moment before.
+    pub turned: &'a [bool],
     pub truths: &'a Truths,
     pub marks: &'a Marks,
     pub attention: &'a Attention,

@@ -4,13 +4,14 @@ ghost use Rattle.ecam_spec.specs.Book as plain;
 ghost use Rattle.book_model.specs.Sealed.{the_book};
 ghost use Rattle.book_model.specs.Conditions.{places};
 ghost use Rattle.term_eval.specs.CellState.{StandForNone};
+ghost use Rattle.term_eval.specs.NodeState.{NodesStandForNone};
 ghost use Rattle.fwc_lane.specs.TermsFit.{TermsFit, TookTerms};
 
 use crate::strokes::Strokes;
 use book_model::Book;
-use condition_codes::Codes;
+use condition_codes::{Askers, Codes};
 use std::alloc::{AllocError, Global};
-use term_eval::Cells;
+use term_eval::{Cells, Nodes};
 use wakes::{Marked, Wakes};
 use watch_lists::Watch;
 
@@ -20,8 +21,10 @@ use watch_lists::Watch;
 pub struct Terms {
     /// The code by which each is stepped. Nothing changes it.
     pub codes: Codes,
-    /// Room for a run of any code. Between runs it says nothing.
-    pub totals: Vec<usize>,
+    /// What is kept of the nodes of all, one code behind another.
+    pub nodes: Nodes,
+    /// Which nodes ask for what. Nothing changes it.
+    pub askers: Askers,
     /// What the conditions remember.
     pub cells: Cells,
     /// Per condition whether it held in the last moment.
@@ -46,11 +49,13 @@ impl Terms {
     pub fn new(alloc: Global, book: &Book) -> Result<Terms, AllocError>
         ensures fits { IfOk result (TermsFit (the_book book.now)) }
         ensures stands { IfOk result (λ t. StandForNone t.cells.slots) }
+        ensures nodes { IfOk result (λ t. NodesStandForNone t.nodes) }
         ensures visits { IfOk result (λ t. t.cells.visits ≡ 0) }
     {
         let count = condition_count(book);
         let codes = Codes::new(alloc, book)?;
-        let totals = vec![in alloc; 0; codes.longest() + 1]?;
+        let nodes = Nodes::new(alloc, codes.count())?;
+        let askers = Askers::new(alloc, book, &codes)?;
         let cells = Cells::new(alloc, book.slots())?;
         let truths = vec![in alloc; false; count]?;
         let dues = Wakes::new(alloc, count)?;
@@ -58,7 +63,8 @@ impl Terms {
         let watch = Watch::new(alloc, book)?;
         Ok(Terms {
             codes,
-            totals,
+            nodes,
+            askers,
             cells,
             truths,
             dues,
@@ -71,17 +77,19 @@ impl Terms {
     }
 
     /// Forgets all moments. What is told of the last one says nothing then: the first moment asks each condition. Its cost
-    /// is one write a slot.
+    /// is one write a slot and a node.
     pub fn clear(&mut self)
         ensures fits { (b : plain.Book) → TermsFit b self.old → TermsFit b self.new }
         ensures stands { StandForNone self.new.cells.slots }
+        ensures nodes { NodesStandForNone self.new.nodes }
         ensures visits { self.new.cells.visits ≡ self.old.cells.visits }
     {
         self.cells.clear();
+        self.nodes.clear();
     }
 
     /// Takes over what is kept of the same book's conditions by another lane, but for the count of visits. Its cost is a
-    /// write a slot and a few a condition.
+    /// write a slot and a node and a few a condition.
     pub fn copy_from(&mut self, other: &Terms)
         requires { (b : plain.Book) × TermsFit b self.old × TermsFit b other.now }
         ensures fits { (b : plain.Book) → TermsFit b self.old → TermsFit b self.new }
@@ -89,6 +97,7 @@ impl Terms {
         ensures visits { self.new.cells.visits ≡ self.old.cells.visits }
     {
         self.cells.copy_from(&other.cells);
+        self.nodes.copy_from(&other.nodes);
         self.truths.copy_from_slice(&other.truths);
         self.dues.copy_from(&other.dues);
         self.keys.copy_from(&other.keys);

@@ -2,34 +2,34 @@
 ghost use Rattle.std.specs.Prelude.{◌≡◌, ℕ, suc, ◌+◌, ◌<◌, ◌≤◌, ◌^◌, ◌==◌, ◌&&◌, ◌||◌, not, nat_le, true, false, length, slice_index, MatchOption};
 ghost use Rattle.ecam_spec.specs.Keys.{IsKey, key_number};
 ghost use Rattle.book_model.specs.Sealed.{the_book};
-ghost use Rattle.book_model.specs.Conditions.{places};
 ghost use Rattle.wakes.specs.Marks.{is_marked, room};
 ghost use Rattle.watch_lists.specs.Listed.{has_term};
+ghost use Rattle.term_eval.specs.NodeState.{state_at, AreMarked};
 ghost use Rattle.term_eval.specs.Woken.{differ};
 ghost use Rattle.fwc_lane.specs.Strokes.{NonePressed};
-ghost use Rattle.fwc_lane.specs.TermsFit.{Watches};
-ghost use Rattle.fwc_lane.specs.Waking.{WakesBy, ranged, key_turned};
+ghost use Rattle.fwc_lane.specs.TermsFit.{TermsFit, Watches};
+ghost use Rattle.fwc_lane.specs.Waking.{HasWoken, NamesNone, ranged, key_turned};
 
 use crate::strokes::Strokes;
+use crate::terms::Terms;
 use book_model::Book;
 use ecam_kinds::{Key, Keys, Phase};
+use term_eval::Nodes;
 use wakes::{Marked, Wakes};
 use watch_lists::Watch;
 
-/// Wakes the conditions that name the operand of this number, where it is another than it was. Its cost is a write for
-/// each of these conditions, and nothing where it is as it was.
-pub fn wake(woken: &mut Marked, watch: &Watch, book: &Book, operand: usize, other: bool)
+/// Wakes the conditions that name the operand of this number, where it is another than it was, and marks their nodes that ask
+/// for it. Its cost is a write for each of these conditions and nodes, and nothing where it is as it was.
+pub fn wake(terms: &mut Terms, book: &Book, operand: usize, other: bool)
     requires operand { operand < length (the_book book.now).parameters
         + length (the_book book.now).alerts + 28 }
-    requires watch { Watches (the_book book.now) watch.now }
-    requires room { length (places (the_book book.now)) ≤ room woken.old }
-    ensures room { room woken.new ≡ room woken.old }
-    ensures wakes { WakesBy (the_book book.now) (λ o. other && (o == operand)) woken.old
-        woken.new }
+    requires fits { TermsFit (the_book book.now) terms.old }
+    ensures fits { TermsFit (the_book book.now) terms.new }
+    ensures wakes { HasWoken (the_book book.now) (λ o. other && (o == operand)) terms.old terms.new }
 {
     if other {
-        let listed = watch.listed(operand);
-        mark_each(woken, listed);
+        mark_each(&mut terms.woken, terms.watch.listed(operand));
+        mark_nodes(&mut terms.nodes, terms.askers.nodes(operand));
     }
 }
 
@@ -45,19 +45,28 @@ fn mark_each(woken: &mut Marked, terms: &[usize])
     }
 }
 
+// Marks some nodes.
+fn mark_nodes(nodes: &mut Nodes, asking: &[usize])
+    requires { (i : ℕ) → i < length asking.now → slice_index asking.now i < length nodes.old }
+    ensures marks { AreMarked nodes.old nodes.new }
+    ensures each { (n : ℕ) → has_term asking.now n ≡ true → (state_at nodes.new n).wake ≡ 0 }
+{
+    for node in asking {
+        nodes.mark(*node);
+    }
+}
+
 /// Wakes the conditions that name the flight phase, where it is another.
-pub fn wake_phase(woken: &mut Marked, watch: &Watch, book: &Book, other: bool)
-    requires watch { Watches (the_book book.now) watch.now }
-    requires room { length (places (the_book book.now)) ≤ room woken.old }
-    ensures room { room woken.new ≡ room woken.old }
-    ensures wakes { WakesBy (the_book book.now)
+pub fn wake_phase(terms: &mut Terms, book: &Book, other: bool)
+    requires fits { TermsFit (the_book book.now) terms.old }
+    ensures fits { TermsFit (the_book book.now) terms.new }
+    ensures wakes { HasWoken (the_book book.now)
         (λ o. other && (o == length (the_book book.now).parameters
         + length (the_book book.now).alerts))
-        woken.old woken.new }
+        terms.old terms.new }
 {
     wake(
-        woken,
-        watch,
+        terms,
         book,
         book.params().len() + book.alerts().len(),
         other,
@@ -65,33 +74,35 @@ pub fn wake_phase(woken: &mut Marked, watch: &Watch, book: &Book, other: bool)
 }
 
 /// Wakes the conditions that name an alert, where it became active or is no longer.
-pub fn wake_alert(woken: &mut Marked, watch: &Watch, book: &Book, alert: usize, other: bool)
+pub fn wake_alert(terms: &mut Terms, book: &Book, alert: usize, other: bool)
     requires alert { alert < length (the_book book.now).alerts }
-    requires watch { Watches (the_book book.now) watch.now }
-    requires room { length (places (the_book book.now)) ≤ room woken.old }
-    ensures room { room woken.new ≡ room woken.old }
-    ensures wakes { WakesBy (the_book book.now)
-        (λ o. other && (o == length (the_book book.now).parameters + alert)) woken.old woken.new }
+    requires fits { TermsFit (the_book book.now) terms.old }
+    ensures fits { TermsFit (the_book book.now) terms.new }
+    ensures wakes { HasWoken (the_book book.now)
+        (λ o. other && (o == length (the_book book.now).parameters + alert)) terms.old terms.new }
 {
-    wake(woken, watch, book, book.params().len() + alert, other);
+    wake(terms, book, book.params().len() + alert, other);
 }
 
 /// Wakes the conditions that name a key which is pressed in the moment and was not in the one before, or the other way
-/// round. Its cost is two looks at each key, and a write for each of these conditions; nothing where no key is or was pressed.
-pub fn wake_keys(woken: &mut Marked, watch: &Watch, book: &Book, was: &Strokes, keys: &Strokes)
-    requires watch { Watches (the_book book.now) watch.now }
-    requires room { length (places (the_book book.now)) ≤ room woken.old }
-    ensures room { room woken.new ≡ room woken.old }
-    ensures wakes { WakesBy (the_book book.now)
+/// round. Its cost is two looks at each key, and a write for each of these conditions and their nodes that ask for it;
+/// nothing where no key is or was pressed, and two reads where no condition of the book names a key.
+pub fn wake_keys(terms: &mut Terms, book: &Book, keys: &Strokes)
+    requires fits { TermsFit (the_book book.now) terms.old }
+    ensures fits { TermsFit (the_book book.now) terms.new }
+    ensures wakes { HasWoken (the_book book.now)
         (ranged (length (the_book book.now).parameters + length (the_book book.now).alerts + 1) 25
-        (key_turned was.now keys.now)) woken.old woken.new }
+        (key_turned terms.old.keys keys.now)) terms.old terms.new }
 {
-    if are_quiet(was, keys) {
+    if are_quiet(&terms.keys, keys) {
+        return;
+    }
+    if are_unheard(&terms.watch, book) {
         return;
     }
     for number in 0..25 {
-        let other = key_turned(was.keys(), keys.keys(), number);
-        wake_key(woken, watch, book, number, other);
+        let other = key_turned(terms.keys.keys(), keys.keys(), number);
+        wake_key(terms, book, number, other);
     }
 }
 
@@ -103,20 +114,28 @@ fn are_quiet(was: &Strokes, keys: &Strokes) -> bool
     !was.any() && !keys.any()
 }
 
+// Whether no condition of the book names a key.
+fn are_unheard(watch: &Watch, book: &Book) -> bool
+    requires { Watches (the_book book.now) watch.now }
+    ensures { result ≡ true → NamesNone (the_book book.now) (length (the_book book.now).parameters
+        + length (the_book book.now).alerts + 1) 25 }
+{
+    let first = book.params().len() + book.alerts().len() + 1;
+    watch.is_silent(first, first + 25)
+}
+
 // Wakes the conditions that name the key of this number, where it is another.
-fn wake_key(woken: &mut Marked, watch: &Watch, book: &Book, number: usize, other: bool)
+fn wake_key(terms: &mut Terms, book: &Book, number: usize, other: bool)
     requires number { number < 25 }
-    requires watch { Watches (the_book book.now) watch.now }
-    requires room { length (places (the_book book.now)) ≤ room woken.old }
-    ensures room { room woken.new ≡ room woken.old }
-    ensures wakes { WakesBy (the_book book.now)
+    requires fits { TermsFit (the_book book.now) terms.old }
+    ensures fits { TermsFit (the_book book.now) terms.new }
+    ensures wakes { HasWoken (the_book book.now)
         (λ o. other && (o == length (the_book book.now).parameters
         + length (the_book book.now).alerts + 1 + number))
-        woken.old woken.new }
+        terms.old terms.new }
 {
     wake(
-        woken,
-        watch,
+        terms,
         book,
         book.params().len() + book.alerts().len() + 1 + number,
         other,
@@ -154,20 +173,19 @@ fn key_at(number: usize) -> Option<Key>
 }
 
 /// Wakes the conditions that name a computer which came up or failed.
-pub fn wake_computers(woken: &mut Marked, watch: &Watch, book: &Book, one: bool, two: bool)
-    requires watch { Watches (the_book book.now) watch.now }
-    requires room { length (places (the_book book.now)) ≤ room woken.old }
-    ensures room { room woken.new ≡ room woken.old }
-    ensures wakes { WakesBy (the_book book.now)
+pub fn wake_computers(terms: &mut Terms, book: &Book, one: bool, two: bool)
+    requires fits { TermsFit (the_book book.now) terms.old }
+    ensures fits { TermsFit (the_book book.now) terms.new }
+    ensures wakes { HasWoken (the_book book.now)
         (λ o. (one && (o == length (the_book book.now).parameters
         + length (the_book book.now).alerts + 26))
         || (two && (o == length (the_book book.now).parameters
         + length (the_book book.now).alerts + 27)))
-        woken.old woken.new }
+        terms.old terms.new }
 {
     let first = book.params().len() + book.alerts().len() + 26;
-    wake(woken, watch, book, first, one);
-    wake(woken, watch, book, first + 1, two);
+    wake(terms, book, first, one);
+    wake(terms, book, first + 1, two);
 }
 
 /// Begins to gather the conditions that moment `now` wakes: all in the first, else those that are due, and these are due no

@@ -8,6 +8,7 @@ mod Unchanged
 mod BareRecords
 mod StandingLines
 mod Drilled
+mod Playing
 pub mod Feeding
 pub mod BookFacts
 pub mod LimitsFacts

@@ -3,4 +3,5 @@ pub mod Stretches
 pub mod Places
 pub mod RowTexts
 pub mod PageRows
+pub mod Mended
 pub mod PanelOf

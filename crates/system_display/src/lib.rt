@@ -3,11 +3,13 @@
 
 mod inputs;
 pub mod laws;
+mod mend;
 mod page;
 mod row_text;
 mod selection;
 mod selector;
 
 pub use ecam_spec::Choice;
+pub use mend::mend_page;
 pub use page::fill_page;
 pub use selector::Selector;

@@ -5,6 +5,7 @@ use Rattle.std.specs.Option.{option_map_or}
 use Rattle.ecam_spec.specs.Past.{Signal, once_within, historically_within, last, start_of, rise}
 use Rattle.ecam_spec.proofs.PastSteps.{start_of-off, start_of-on-le, last-here, last-le, rise-suc}
 use Rattle.term_eval.specs.CellWords.{never, end_of}
+use Rattle.term_eval.specs.OwnDue.{confirmed_due, held_due, risen_due}
 use Rattle.term_eval.specs.Woken.{differ, turned}
 use Rattle.term_eval.specs.Due.{Before}
 use Rattle.ecam_spec.proofs.PastMoments.{historically_within-start, once_within-last}
@@ -14,16 +15,6 @@ use Rattle.term_eval.proofs.Stays.{Stays, start-stays, last-stays}
 pub record Alone (p q : Signal) (k own : ℕ) : Type 0 where
   pub steady : (m : ℕ) → k ≤ m → Before m own → Stays p k m → q m ≡ q k
   pub comes : (own ≡ never) ⊎ ((k < own) × (own < never) × (Stays p k own → turned q own ≡ true))
-
--- the due moments of the three kinds, as the cells' calls give them
-abbrev pub confirmed_due : Bool → ℕ → ℕ → ℕ
-confirmed_due now full k = cond now (cond (leb full k) never full) never
-
-abbrev pub held_due : Bool → ℕ → ℕ → ℕ
-held_due now end k = cond now never (cond (ltb k end) end never)
-
-abbrev pub risen_due : Bool → ℕ → ℕ
-risen_due rises k = cond rises (min (k + 1) never) never
 
 -- a test that was one thing and becomes the other
 pub turned-by : (q : Signal) (k : ℕ) (before now : Bool) → q (k - 1) ≡ before → q k ≡ now → differ now before ≡ true → turned q k ≡ true
@@ -134,7 +125,7 @@ alone-held n p k small few = by (p k) refl where
   }
   by false off = gone (last p k) refl off
 
-no-rise : (a b : Bool) → a ≡ b → (a && not b) ≡ false
+pub no-rise : (a b : Bool) → a ≡ b → (a && not b) ≡ false
 no-rise true true e = refl
 no-rise false b e = refl
 no-rise true false e = e

@@ -9,8 +9,8 @@ use Rattle.term_eval.specs.declared.memory.Cell.{Cell}
 use Rattle.term_eval.specs.declared.memory.Cell.TheVariants.{Off, On, At}
 use Rattle.term_eval.specs.CellWords.{never, cell_at, on_if, is_on, at_last, start_by, last_by, end_of}
 use Rattle.term_eval.specs.Steps.{Steps, StepsAll}
-use Rattle.term_eval.proofs.Alone.{confirmed_due, held_due, risen_due}
-use Rattle.term_eval.proofs.Nodes.{Writes, Writes-set, steps-confirmed, steps-held, steps-risen, steps-latched}
+use Rattle.term_eval.specs.OwnDue.{confirmed_due, held_due, risen_due}
+use Rattle.term_eval.proofs.NodeSteps.{Writes, Writes-set, steps-confirmed, steps-held, steps-risen, steps-latched}
 
 -- another name for the condition, the slot, the answer or the due moment
 pub steps-as : (env : Env) (k : ℕ) (c d : Tree) (i j : ℕ) (old new : List Cell) (a b : Bool) (m n : ℕ) → c ≡ d → i ≡ j → a ≡ b → m ≡ n →

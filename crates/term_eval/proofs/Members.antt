@@ -22,10 +22,10 @@ abbrev pub one_if : Bool → ℕ
 one_if b = cond b 1 0
 
 -- how many are true
-abbrev how_many : List Bool → ℕ
+abbrev pub how_many : List Bool → ℕ
 how_many bs = count_by (λ b. b) bs
 
-counted : (b : Bool) (bs : List Bool) → how_many (b ∷ bs) ≡ one_if b + how_many bs
+pub counted : (b : Bool) (bs : List Bool) → how_many (b ∷ bs) ≡ one_if b + how_many bs
 counted true bs = sum_by-cons (λ x. cond x 1 0) true bs
 counted false bs = sum_by-cons (λ x. cond x 1 0) false bs
 
@@ -62,12 +62,12 @@ too_few : (m l : ℕ) → m ≤ l → eqb (0 + m) (suc l) ≡ false
 too_few m l h = grind (arith, nat_tests)
 
 -- all hold where as many hold as there are
-all_hold : (bs : List Bool) → eqb (how_many bs) (length bs) ≡ list_all (λ b. b) bs
+pub all_hold : (bs : List Bool) → eqb (how_many bs) (length bs) ≡ list_all (λ b. b) bs
 all_hold [] = refl
 all_hold (true ∷ bs) = ap (λ n. eqb n (suc (length bs))) (counted true bs) ∙ one_more (how_many bs) (length bs) ∙ all_hold bs
 all_hold (false ∷ bs) = ap (λ n. eqb n (suc (length bs))) (counted false bs) ∙ too_few (how_many bs) (length bs) (count_by-le-length (λ b. b) bs)
 
-any_holds : (bs : List Bool) → ltb 0 (how_many bs) ≡ list_any (λ b. b) bs
+pub any_holds : (bs : List Bool) → ltb 0 (how_many bs) ≡ list_any (λ b. b) bs
 any_holds [] = refl
 any_holds (true ∷ bs) = ap (λ n. ltb 0 n) (counted true bs) ∙ lt-ltb 0 (1 + how_many bs) (omega arith)
 any_holds (false ∷ bs) = ap (λ n. ltb 0 n) (counted false bs ∙ zero-add (how_many bs)) ∙ any_holds bs
@@ -93,7 +93,7 @@ steps-all env k cs at old new count due inner =
     }
 
 -- the same of conditions counted one by one
-length-many : (w : World) (cs : Trees) (k : ℕ) → length (truths w cs k) ≡ many cs
+pub length-many : (w : World) (cs : Trees) (k : ℕ) → length (truths w cs k) ≡ many cs
 unfolding holds many
 length-many w none k = refl
 length-many w (more c cs) k = ap suc (length-many w cs k)

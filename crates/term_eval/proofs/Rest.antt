@@ -1,6 +1,6 @@
 -- A condition at rest: no operand moves and no temporal node turns, so each of its nodes keeps its truth, and the cells stand
 -- as they are for one moment more.
-use Rattle.std.proofs.Common.{◌≡◌, ℕ, suc, ◌+◌, ◌-◌, Bool, true, false, not, ◌&&◌, ◌||◌, List, ◌∷◌, Option, Some, None, cond, eqb, refl, sym, ◌∙◌, ap, arith}
+use Rattle.std.proofs.Common.{◌≡◌, ℕ, suc, ◌+◌, ◌-◌, Bool, true, false, not, ◌||◌, List, ◌∷◌, Option, Some, None, eqb, refl, sym, ◌∙◌, ap, arith}
 use Rattle.std.specs.Prelude.{ℤ, pos, is_some, count_by, nat_le}
 use Rattle.std.specs.List.{list_any, list_all}
 use Rattle.std.specs.Option.{option_eq}
@@ -8,16 +8,14 @@ use Rattle.std.specs.Ordering.{int_eq}
 use Rattle.std.proofs.lemmas.Bool.{eqb-true, or_parts}
 use Rattle.std.proofs.lemmas.Bool.Decides.{Decides-int_eq}
 use Rattle.std.proofs.lemmas.List.Folds.{list_any-append}
-use Rattle.ecam_spec.specs.Past.{Signal, last, start_of, previous}
-use Rattle.ecam_spec.proofs.PastSteps.{start_of-on, last-suc}
-use Rattle.ecam_spec.proofs.PastMoments.{since-rest}
+use Rattle.ecam_spec.specs.Past.{Signal, previous}
 use Rattle.ecam_spec.specs.Book.{Tree, Trees, constant, discrete, valid, compared, in_phase, alert, press, computer, negation, all, any, at_least, confirmed, held, risen, latched, none, more}
 use Rattle.ecam_spec.specs.Term.{World, holds, truths, in_set, is_so, stands}
 use Rattle.ecam_spec.specs.TermSize.{slots}
 use Rattle.term_eval.specs.declared.memory.Cell.{Cell}
-use Rattle.term_eval.specs.declared.memory.Cell.TheVariants.{Off, On, At}
-use Rattle.term_eval.specs.CellWords.{stretch, lasted, on_if, at_last}
+use Rattle.term_eval.specs.CellWords.{on_if}
 use Rattle.term_eval.specs.CellState.{Stand, StandAll}
+use Rattle.term_eval.proofs.Unturned.{stretch-stays, lasted-stays, latch-rests}
 use Rattle.term_eval.specs.Woken.{differ, turned, moved, operands, operands_of, turns, turns_of}
 
 pub not-false : (b : Bool) → not b ≡ false → b ≡ true
@@ -58,43 +56,43 @@ module _ (w : World) (k : ℕ) where
       (not-false (option_eq int_eq (w.values p (suc k)) (w.values p (suc k - 1))) ((or_parts (not (option_eq int_eq (w.values p (suc k)) (w.values p (suc k - 1)))) false h).0))
       ∙ ap (w.values p) back
 
-  first-rests : (c : Tree) (cs : Trees) → AllAtRest (more c cs) → AtRest c
+  pub first-rests : (c : Tree) (cs : Trees) → AllAtRest (more c cs) → AtRest c
   unfolding operands turns
   first-rests c cs r = record {
     operands_rest = (or_parts (list_any (moved w (suc k)) (operands c)) (list_any (moved w (suc k)) (operands_of cs)) (sym (list_any-append (moved w (suc k)) (operands c) (operands_of cs)) ∙ r.operands_rest)).0;
     nodes_rest = (or_parts (turns w c (suc k)) (turns_of w cs (suc k)) r.nodes_rest).0;
   }
 
-  others-rest : (c : Tree) (cs : Trees) → AllAtRest (more c cs) → AllAtRest cs
+  pub others-rest : (c : Tree) (cs : Trees) → AllAtRest (more c cs) → AllAtRest cs
   unfolding operands turns
   others-rest c cs r = record {
     operands_rest = (or_parts (list_any (moved w (suc k)) (operands c)) (list_any (moved w (suc k)) (operands_of cs)) (sym (list_any-append (moved w (suc k)) (operands c) (operands_of cs)) ∙ r.operands_rest)).1;
     nodes_rest = (or_parts (turns w c (suc k)) (turns_of w cs (suc k)) r.nodes_rest).1;
   }
 
-  set-rests : (s r : Tree) → AtRest (latched s r) → AtRest s
+  pub set-rests : (s r : Tree) → AtRest (latched s r) → AtRest s
   unfolding operands turns
   set-rests s r h = record {
     operands_rest = (or_parts (list_any (moved w (suc k)) (operands s)) (list_any (moved w (suc k)) (operands r)) (sym (list_any-append (moved w (suc k)) (operands s) (operands r)) ∙ h.operands_rest)).0;
     nodes_rest = (or_parts (turns w s (suc k)) (turns w r (suc k)) h.nodes_rest).0;
   }
 
-  reset-rests : (s r : Tree) → AtRest (latched s r) → AtRest r
+  pub reset-rests : (s r : Tree) → AtRest (latched s r) → AtRest r
   unfolding operands turns
   reset-rests s r h = record {
     operands_rest = (or_parts (list_any (moved w (suc k)) (operands s)) (list_any (moved w (suc k)) (operands r)) (sym (list_any-append (moved w (suc k)) (operands s) (operands r)) ∙ h.operands_rest)).1;
     nodes_rest = (or_parts (turns w s (suc k)) (turns w r (suc k)) h.nodes_rest).1;
   }
 
-  below-confirmed : (c : Tree) (n : ℕ) → AtRest (confirmed c n) → AtRest c
+  pub below-confirmed : (c : Tree) (n : ℕ) → AtRest (confirmed c n) → AtRest c
   unfolding operands turns
   below-confirmed c n r = record { operands_rest = r.operands_rest; nodes_rest = (or_parts (turned (holds w (confirmed c n)) (suc k)) (turns w c (suc k)) r.nodes_rest).1 }
 
-  below-held : (c : Tree) (n : ℕ) → AtRest (held c n) → AtRest c
+  pub below-held : (c : Tree) (n : ℕ) → AtRest (held c n) → AtRest c
   unfolding operands turns
   below-held c n r = record { operands_rest = r.operands_rest; nodes_rest = (or_parts (turned (holds w (held c n)) (suc k)) (turns w c (suc k)) r.nodes_rest).1 }
 
-  below-risen : (c : Tree) → AtRest (risen c) → AtRest c
+  pub below-risen : (c : Tree) → AtRest (risen c) → AtRest c
   unfolding operands turns
   below-risen c r = record { operands_rest = r.operands_rest; nodes_rest = (or_parts (turned (holds w (risen c)) (suc k)) (turns w c (suc k)) r.nodes_rest).1 }
 
@@ -124,29 +122,12 @@ module _ (w : World) (k : ℕ) where
     truth-rests (latched s t) r =
         let set = truth-rests s (set-rests s t r) in
         let reset = truth-rests t (reset-rests s t r) in
-        since-rest (λ i. holds w s i && not (holds w t i)) (λ i. not (holds w t i)) k
-        (ap (λ b. b && not (holds w t (suc k))) set ∙ ap (λ b. holds w s k && not b) reset) (ap not reset)
+        latch-rests (holds w s) (holds w t) k set reset
 
     pub truths-rest : (cs : Trees) → AllAtRest cs → truths w cs (suc k) ≡ truths w cs k
     truths-rest none r = refl
     truths-rest (more c cs) r =
         ap (λ b. b ∷ truths w cs (suc k)) (truth-rests c (first-rests c cs r)) ∙ ap (λ bs. holds w c k ∷ bs) (truths-rest cs (others-rest c cs r))
-
-  stretch-rests : (p : Signal) → p (suc k) ≡ p k → stretch p (suc k) ≡ stretch p (suc (suc k))
-  unfolding stretch
-  stretch-rests p same = by (p k) refl where
-    by : (b : Bool) → p k ≡ b → cond b (At (start_of p k)) Off ≡ cond (p (suc k)) (At (start_of p (suc k))) Off
-    by true on = ap At (sym (start_of-on p k (same ∙ on))) ∙ sym (ap (λ b. cond b (At (start_of p (suc k))) Off) (same ∙ on))
-    by false off = sym (ap (λ b. cond b (At (start_of p (suc k))) Off) (same ∙ off))
-
-  lasted-rests : (p : Signal) → p (suc k) ≡ p k → lasted p (suc k) ≡ lasted p (suc (suc k))
-  unfolding lasted
-  lasted-rests p same = by (p k) refl where
-    by : (b : Bool) → p k ≡ b → cond b On (at_last (last p k)) ≡ cond (p (suc k)) On (at_last (last p (suc k)))
-    by true on = sym (ap (λ b. cond b On (at_last (last p (suc k)))) (same ∙ on))
-    by false off =
-        ap at_last (sym (last-suc p k ∙ ap (λ b. cond b (Some (suc k)) (last p k)) (same ∙ off)))
-        ∙ sym (ap (λ b. cond b On (at_last (last p (suc k)))) (same ∙ off))
 
   mutual
     unfolding Stand operands turns holds previous
@@ -167,10 +148,10 @@ module _ (w : World) (k : ℕ) where
     stands-on (at_least n cs) at cells r h = all-stand-on cs at cells (record { operands_rest = r.operands_rest; nodes_rest = r.nodes_rest }) h
     stands-on (confirmed c n) at cells r h =
         let below = below-confirmed c n r in
-        (h.0 ∙ stretch-rests (holds w c) (truth-rests c below), stands-on c (at + 1) cells below h.1)
+        (h.0 ∙ sym (stretch-stays (holds w c) k (truth-rests c below)), stands-on c (at + 1) cells below h.1)
     stands-on (held c n) at cells r h =
         let below = below-held c n r in
-        (h.0 ∙ lasted-rests (holds w c) (truth-rests c below), stands-on c (at + 1) cells below h.1)
+        (h.0 ∙ sym (lasted-stays (holds w c) k (truth-rests c below)), stands-on c (at + 1) cells below h.1)
     stands-on (risen c) at cells r h =
         let below = below-risen c r in
         (h.0 ∙ sym (ap on_if (truth-rests c below)), stands-on c (at + 1) cells below h.1)

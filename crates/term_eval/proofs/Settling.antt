@@ -124,7 +124,7 @@ beside k a b s t both told amost bmost first second = elim first [
   ]
 ]
 
-latch-stays : (s r : Signal) (k m : ℕ) → k ≤ m → Stays s k m → Stays r k m → latch s r m ≡ latch s r k
+pub latch-stays : (s r : Signal) (k m : ℕ) → k ≤ m → Stays s k m → Stays r k m → latch s r m ≡ latch s r k
 latch-stays s r k zero within set reset = let e : k ≡ 0 = omega arith in rw e refl
 latch-stays s r k (suc m) within set reset =
     elim (le-suc_iff.0 within) [

@@ -1,75 +1,70 @@
--- What a condition's whole code comes to.
-use Rattle.std.proofs.Common.{◌≡◌, ℕ, ◌+◌, ◌<◌, ◌^◌, min, Bool, List, [], ltb, length, refl, sym, ◌∙◌, ap, subst, arith, append-nil}
-use Rattle.std.specs.Prelude.{slice_index, slice_set}
-use Rattle.std.proofs.lemmas.List.{length-set, get_or-set_same}
+-- What the pass over a condition's whole code comes to.
+use Rattle.std.proofs.Common.{◌≡◌, ℕ, suc, ◌<◌, ◌≤◌, ◌^◌, List, length, sym, ◌∙◌, ap, subst, arith}
 use Rattle.ecam_spec.specs.Book.{Tree}
+use Rattle.ecam_spec.specs.Term.{World, holds}
 use Rattle.ecam_spec.specs.TermSize.{nodes, slots}
 use Rattle.term_eval.specs.declared.env.Env.{Env}
 use Rattle.term_eval.specs.declared.memory.Cell.{Cell}
+use Rattle.term_eval.specs.declared.nodes.NodeState.{NodeState}
 use Rattle.term_eval.specs.declared.code.Step.{Step}
 use Rattle.term_eval.specs.CellWords.{never}
-use Rattle.term_eval.specs.Steps.{Steps}
-use Rattle.term_eval.specs.Code.{code, IsReady}
-use Rattle.term_eval.specs.Run.{State, Ends}
-use Rattle.term_eval.proofs.Members.{one_if}
-use Rattle.term_eval.proofs.Arms.{steps-as}
+use Rattle.term_eval.specs.CellState.{Stand}
+use Rattle.term_eval.specs.Shown.{Shows}
+use Rattle.ecam_spec.specs.Past.{previous}
+use Rattle.term_eval.specs.Due.{staying, IsDue}
+use Rattle.term_eval.specs.Code.{IsReady}
+use Rattle.term_eval.specs.NodeState.{state_at, NodesStand}
+use Rattle.term_eval.specs.Noted.{WillNote}
+use Rattle.term_eval.specs.Run.{State, pass_over, AllCan}
 use Rattle.term_eval.proofs.Codes.{length-code}
-use Rattle.term_eval.proofs.Coded.{After, Ready, runs, one_more_told}
+use Rattle.term_eval.proofs.StateFrames.{kept-of}
+use Rattle.term_eval.proofs.Settling.{due-bound}
+use Rattle.term_eval.proofs.Staying.{still-staying, shows-staying, Stand-staying}
+use Rattle.term_eval.proofs.StayingNodes.{NodesStand-staying, WillNote-staying}
+use Rattle.term_eval.proofs.Looking.{Known, Done, After}
+use Rattle.term_eval.proofs.Passed.{over, can}
 
--- no truth was told
-abbrev pub start : List ℕ → List Cell → State
-start totals cells = record { top = 0; totals = slice_set totals 0 0; cells = cells; due = never }
+pub length-ready : (env : Env) (steps : List Step) (cells : List Cell) (states : List NodeState) (c : Tree) (at first : ℕ) → IsReady env steps cells states c at first → length steps ≡ nodes c
+length-ready env steps cells states c at first ready = ap length ready.code.is ∙ length-code c at 0
 
--- what a run answers of the state in which the code ends
-abbrev pub Answers : Env → ℕ → List Step → List ℕ → List Cell → List Cell → Bool → ℕ → Type 0
-Answers env k steps totals cells new answer due =
-    (final : State) → Ends env k steps (start totals cells) final → (answer ≡ ltb 0 (slice_index final.totals 1)) × (due ≡ final.due) × (new ≡ final.cells)
+-- what each look asks for is there
+pub can-ready : (env : Env) (steps : List Step) (cells old : List Cell) (states was : List NodeState) (c : Tree) (at first : ℕ) → old ≡ cells → was ≡ states →
+    IsReady env steps cells states c at first → AllCan env (length old) (length was) first steps
+can-ready env steps cells old states was c at first same-cells same-states ready =
+    subst (λ l. AllCan env (length l) (length was) first steps) (sym same-cells)
+    (subst (λ l. AllCan env (length cells) (length l) first steps) (sym same-states)
+    (subst (λ l. AllCan env (length cells) (length states) first l) (sym ready.code.is)
+    (can env (length cells) (length states) c at first 0 (record { range = ready.range; room = ready.room; far = omega arith; names = ready.names }))))
 
-pub length-ready : (env : Env) (steps : List Step) (cells : List Cell) (c : Tree) (at : ℕ) → IsReady env steps cells c at → length steps ≡ nodes c
-length-ready env steps cells c at ready = ap length ready.code.is ∙ length-code c at
+-- the pass between lists that are equal to those that are kept
+pub whole : (env : Env) (k : ℕ) → k < 2 ^ 63 → (steps : List Step) (c : Tree) (at first : ℕ) (slots old new final : List Cell) (kept was now last : List NodeState) (due : ℕ) →
+    old ≡ slots → final ≡ new → was ≡ kept → last ≡ now → IsReady env steps slots kept c at first → length kept ≤ never →
+    record { states = now; cells = new; due = due } ≡ pass_over env k first steps (record { states = was; cells = old; due = never }) →
+    After env k c at first 0 (record { states = kept; cells = slots; due = never }) (record { states = last; cells = final; due = due })
+whole env k small steps c at first slots old new final kept was now last due is-old is-final is-was is-last ready most is =
+    let start : State = record { states = kept; cells = slots; due = never } in
+    let a = over env k small c at first 0 start ready.names ready.code.short (record { range = ready.range; room = ready.room; most = most; far = omega arith; due = omega arith }) in
+    subst (After env k c at first 0 start)
+    (ap (λ l. pass_over env k first l start) (sym ready.code.is)
+    ∙ ap (λ l. pass_over env k first steps (record { states = l; cells = slots; due = never })) (sym is-was)
+    ∙ ap (λ l. pass_over env k first steps (record { states = was; cells = l; due = never })) (sym is-old)
+    ∙ sym is
+    ∙ ap (λ l. record { states = l; cells = new; due = due }) (sym is-last)
+    ∙ ap (λ l. record { states = last; cells = l; due = due }) (sym is-final)) a
 
-module _ (env : Env) (k : ℕ) (small : k < 2 ^ 63) (steps : List Step) (totals : List ℕ) (cells : List Cell) (c : Tree) (at : ℕ) (ready : IsReady env steps cells c at) (room : length steps < length totals) where
-  within : 0 < length totals
-  within = omega (arith, room)
+module _ (env : Env) (k : ℕ) (c : Tree) (at first : ℕ) (s t : State) (a : After env k c at first 0 s t) (latest : s.due ≡ never)
+    (w : World) (shows : Shows env w k) (cells : Stand w k c at s.cells) (states : NodesStand w k c first s.states) (notes : WillNote w k c first s.states) where
+  pub left : Done w k c at first t a.inner
+  left = a.done w (record { shows = shows; cells = cells; nodes = states; notes = notes })
 
-  empty : slice_index (slice_set totals 0 0) 0 ≡ 0
-  empty = get_or-set_same totals 0 0 0 within
+  pub told : (state_at t.states first).told ≡ holds w c k
+  unfolding previous
+  told = (kept-of w (suc k) c first t.states left.nodes).told
 
-  fits : Ready (nodes c) (at + slots c) (start totals cells)
-  fits = record {
-    room = omega (arith, room, length-ready env steps cells c at ready, length-set totals 0 0);
-    cells = ready.range;
-    few = omega (arith, empty);
-    latest = omega arith;
-  }
-
-  -- the code ends, with the condition stepped
-  pub ended : (final : State) × After env k c at (start totals cells) final × Ends env k steps (start totals cells) final
-  unfolding Ends
-  ended =
-      let (t, a, leads) = runs env k small c at (start totals cells) [] ready.names ready.code.short fits in
-      (t, a, subst (λ l. Ends env k l (start totals cells) t) (append-nil (code at c) ∙ sym ready.code.is) (leads t refl))
-
-  -- what is answered is the step of the condition
-  pub stepped : (new : List Cell) (answer : Bool) (due : ℕ) → Answers env k steps totals cells new answer due →
-      (inner : ℕ) × (due ≡ min never inner) × Steps env k c at cells new answer inner × (length new ≡ length cells)
-  stepped new answer due answers =
-      let (t, a, ends) = ended in
-      let (is-answer, is-due, is-new) = answers t ends in
-      let top : t.top ≡ 1 = a.top in
-      let one : slice_index t.totals 1 ≡ 0 + one_if a.holds =
-      ap (slice_index t.totals) (sym top) ∙ a.total ∙ ap (λ n. n + one_if a.holds) empty in (
-        a.inner,
-        is-due ∙ a.due,
-        subst (λ l. Steps env k c at cells l answer a.inner) (sym is-new)
-            (steps-as _ _ _ _ _ _ _ _ _ _ _ _ refl refl (is-answer ∙ one_more_told 0 (slice_index t.totals 1) a.holds one) refl a.steps),
-        ap length is-new ∙ a.slots,
-      )
-
--- the same between lists that are equal
-pub whole : (env : Env) (k : ℕ) → k < 2 ^ 63 → (steps : List Step) (totals : List ℕ) (c : Tree) (at : ℕ) (slots old new final : List Cell) (answer : Bool) (due : ℕ) →
-    old ≡ slots → final ≡ new → IsReady env steps slots c at → length steps < length totals → Answers env k steps totals old new answer due →
-    (inner : ℕ) × (due ≡ min never inner) × Steps env k c at slots final answer inner
-whole env k small steps totals c at slots old new final answer due first last ready room answers =
-    let (inner, is, s, len) = stepped env k small steps totals old c at (subst (λ l. IsReady env steps l c at) (sym first) ready) room new answer due answers in
-    (inner, is, subst (λ l. Steps env k c at l final answer inner) first (subst (λ l. Steps env k c at old l answer inner) (sym last) s))
+  pub due : IsDue (staying w k) c k t.due
+  due =
+      let v = staying w k in
+      let known : Known env v k c at first s = record { shows = shows-staying env w k shows; cells = Stand-staying w k c at s.cells cells; nodes = NodesStand-staying w k c first s.states states; notes = WillNote-staying w k c first s.states notes } in
+      let stays = (a.done v known).settles (still-staying w k) in
+      let e : t.due ≡ a.inner = omega (arith, a.due, latest, due-bound v c k a.inner stays) in
+      subst (IsDue v c k) (sym e) (record { quiet = stays.quiet; comes = stays.comes })

@@ -1,42 +1,47 @@
--- The code of a condition: its nodes one behind another, each behind its children.
+-- The code of a condition: its nodes one behind another, each before its children, with how far before it its parent stands.
 use Rattle.std.specs.Prelude.{◌≡◌, ℕ, suc, ◌+◌, ◌<◌, ◌≤◌, ◌^◌, List, [], ◌∷◌, ◌++◌, length}
 use Rattle.ecam_spec.specs.Book.{Tree, Trees, constant, discrete, valid, compared, in_phase, alert, press, computer, negation, all, any, at_least, confirmed, held, risen, latched, none, more}
-use Rattle.ecam_spec.specs.TermSize.{slots}
+use Rattle.ecam_spec.specs.TermSize.{slots, nodes}
 use Rattle.ecam_spec.specs.TermNames.{IsWithin}
 use Rattle.term_eval.specs.declared.env.Env.{Env}
 use Rattle.term_eval.specs.declared.memory.Cell.{Cell}
 use Rattle.term_eval.specs.declared.code.Step.{Step}
-use Rattle.term_eval.specs.declared.code.Step.TheVariants.{Const, Disc, Valid, Cmp, InPhase, Alert, Press, Fwc, Not, All, Any, AtLeast, Conf, Hold, Rise, Latch}
+use Rattle.term_eval.specs.declared.code.Node.{Node}
+use Rattle.term_eval.specs.declared.code.Node.TheVariants.{Const, Disc, Valid, Cmp, InPhase, Alert, Press, Fwc, Not, All, Any, AtLeast, Conf, Hold, Rise, Latch}
+use Rattle.term_eval.specs.declared.nodes.NodeState.{NodeState}
 
 -- how many conditions there are
 unfoldable pub many : Trees → ℕ
 many none = 0
 many (more c cs) = suc (many cs)
 
-unfoldable mutual
-  -- the code of a condition whose slots start at a place
-  pub code : ℕ → Tree → List Step
-  code at (constant b) = Const b ∷ []
-  code at (discrete p) = Disc p ∷ []
-  code at (valid p) = Valid p ∷ []
-  code at (compared p op x) = Cmp p op x ∷ []
-  code at (in_phase set) = InPhase (record { 0 = set }) ∷ []
-  code at (alert a) = Alert a ∷ []
-  code at (press key) = Press key ∷ []
-  code at (computer n) = Fwc n ∷ []
-  code at (negation c) = code at c ++ Not ∷ []
-  code at (all cs) = codes at cs ++ All (many cs) ∷ []
-  code at (any cs) = codes at cs ++ Any (many cs) ∷ []
-  code at (at_least n cs) = codes at cs ++ AtLeast n (many cs) ∷ []
-  code at (confirmed c n) = code (at + 1) c ++ Conf n at ∷ []
-  code at (held c n) = code (at + 1) c ++ Hold n at ∷ []
-  code at (risen c) = code (at + 1) c ++ Rise at ∷ []
-  code at (latched s r) = code (at + 1) s ++ (code (at + 1 + slots s) r ++ Latch at ∷ [])
+abbrev pub step : Node → ℕ → Step
+step node up = record { node = node; up = up }
 
-  -- the codes of conditions whose slots follow one another
-  pub codes : ℕ → Trees → List Step
-  codes at none = []
-  codes at (more c cs) = code at c ++ codes (at + slots c) cs
+unfoldable mutual
+  -- the code of a condition whose slots start at a place, and whose parent stands so far before it, or at 0 has none
+  pub code : ℕ → ℕ → Tree → List Step
+  code at up (constant b) = step (Const b) up ∷ []
+  code at up (discrete p) = step (Disc p) up ∷ []
+  code at up (valid p) = step (Valid p) up ∷ []
+  code at up (compared p op x) = step (Cmp p op x) up ∷ []
+  code at up (in_phase set) = step (InPhase (record { 0 = set })) up ∷ []
+  code at up (alert a) = step (Alert a) up ∷ []
+  code at up (press key) = step (Press key) up ∷ []
+  code at up (computer n) = step (Fwc n) up ∷ []
+  code at up (negation c) = step Not up ∷ code at 1 c
+  code at up (all cs) = step (All (many cs)) up ∷ codes at 1 cs
+  code at up (any cs) = step Any up ∷ codes at 1 cs
+  code at up (at_least n cs) = step (AtLeast n) up ∷ codes at 1 cs
+  code at up (confirmed c n) = step (Conf n at) up ∷ code (at + 1) 1 c
+  code at up (held c n) = step (Hold n at) up ∷ code (at + 1) 1 c
+  code at up (risen c) = step (Rise at) up ∷ code (at + 1) 1 c
+  code at up (latched s r) = step (Latch at) up ∷ (code (at + 1) 1 s ++ code (at + 1 + slots s) (1 + nodes s) r)
+
+  -- the codes of the members of a list, whose slots follow one another: the list's own step stands so far before the first
+  pub codes : ℕ → ℕ → Trees → List Step
+  codes at up none = []
+  codes at up (more c cs) = code at up c ++ codes (at + slots c) (up + nodes c) cs
 
 unfoldable mutual
   -- each of its temporal nodes counts less than 2^32 moments
@@ -57,11 +62,12 @@ unfoldable mutual
 
 -- the steps are the code of the condition
 pub record IsCode (c : Tree) (at : ℕ) (steps : List Step) : Type 0 where
-  pub is : steps ≡ code at c
+  pub is : steps ≡ code at 0 c
   pub short : IsShort c
 
--- the steps are the code of a condition that can be stepped in these cells and this environment
-pub record IsReady (env : Env) (steps : List Step) (cells : List Cell) (c : Tree) (at : ℕ) : Type 0 where
+-- the steps are the code of a condition that can be stepped in these cells and states and this environment
+pub record IsReady (env : Env) (steps : List Step) (cells : List Cell) (states : List NodeState) (c : Tree) (at first : ℕ) : Type 0 where
   pub code : IsCode c at steps
   pub range : at + slots c ≤ length cells
+  pub room : first + nodes c ≤ length states
   pub names : IsWithin (length env.values.now) (length env.active.now) c

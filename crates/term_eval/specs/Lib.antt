@@ -8,3 +8,7 @@ pub mod Settles
 pub mod Steps
 pub mod Code
 pub mod Run
+pub mod Asked
+pub mod OwnDue
+pub mod NodeState
+pub mod Noted

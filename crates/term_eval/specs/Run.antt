@@ -1,5 +1,5 @@
--- How code is run: step by step, over the truths that were told and not yet taken.
-use Rattle.std.specs.Prelude.{◌≡◌, ℕ, ◌+◌, ◌-◌, ◌<◌, ◌≤◌, ◌==◌, ◌&&◌, ◌||◌, not, min, nat_le, nat_lt, Bool, pos, is_some, List, [], ◌∷◌, length, slice_index, slice_set, if◌then◌else◌}
+-- How code is gone through: from its last step to its first, with a look at each node that may turn.
+use Rattle.std.specs.Prelude.{ℕ, ◌+◌, ◌-◌, ◌^◌, ◌<◌, ◌≤◌, ◌==◌, ◌&&◌, ◌||◌, not, min, nat_le, nat_lt, Bool, true, false, pos, is_some, List, [], ◌∷◌, length, slice_set, if◌then◌else◌}
 use Rattle.std.specs.Ordering.{int_eq}
 use Rattle.ecam_spec.specs.Keys.{IsKey}
 use Rattle.ecam_spec.specs.Term.{in_set, is_so, stands}
@@ -7,147 +7,151 @@ use Rattle.ecam_kinds.specs.KeyState.{is_pressed}
 use Rattle.term_eval.specs.declared.env.Env.{Env}
 use Rattle.term_eval.specs.declared.memory.Cell.{Cell}
 use Rattle.term_eval.specs.declared.memory.Cell.TheVariants.{Off, On, At}
+use Rattle.term_eval.specs.declared.nodes.NodeState.{NodeState}
 use Rattle.term_eval.specs.declared.code.Step.{Step}
-use Rattle.term_eval.specs.declared.code.Step.TheVariants.{Const, Disc, Valid, Cmp, InPhase, Alert, Press, Fwc, Not, All, Any, AtLeast, Conf, Hold, Rise, Latch}
+use Rattle.term_eval.specs.declared.code.Node.{Node}
+use Rattle.term_eval.specs.declared.code.Node.TheVariants.{Const, Disc, Valid, Cmp, InPhase, Alert, Press, Fwc, Not, All, Any, AtLeast, Conf, Hold, Rise, Latch}
 use Rattle.term_eval.specs.CellWords.{never, cell_at, on_if, is_on, at_last, start_by, last_by, end_of}
 use Rattle.term_eval.specs.Shown.{value_of, is_active}
+use Rattle.term_eval.specs.OwnDue.{confirmed_due, held_due, risen_due}
+use Rattle.term_eval.specs.NodeState.{state_at}
 
--- `top` truths were told and not yet taken, and `totals` says of each i up to `top` how many of the first i hold
+-- what is kept of the nodes, the cells, and the first of the due moments so far
 pub record State : Type 0 where
-  pub top : ℕ
-  pub totals : List ℕ
+  pub states : List NodeState
   pub cells : List Cell
   pub due : ℕ
 
--- how many truths a step takes
-abbrev pub takes : Step → ℕ
-takes (Const b) = 0
-takes (Disc p) = 0
-takes (Valid p) = 0
-takes (Cmp p op x) = 0
-takes (InPhase set) = 0
-takes (Alert a) = 0
-takes (Press key) = 0
-takes (Fwc n) = 0
-takes Not = 1
-takes (All m) = m
-takes (Any m) = m
-takes (AtLeast n m) = m
-takes (Conf n i) = 1
-takes (Hold n i) = 1
-takes (Rise i) = 1
-takes (Latch i) = 2
+-- of two conditions of which so many hold, and the first or not, the second holds
+abbrev pub second : Bool → ℕ → Bool
+second first count = if first then nat_lt 1 count else nat_lt 0 count
 
--- how many of the last m hold, the last one, and the last but one
-abbrev pub count : State → ℕ → ℕ
-count s m = slice_index s.totals s.top - slice_index s.totals (s.top - m)
-
-abbrev pub last_told : State → Bool
-last_told s = nat_lt (slice_index s.totals (s.top - 1)) (slice_index s.totals s.top)
-
-abbrev pub prior_told : State → Bool
-prior_told s = nat_lt (slice_index s.totals (s.top - 2)) (slice_index s.totals (s.top - 1))
-
--- what a step tells
-abbrev pub answer : Env → ℕ → State → Step → Bool
-answer env k s (Const b) = b
-answer env k s (Disc p) = is_so (int_eq (pos 1)) (value_of env p)
-answer env k s (Valid p) = is_some (value_of env p)
-answer env k s (Cmp p op x) = is_so (λ v. stands op v x) (value_of env p)
-answer env k s (InPhase set) = in_set set.0 env.phase.number
-answer env k s (Alert a) = is_active env a
-answer env k s (Press key) = is_pressed env.keys.now key
-answer env k s (Fwc n) = if n == 1 then env.one_up else env.two_up
-answer env k s Not = not (last_told s)
-answer env k s (All m) = count s m == m
-answer env k s (Any m) = nat_lt 0 (count s m)
-answer env k s (AtLeast n m) = nat_le n (count s m)
-answer env k s (Conf n i) = last_told s && nat_le (min (start_by (cell_at s.cells i) k + n) never) k
-answer env k s (Hold n i) = last_told s || nat_lt k (end_of (last_by (cell_at s.cells i) k) n)
-answer env k s (Rise i) = last_told s && not (is_on (cell_at s.cells i))
-answer env k s (Latch i) = not (last_told s) && (prior_told s || is_on (cell_at s.cells i))
+-- what a node says of which so many children hold, and the first or not
+abbrev pub answer : Env → ℕ → List Cell → ℕ → Bool → Node → Bool
+answer env k cells count first (Const b) = b
+answer env k cells count first (Disc p) = is_so (int_eq (pos 1)) (value_of env p)
+answer env k cells count first (Valid p) = is_some (value_of env p)
+answer env k cells count first (Cmp p op x) = is_so (λ v. stands op v x) (value_of env p)
+answer env k cells count first (InPhase set) = in_set set.0 env.phase.number
+answer env k cells count first (Alert a) = is_active env a
+answer env k cells count first (Press key) = is_pressed env.keys.now key
+answer env k cells count first (Fwc n) = if n == 1 then env.one_up else env.two_up
+answer env k cells count first Not = count == 0
+answer env k cells count first (All m) = count == m
+answer env k cells count first Any = nat_lt 0 count
+answer env k cells count first (AtLeast n) = nat_le n count
+answer env k cells count first (Conf n i) = nat_lt 0 count && nat_le (min (start_by (cell_at cells i) k + n) never) k
+answer env k cells count first (Hold n i) = nat_lt 0 count || nat_lt k (end_of (last_by (cell_at cells i) k) n)
+answer env k cells count first (Rise i) = nat_lt 0 count && not (is_on (cell_at cells i))
+answer env k cells count first (Latch i) = not (second first count) && (first || is_on (cell_at cells i))
 
 -- what becomes of the cells
-abbrev pub cells_after : ℕ → State → Step → List Cell
-cells_after k s (Const b) = s.cells
-cells_after k s (Disc p) = s.cells
-cells_after k s (Valid p) = s.cells
-cells_after k s (Cmp p op x) = s.cells
-cells_after k s (InPhase set) = s.cells
-cells_after k s (Alert a) = s.cells
-cells_after k s (Press key) = s.cells
-cells_after k s (Fwc n) = s.cells
-cells_after k s Not = s.cells
-cells_after k s (All m) = s.cells
-cells_after k s (Any m) = s.cells
-cells_after k s (AtLeast n m) = s.cells
-cells_after k s (Conf n i) = slice_set s.cells i (if last_told s then At (start_by (cell_at s.cells i) k) else Off)
-cells_after k s (Hold n i) = slice_set s.cells i (if last_told s then On else at_last (last_by (cell_at s.cells i) k))
-cells_after k s (Rise i) = slice_set s.cells i (on_if (last_told s))
-cells_after k s (Latch i) = slice_set s.cells i (on_if (not (last_told s) && (prior_told s || is_on (cell_at s.cells i))))
+abbrev pub cells_after : ℕ → List Cell → ℕ → Bool → Node → List Cell
+cells_after k cells count first (Const b) = cells
+cells_after k cells count first (Disc p) = cells
+cells_after k cells count first (Valid p) = cells
+cells_after k cells count first (Cmp p op x) = cells
+cells_after k cells count first (InPhase set) = cells
+cells_after k cells count first (Alert a) = cells
+cells_after k cells count first (Press key) = cells
+cells_after k cells count first (Fwc n) = cells
+cells_after k cells count first Not = cells
+cells_after k cells count first (All m) = cells
+cells_after k cells count first Any = cells
+cells_after k cells count first (AtLeast n) = cells
+cells_after k cells count first (Conf n i) = slice_set cells i (if nat_lt 0 count then At (start_by (cell_at cells i) k) else Off)
+cells_after k cells count first (Hold n i) = slice_set cells i (if nat_lt 0 count then On else at_last (last_by (cell_at cells i) k))
+cells_after k cells count first (Rise i) = slice_set cells i (on_if (nat_lt 0 count))
+cells_after k cells count first (Latch i) = slice_set cells i (on_if (not (second first count) && (first || is_on (cell_at cells i))))
 
--- when the temporal node of a step turns by itself
-abbrev pub own_due : ℕ → State → Step → ℕ
-own_due k s (Const b) = never
-own_due k s (Disc p) = never
-own_due k s (Valid p) = never
-own_due k s (Cmp p op x) = never
-own_due k s (InPhase set) = never
-own_due k s (Alert a) = never
-own_due k s (Press key) = never
-own_due k s (Fwc n) = never
-own_due k s Not = never
-own_due k s (All m) = never
-own_due k s (Any m) = never
-own_due k s (AtLeast n m) = never
-own_due k s (Conf n i) =
-    if last_told s
-    then (if nat_le (min (start_by (cell_at s.cells i) k + n) never) k then never else min (start_by (cell_at s.cells i) k + n) never)
-    else never
-own_due k s (Hold n i) =
-    if last_told s
-    then never
-    else (if nat_lt k (end_of (last_by (cell_at s.cells i) k) n) then end_of (last_by (cell_at s.cells i) k) n else never)
-own_due k s (Rise i) = if last_told s && not (is_on (cell_at s.cells i)) then min (k + 1) never else never
-own_due k s (Latch i) = never
+-- when the node turns by itself
+abbrev pub due_after : ℕ → List Cell → ℕ → Node → ℕ
+due_after k cells count (Const b) = never
+due_after k cells count (Disc p) = never
+due_after k cells count (Valid p) = never
+due_after k cells count (Cmp p op x) = never
+due_after k cells count (InPhase set) = never
+due_after k cells count (Alert a) = never
+due_after k cells count (Press key) = never
+due_after k cells count (Fwc n) = never
+due_after k cells count Not = never
+due_after k cells count (All m) = never
+due_after k cells count Any = never
+due_after k cells count (AtLeast n) = never
+due_after k cells count (Conf n i) = confirmed_due (nat_lt 0 count) (min (start_by (cell_at cells i) k + n) never) k
+due_after k cells count (Hold n i) = held_due (nat_lt 0 count) (end_of (last_by (cell_at cells i) k) n) k
+due_after k cells count (Rise i) = risen_due (nat_lt 0 count && not (is_on (cell_at cells i))) k
+due_after k cells count (Latch i) = never
 
--- one step: its truth stands where those were that it takes
-unfoldable pub go : Env → ℕ → State → Step → State
-go env k s x = record {
-  top = s.top - takes x + 1;
-  totals = slice_set s.totals (s.top - takes x + 1) (slice_index s.totals (s.top - takes x) + (if answer env k s x then 1 else 0));
-  cells = cells_after k s x;
-  due = min s.due (own_due k s x);
-}
+-- what is kept of a node that was looked at
+abbrev pub seen : ℕ → Bool → NodeState → NodeState
+seen due holds s = record { wake = due; count = s.count; told = holds }
 
--- what a step asks for is there
-abbrev pub Has : Env → List Cell → Step → Type 0
-Has env cells (Const b) = Unit {0}
-Has env cells (Disc p) = p < length env.values.now
-Has env cells (Valid p) = p < length env.values.now
-Has env cells (Cmp p op x) = p < length env.values.now
-Has env cells (InPhase set) = Unit {0}
-Has env cells (Alert a) = a < length env.active.now
-Has env cells (Press key) = IsKey key
-Has env cells (Fwc n) = (1 ≤ n) × (n ≤ 2)
-Has env cells Not = Unit {0}
-Has env cells (All m) = Unit {0}
-Has env cells (Any m) = Unit {0}
-Has env cells (AtLeast n m) = Unit {0}
-Has env cells (Conf n i) = i < length cells
-Has env cells (Hold n i) = i < length cells
-Has env cells (Rise i) = i < length cells
-Has env cells (Latch i) = i < length cells
+-- what is kept of a node where one right below it has another truth than it had: it is to be looked at
+abbrev pub bumped : Bool → NodeState → NodeState
+bumped holds s = record { wake = 0; count = (if holds then min (s.count + 1) (2 ^ 64 - 1) else s.count - 1); told = s.told }
 
--- a step can be gone
-pub record Can (env : Env) (s : State) (x : Step) : Type 0 where
-  pub enough : takes x ≤ s.top
-  pub room : s.top + 1 < length s.totals
-  pub rises : slice_index s.totals (s.top - takes x) ≤ slice_index s.totals s.top
-  pub few : slice_index s.totals s.top ≤ s.top
-  pub has : Has env s.cells x
+-- the same by the truth that the one below had, and has
+abbrev pub below : Bool → Bool → NodeState → NodeState
+below true true s = s
+below false false s = s
+below false true s = bumped true s
+below true false s = bumped false s
 
--- the steps can be gone, and end in this state
-unfoldable pub Ends : Env → ℕ → List Step → State → State → Type 0
-Ends env k [] s final = s ≡ final
-Ends env k (x ∷ xs) s final = Can env s x × Ends env k xs (go env k s x) final
+-- the parent of node i, which stands so far before it, is told its truth
+abbrev pub tell_up : ℕ → ℕ → Bool → Bool → List NodeState → List NodeState
+tell_up i up was is states = if nat_lt 0 up then slice_set states (i - up) (below was is (state_at states (i - up))) else states
+
+-- a look at node i
+unfoldable pub look : Env → ℕ → ℕ → Step → State → State
+look env k i x s =
+    let own = state_at s.states i in
+    let first = (state_at s.states (i + 1)).told in
+    let holds = answer env k s.cells own.count first x.node in
+    let due = due_after k s.cells own.count x.node in
+    record {
+      states = tell_up i x.up own.told holds (slice_set s.states i (seen due holds own));
+      cells = cells_after k s.cells own.count first x.node;
+      due = min s.due due;
+    }
+
+-- a node that isn't to be looked at yet is left as it is
+unfoldable pub look_or_leave : Env → ℕ → ℕ → Step → State → State
+look_or_leave env k i x s =
+    if nat_lt k (state_at s.states i).wake
+    then (record { states = s.states; cells = s.cells; due = min s.due (state_at s.states i).wake })
+    else look env k i x s
+
+-- the steps of the nodes from i on, the last of them first
+unfoldable pub pass_over : Env → ℕ → ℕ → List Step → State → State
+pass_over env k i [] s = s
+pass_over env k i (x ∷ xs) s = look_or_leave env k i x (pass_over env k (i + 1) xs s)
+
+-- what the look at node i asks for is there, of so many slots and nodes
+abbrev pub Has : Env → ℕ → ℕ → ℕ → Node → Type 0
+Has env slots nodes i (Const b) = Unit {0}
+Has env slots nodes i (Disc p) = p < length env.values.now
+Has env slots nodes i (Valid p) = p < length env.values.now
+Has env slots nodes i (Cmp p op x) = p < length env.values.now
+Has env slots nodes i (InPhase set) = Unit {0}
+Has env slots nodes i (Alert a) = a < length env.active.now
+Has env slots nodes i (Press key) = IsKey key
+Has env slots nodes i (Fwc n) = (1 ≤ n) × (n ≤ 2)
+Has env slots nodes i Not = Unit {0}
+Has env slots nodes i (All m) = Unit {0}
+Has env slots nodes i Any = Unit {0}
+Has env slots nodes i (AtLeast n) = Unit {0}
+Has env slots nodes i (Conf n j) = j < slots
+Has env slots nodes i (Hold n j) = j < slots
+Has env slots nodes i (Rise j) = j < slots
+Has env slots nodes i (Latch j) = (j < slots) × (i + 1 < nodes)
+
+pub record Can (env : Env) (slots nodes i : ℕ) (x : Step) : Type 0 where
+  pub within : i < nodes
+  pub up : x.up ≤ i
+  pub has : Has env slots nodes i x.node
+
+-- the same of the steps of the nodes from i on
+unfoldable pub AllCan : Env → ℕ → ℕ → ℕ → List Step → Type 0
+AllCan env slots nodes i [] = Unit {0}
+AllCan env slots nodes i (x ∷ xs) = Can env slots nodes i x × AllCan env slots nodes (i + 1) xs

@@ -10,11 +10,14 @@ ghost use Rattle.term_eval.specs.CellState.{Stand, StandForNone};
 ghost use Rattle.term_eval.specs.Due.{staying, IsDue};
 ghost use Rattle.term_eval.specs.Shown.{Shows};
 ghost use Rattle.term_eval.specs.Code.{IsReady};
+ghost use Rattle.term_eval.specs.NodeState.{state_at, NodesStand};
+ghost use Rattle.term_eval.specs.Noted.{WillNote};
 
 use crate::code::Step;
 use crate::env::Env;
 use crate::memory::Cell;
-use crate::run::run;
+use crate::nodes::Nodes;
+use crate::run::pass;
 use crate::turn::Turn;
 use crate::walk::step;
 use std::alloc::{AllocError, Global};
@@ -108,32 +111,61 @@ impl Cells {
         step(cond, &mut self.cells, &mut next, &mut self.visits, env, now)
     }
 
-    /// Steps a condition by its code, as `refresh` steps it by its tree. `totals` is room for as many numbers as the code has
-    /// steps, and one more, whatever they are. The cost is one look at each step.
-    pub fn run(&mut self, steps: &[Step], totals: &mut [usize], env: &Env, now: u64) -> Turn
-        requires code { (c : Tree) × (at : ℕ) × IsReady env.now steps.now self.old.slots c at }
-        requires room { length steps.now < length totals.old }
-        requires first { 1 ≤ env.now.phase.number }
+    /// Steps a condition by its code, as `refresh` steps it by its tree, with the states of its nodes, which start at `first`.
+    /// A node is looked at again only where it is marked, where it turns by itself, and where a node right below it has
+    /// another truth than in the moment before; the others say what they said. The cost is a look at each step, and a few
+    /// more at each of these nodes.
+    pub fn run(
+        &mut self,
+        states: &mut Nodes,
+        steps: &[Step],
+        first: usize,
+        env: &Env,
+        now: u64,
+    ) -> Turn
+        requires code { (c : Tree) × (at : ℕ)
+            × IsReady env.now steps.now self.old.slots states.old c at first }
+        requires phase { 1 ≤ env.now.phase.number }
         requires last { env.now.phase.number ≤ 10 }
         requires now { now < 2 ^ 63 }
-        ensures truth { (c : Tree) (at : ℕ) → IsReady env.now steps.now self.old.slots c at
+        ensures truth { (c : Tree) (at : ℕ)
+            → IsReady env.now steps.now self.old.slots states.old c at first
             → (w : World) → Shows env.now w now → Stand w now c at self.old.slots
+            → NodesStand w now c first states.old → WillNote w now c first states.old
             → result.holds ≡ holds w c now }
-        ensures due { (c : Tree) (at : ℕ) → IsReady env.now steps.now self.old.slots c at
+        ensures due { (c : Tree) (at : ℕ)
+            → IsReady env.now steps.now self.old.slots states.old c at first
             → (w : World) → Shows env.now w now → Stand w now c at self.old.slots
+            → NodesStand w now c first states.old → WillNote w now c first states.old
             → IsDue (staying w now) c now result.due }
-        ensures stands { (c : Tree) (at : ℕ) → IsReady env.now steps.now self.old.slots c at
+        ensures stands { (c : Tree) (at : ℕ)
+            → IsReady env.now steps.now self.old.slots states.old c at first
             → (w : World) → Shows env.now w now → Stand w now c at self.old.slots
-            → Stand w (suc now) c at self.new.slots }
-        ensures before { (c : Tree) (at : ℕ) → IsReady env.now steps.now self.old.slots c at
+            → NodesStand w now c first states.old → WillNote w now c first states.old
+            → Stand w (suc now) c at self.new.slots × NodesStand w (suc now) c first states.new }
+        ensures before { (c : Tree) (at : ℕ)
+            → IsReady env.now steps.now self.old.slots states.old c at first
             → (i : ℕ) → i < at → cell_at self.new.slots i ≡ cell_at self.old.slots i }
-        ensures behind { (c : Tree) (at : ℕ) → IsReady env.now steps.now self.old.slots c at
+        ensures behind { (c : Tree) (at : ℕ)
+            → IsReady env.now steps.now self.old.slots states.old c at first
             → (i : ℕ) → at + slots c ≤ i → cell_at self.new.slots i ≡ cell_at self.old.slots i }
+        ensures before_first { (c : Tree) (at : ℕ)
+            → IsReady env.now steps.now self.old.slots states.old c at first
+            → (i : ℕ) → i < first → state_at states.new i ≡ state_at states.old i }
+        ensures behind_last { (c : Tree) (at : ℕ)
+            → IsReady env.now steps.now self.old.slots states.old c at first
+            → (i : ℕ) → first + nodes c ≤ i → state_at states.new i ≡ state_at states.old i }
         ensures len { length self.new.slots ≡ length self.old.slots }
-        ensures visits { (c : Tree) (at : ℕ) → IsReady env.now steps.now self.old.slots c at
+        ensures room { length states.new ≡ length states.old }
+        ensures visits { (c : Tree) (at : ℕ)
+            → IsReady env.now steps.now self.old.slots states.old c at first
             → self.new.visits ≡ min (self.old.visits + nodes c) (2 ^ 64 - 1) }
     {
         self.visits = self.visits.saturating_add(steps.len() as u64);
-        run(steps, totals, &mut self.cells, env, now)
+        let due = pass(steps, first, &mut states.states, &mut self.cells, env, now);
+        Turn {
+            holds: states.states[first].told,
+            due,
+        }
     }
 }

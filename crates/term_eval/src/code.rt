@@ -1,18 +1,17 @@
-// The code of a condition: its nodes one behind another, children before the node they stand in, each with what it takes to
-// step it without the tree.
-ghost use Rattle.std.specs.Prelude.{◌≡◌, ◌+◌, ◌<◌, ◌≤◌, ◌^◌, ◌++◌, [], ◌∷◌, OnOk};
+// The code of a condition: its nodes one behind another, each before its children, with what it takes to step it without the
+// tree.
+ghost use Rattle.std.specs.Prelude.{◌≡◌, ◌+◌, ◌<◌, ◌≤◌, ◌^◌, ◌++◌, [], ◌∷◌, length, OnOk};
 ghost use Rattle.ecam_spec.specs.TermSize.{slots, slots_of};
 ghost use Rattle.term_tree.specs.View.{tree_of, trees_of};
-ghost use Rattle.term_eval.specs.Code.{code, codes, IsShort, AreShort};
+ghost use Rattle.term_eval.specs.Code.{code, codes, step, IsShort, AreShort};
 
 use ecam_kinds::{Key, PhaseSet};
 use std::alloc::AllocError;
 use term_tree::{Cond, Op};
 
-/// One node of a condition. An atom tells its own truth; any other node takes the truths of its children, which are the last
-/// that were told.
+/// What a node of a condition says. An atom tells its own truth; any other node goes by how many of its children hold.
 #[derive(Clone, Copy, Debug, PartialEq, Eq)]
-pub enum Step {
+pub enum Node {
     /// Always, or never.
     Const(bool),
     /// The discrete has the value 1.
@@ -29,40 +28,48 @@ pub enum Step {
     Press(Key),
     /// Flight warning computer 1 or 2 is up.
     Fwc(u8),
-    /// The last doesn't hold.
+    /// Its child doesn't hold.
     Not,
-    /// All of the last so many hold.
+    /// All of its children hold, of which there are so many.
     All(usize),
-    /// One or more of the last so many hold.
-    Any(usize),
-    /// At least so many of the last so many hold.
-    AtLeast(u32, usize),
-    /// The last is confirmed by so many moments, in this slot.
+    /// One or more of its children hold.
+    Any,
+    /// At least so many of its children hold.
+    AtLeast(u32),
+    /// Its child is confirmed by so many moments, in this slot.
     Conf(u32, usize),
-    /// The last is held for so many moments, in this slot.
+    /// Its child is held for so many moments, in this slot.
     Hold(u32, usize),
-    /// The last has risen, in this slot.
+    /// Its child has risen, in this slot.
     Rise(usize),
-    /// The last but one sets the latch of this slot, and the last resets it.
+    /// The first of its two children, which stands right behind it, sets the latch of this slot, and the other resets it.
     Latch(usize),
+}
+
+/// One node of a condition, and its place in the code.
+#[derive(Clone, Copy, Debug, PartialEq, Eq)]
+pub struct Step {
+    pub node: Node,
+    /// How far before it the node stands of which it is a child; 0 where there is none.
+    pub up: usize,
 }
 
 /// Puts the code of a condition, whose slots start at `at`, behind the steps that are there. Its cost is one visit of each
 /// node. An error is want of memory.
 pub fn add_code(steps: &mut Vec<Step>, cond: &Cond, at: usize) -> Result<(), AllocError>
     requires { at + slots (tree_of cond.now) ≤ usize.MAX }
-    ensures code { OnOk result (steps.new.items ≡ steps.old.items ++ code at (tree_of cond.now)) }
+    ensures code { OnOk result (steps.new.items ≡ steps.old.items ++ code at 0 (tree_of cond.now)) }
     ensures short { OnOk result (IsShort (tree_of cond.now)) }
 {
     let mut next = at;
-    add_node(steps, cond, &mut next)
+    add_node(steps, cond, 0, &mut next)
 }
 
 // Puts one step more behind the others.
-fn add(steps: &mut Vec<Step>, step: Step) -> Result<(), AllocError>
-    ensures { OnOk result (steps.new.items ≡ steps.old.items ++ step ∷ []) }
+fn add(steps: &mut Vec<Step>, node: Node, up: usize) -> Result<(), AllocError>
+    ensures { OnOk result (steps.new.items ≡ steps.old.items ++ step node up ∷ []) }
 {
-    steps.push(step)?;
+    steps.push(Step { node, up })?;
     Ok(())
 }
 
@@ -85,76 +92,87 @@ fn own_slot(next: &mut usize) -> usize
     own
 }
 
-// The same of a condition whose first slot is `next`, which is the first slot behind it afterwards.
+// The same of a condition whose first slot is `next`, which is the first slot behind it afterwards, and whose parent stands
+// `up` before it.
 #[cycle(coding)]
 #[tactic(auto, unfolding(ecam_spec::specs::TermSize::slots, crate::specs::Code::code, crate::specs::Code::IsShort))]
-fn add_node(steps: &mut Vec<Step>, cond: &Cond, next: &mut usize) -> Result<(), AllocError>
+fn add_node(
+    steps: &mut Vec<Step>,
+    cond: &Cond,
+    up: usize,
+    next: &mut usize,
+) -> Result<(), AllocError>
     requires { next.old + slots (tree_of cond.now) ≤ usize.MAX }
     ensures next { OnOk result (next.new ≡ next.old + slots (tree_of cond.now)) }
     ensures code { OnOk result (steps.new.items ≡ steps.old.items
-        ++ code next.old (tree_of cond.now)) }
+        ++ code next.old up (tree_of cond.now)) }
     ensures short { OnOk result (IsShort (tree_of cond.now)) }
 {
     match cond {
-        Cond::Const(truth) => add(steps, Step::Const(*truth)),
-        Cond::Disc(param) => add(steps, Step::Disc(*param)),
-        Cond::Valid(param) => add(steps, Step::Valid(*param)),
-        Cond::Cmp(param, op, number) => add(steps, Step::Cmp(*param, *op, *number)),
-        Cond::InPhase(phases) => add(steps, Step::InPhase(*phases)),
-        Cond::Alert(alert) => add(steps, Step::Alert(*alert)),
-        Cond::Press(key) => add(steps, Step::Press(*key)),
-        Cond::Fwc(computer) => add(steps, Step::Fwc(*computer)),
+        Cond::Const(truth) => add(steps, Node::Const(*truth), up),
+        Cond::Disc(param) => add(steps, Node::Disc(*param), up),
+        Cond::Valid(param) => add(steps, Node::Valid(*param), up),
+        Cond::Cmp(param, op, number) => add(steps, Node::Cmp(*param, *op, *number), up),
+        Cond::InPhase(phases) => add(steps, Node::InPhase(*phases), up),
+        Cond::Alert(alert) => add(steps, Node::Alert(*alert), up),
+        Cond::Press(key) => add(steps, Node::Press(*key), up),
+        Cond::Fwc(computer) => add(steps, Node::Fwc(*computer), up),
         Cond::Not(of) => {
-            add_node(steps, of, next)?;
-            add(steps, Step::Not)
+            add(steps, Node::Not, up)?;
+            add_node(steps, of, 1, next)
         }
         Cond::All(members) => {
-            add_nodes(steps, members, next)?;
-            add(steps, Step::All(members.len()))
+            add(steps, Node::All(members.len()), up)?;
+            add_nodes(steps, members, next)
         }
         Cond::Any(members) => {
-            add_nodes(steps, members, next)?;
-            add(steps, Step::Any(members.len()))
+            add(steps, Node::Any, up)?;
+            add_nodes(steps, members, next)
         }
         Cond::AtLeast(least, members) => {
-            add_nodes(steps, members, next)?;
-            add(steps, Step::AtLeast(*least, members.len()))
+            add(steps, Node::AtLeast(*least), up)?;
+            add_nodes(steps, members, next)
         }
         Cond::Conf(of, moments) => {
             let own = own_slot(next);
-            add_node(steps, of, next)?;
-            add(steps, Step::Conf(short(*moments), own))
+            add(steps, Node::Conf(short(*moments), own), up)?;
+            add_node(steps, of, 1, next)
         }
         Cond::Hold(of, moments) => {
             let own = own_slot(next);
-            add_node(steps, of, next)?;
-            add(steps, Step::Hold(short(*moments), own))
+            add(steps, Node::Hold(short(*moments), own), up)?;
+            add_node(steps, of, 1, next)
         }
         Cond::Rise(of) => {
             let own = own_slot(next);
-            add_node(steps, of, next)?;
-            add(steps, Step::Rise(own))
+            add(steps, Node::Rise(own), up)?;
+            add_node(steps, of, 1, next)
         }
         Cond::Latch(set, reset) => {
             let own = own_slot(next);
-            add_node(steps, set, next)?;
-            add_node(steps, reset, next)?;
-            add(steps, Step::Latch(own))
+            let at = steps.len();
+            add(steps, Node::Latch(own), up)?;
+            add_node(steps, set, 1, next)?;
+            let behind = steps.len() - at;
+            add_node(steps, reset, behind, next)
         }
     }
 }
 
-// The same of several conditions, one behind another.
+// The same of the members of a list, whose own step is the last that is there.
 #[cycle(coding)]
 fn add_nodes(steps: &mut Vec<Step>, members: &[Cond], next: &mut usize) -> Result<(), AllocError>
-    requires { next.old + slots_of (trees_of members.now) ≤ usize.MAX }
+    requires room { next.old + slots_of (trees_of members.now) ≤ usize.MAX }
+    requires own { 1 ≤ length steps.old.items }
     ensures next { OnOk result (next.new ≡ next.old + slots_of (trees_of members.now)) }
     ensures code { OnOk result (steps.new.items ≡ steps.old.items
-        ++ codes next.old (trees_of members.now)) }
+        ++ codes next.old 1 (trees_of members.now)) }
     ensures short { OnOk result (AreShort (trees_of members.now)) }
 {
+    let own = steps.len() - 1;
     for member in members {
-        add_node(steps, member, next)?;
+        let up = steps.len() - own;
+        add_node(steps, member, up, next)?;
     }
     Ok(())
 }

@@ -8,16 +8,21 @@ mod env;
 mod laws;
 mod leaf;
 mod memory;
+mod nodes;
 mod run;
 mod turn;
 mod walk;
 
 pub use cells::Cells;
-pub use code::{Step, add_code};
+pub use code::{Node, Step, add_code};
 pub use env::Env;
 pub use laws::{
-    a_condition_at_rest_keeps_its_truth, operands_and_the_due_moment_wake, what_is_named_decides,
+    a_condition_at_rest_keeps_its_nodes, a_condition_at_rest_keeps_its_truth,
+    any_node_may_be_marked, atoms_whose_operands_move_are_noted,
+    code_asks_for_what_the_condition_asks_for, nodes_stand_by_their_own_states,
+    operands_and_the_due_moment_wake, what_is_named_decides,
 };
+pub use nodes::{NodeState, Nodes};
 pub use turn::Turn;
 
 #[cfg(test)]

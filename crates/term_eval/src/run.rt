@@ -1,12 +1,15 @@
-// A condition is stepped by its code: one look at each step, in order.
-ghost use Rattle.std.specs.Prelude.{◌≡◌, ◌+◌, ◌-◌, ◌^◌, ◌<◌, ◌≤◌, ◌∷◌, min, length, nat_lt, slice_index, slice_set, if◌then◌else◌};
+// A condition is stepped by its code: from the last step to the first, and those are looked at again that may turn.
+ghost use Rattle.std.specs.Prelude.{◌≡◌, ℕ, ◌+◌, ◌^◌, ◌<◌, ◌≤◌, min, length};
 ghost use Rattle.term_eval.specs.CellWords.{never};
-ghost use Rattle.term_eval.specs.Run.{State, takes, answer, cells_after, own_due, go, Can, Ends};
+ghost use Rattle.term_eval.specs.NodeState.{state_at};
+ghost use Rattle.term_eval.specs.Run.{answer, cells_after, due_after, seen, bumped, tell_up, look, look_or_leave};
+ghost use Rattle.term_eval.specs.Run.{pass_over, Has, Can, AllCan};
 
-use crate::code::Step;
+use crate::code::{Node, Step};
 use crate::env::Env;
 use crate::memory::{Cell, confirm, hold, latch, rise};
-use crate::turn::{NEVER, Turn};
+use crate::nodes::NodeState;
+use crate::turn::{NEVER, Turn, lasting};
 
 // What comes first is due.
 fn earlier(due: &mut u64, own: u64)
@@ -15,172 +18,188 @@ fn earlier(due: &mut u64, own: u64)
     *due = (*due).min(own);
 }
 
-// How many truths stand when a step has taken its own, and what it tells of these. `totals[i]` says how many of the first i
-// truths hold, and `top` how many truths there are.
+// What node `i` says, of which so many children hold, and when it turns by itself.
+#[inline(always)]
 fn tell(
-    step: &Step,
-    totals: &[usize],
-    top: usize,
-    cells: &mut [Cell],
-    due: &mut u64,
-    env: &Env<'_>,
-    now: u64,
-) -> (usize, bool)
-    requires can { Can env.now (record {
-      top = top;
-      totals = totals.now;
-      cells = cells.old;
-      due = due.old;
-    }) step.now }
-    requires latest { due.old ≤ never }
-    requires first { 1 ≤ env.now.phase.number }
-    requires last { env.now.phase.number ≤ 10 }
-    ensures under { result.0 ≡ top - takes step.now }
-    ensures holds { result.1 ≡ answer env.now now (record {
-      top = top;
-      totals = totals.now;
-      cells = cells.old;
-      due = due.old;
-    }) step.now }
-    ensures cells { cells.new ≡ cells_after now (record {
-      top = top;
-      totals = totals.now;
-      cells = cells.old;
-      due = due.old;
-    }) step.now }
-    ensures due { due.new ≡ min due.old (own_due now (record {
-      top = top;
-      totals = totals.now;
-      cells = cells.old;
-      due = due.old;
-    }) step.now) }
-{
-    match step {
-        Step::Const(truth) => (top, *truth),
-        Step::Disc(param) => (top, env.is_one(*param)),
-        Step::Valid(param) => (top, env.has_value(*param)),
-        Step::Cmp(param, op, number) => (top, env.compares(*param, *op, *number)),
-        Step::InPhase(phases) => (top, phases.has(env.phase)),
-        Step::Alert(alert) => (top, env.is_active(*alert)),
-        Step::Press(key) => (top, env.keys.pressed(*key)),
-        Step::Fwc(computer) => (top, env.is_up(*computer)),
-        Step::Not => (top - 1, !(totals[top - 1] < totals[top])),
-        Step::All(members) => {
-            let under = top - *members;
-            (under, totals[top] - totals[under] == *members)
-        }
-        Step::Any(members) => {
-            let under = top - *members;
-            (under, totals[top] - totals[under] > 0)
-        }
-        Step::AtLeast(least, members) => {
-            let under = top - *members;
-            (under, *least as usize <= totals[top] - totals[under])
-        }
-        Step::Conf(moments, slot) => {
-            let inner = totals[top - 1] < totals[top];
-            let turn = confirm(&mut cells[*slot], inner, *moments, now);
-            earlier(due, turn.due);
-            (top - 1, turn.holds)
-        }
-        Step::Hold(moments, slot) => {
-            let inner = totals[top - 1] < totals[top];
-            let turn = hold(&mut cells[*slot], inner, *moments, now);
-            earlier(due, turn.due);
-            (top - 1, turn.holds)
-        }
-        Step::Rise(slot) => {
-            let inner = totals[top - 1] < totals[top];
-            let turn = rise(&mut cells[*slot], inner, now);
-            earlier(due, turn.due);
-            (top - 1, turn.holds)
-        }
-        Step::Latch(slot) => {
-            let set = totals[top - 2] < totals[top - 1];
-            let reset = totals[top - 1] < totals[top];
-            (top - 2, latch(&mut cells[*slot], set, reset))
-        }
-    }
-}
-
-// One more where it holds.
-fn one_if(holds: bool) -> usize
-    ensures { result ≡ (if holds then 1 else 0) }
-{
-    if holds { 1 } else { 0 }
-}
-
-// Goes one step, and answers how many truths stand after it.
-fn take(
-    step: &Step,
-    totals: &mut [usize],
-    top: usize,
-    cells: &mut [Cell],
-    due: &mut u64,
-    env: &Env<'_>,
-    now: u64,
-) -> usize
-    requires can { Can env.now (record {
-      top = top;
-      totals = totals.old;
-      cells = cells.old;
-      due = due.old;
-    }) step.now }
-    requires latest { due.old ≤ never }
-    requires first { 1 ≤ env.now.phase.number }
-    requires last { env.now.phase.number ≤ 10 }
-    ensures goes { record {
-      top = result;
-      totals = totals.new;
-      cells = cells.new;
-      due = due.new;
-    } ≡ go env.now now (record {
-      top = top;
-      totals = totals.old;
-      cells = cells.old;
-      due = due.old;
-    }) step.now }
-    ensures latest { due.new ≤ never }
-{
-    let (under, holds) = tell(step, totals, top, cells, due, env, now);
-    totals[under + 1] = totals[under] + one_if(holds);
-    under + 1
-}
-
-/// Runs a condition's code. `totals` is room for its truths, whatever it holds before.
-pub fn run(
-    steps: &[Step],
-    totals: &mut [usize],
+    node: &Node,
+    i: usize,
+    count: usize,
+    states: &[NodeState],
     cells: &mut [Cell],
     env: &Env<'_>,
     now: u64,
 ) -> Turn
-    requires ends { (final : State) × Ends env.now now steps.now (record {
-      top = 0;
-      totals = slice_set totals.old 0 0;
-      cells = cells.old;
-      due = never;
-    }) final }
-    requires room { 1 < length totals.old }
+    requires has { Has env.now (length cells.old) (length states.now) i node.now }
     requires first { 1 ≤ env.now.phase.number }
     requires last { env.now.phase.number ≤ 10 }
-    ensures ends { (final : State) → Ends env.now now steps.now (record {
-      top = 0;
-      totals = slice_set totals.old 0 0;
-      cells = cells.old;
-      due = never;
-    }) final
-        → (result.holds ≡ nat_lt 0 (slice_index final.totals 1)) × (result.due ≡ final.due)
-        × (cells.new ≡ final.cells) }
+    ensures holds { result.holds ≡ answer env.now now cells.old count
+        (state_at states.now (i + 1)).told node.now }
+    ensures due { result.due ≡ due_after now cells.old count node.now }
+    ensures cells { cells.new ≡ cells_after now cells.old count
+        (state_at states.now (i + 1)).told node.now }
+{
+    match node {
+        Node::Const(truth) => lasting(*truth),
+        Node::Disc(param) => lasting(env.is_one(*param)),
+        Node::Valid(param) => lasting(env.has_value(*param)),
+        Node::Cmp(param, op, number) => lasting(env.compares(*param, *op, *number)),
+        Node::InPhase(phases) => lasting(phases.has(env.phase)),
+        Node::Alert(alert) => lasting(env.is_active(*alert)),
+        Node::Press(key) => lasting(env.keys.pressed(*key)),
+        Node::Fwc(computer) => lasting(env.is_up(*computer)),
+        Node::Not => lasting(count == 0),
+        Node::All(members) => lasting(count == *members),
+        Node::Any => lasting(count > 0),
+        Node::AtLeast(least) => lasting(*least as usize <= count),
+        Node::Conf(moments, slot) => confirm(&mut cells[*slot], count > 0, *moments, now),
+        Node::Hold(moments, slot) => hold(&mut cells[*slot], count > 0, *moments, now),
+        Node::Rise(slot) => rise(&mut cells[*slot], count > 0, now),
+        Node::Latch(slot) => {
+            let set = states[i + 1].told;
+            let reset = if set { count > 1 } else { count > 0 };
+            lasting(latch(&mut cells[*slot], set, reset))
+        }
+    }
+}
+
+// What a node says is kept, and when it turns by itself. Few looks find another truth, so only those write it.
+#[inline(always)]
+fn keep(state: &mut NodeState, due: u64, holds: bool)
+    ensures { state.new ≡ seen due holds state.old }
+{
+    state.wake = due;
+    if holds != state.told {
+        state.told = holds;
+    }
+}
+
+// A child has another truth than it had: so its parent is to be looked at.
+#[inline(always)]
+fn turn_below(parent: &mut NodeState, holds: bool)
+    ensures { parent.new ≡ bumped holds parent.old }
+{
+    parent.count = if holds {
+        parent.count.saturating_add(1)
+    } else {
+        parent.count.saturating_sub(1)
+    };
+    parent.wake = 0;
+}
+
+// Tells the parent of node `i`, which stands so far before it, what the node said and says.
+#[inline(always)]
+fn tell_up(states: &mut [NodeState], i: usize, up: usize, was: bool, holds: bool)
+    requires within { i < length states.old }
+    requires up { up ≤ i }
+    ensures { states.new ≡ tell_up i up was holds states.old }
+{
+    if holds != was && up > 0 {
+        turn_below(&mut states[i - up], holds);
+    }
+}
+
+// Looks at node `i`.
+#[inline(always)]
+fn look(
+    step: &Step,
+    i: usize,
+    states: &mut [NodeState],
+    cells: &mut [Cell],
+    due: &mut u64,
+    env: &Env<'_>,
+    now: u64,
+)
+    requires can { Can env.now (length cells.old) (length states.old) i step.now }
+    requires first { 1 ≤ env.now.phase.number }
+    requires last { env.now.phase.number ≤ 10 }
+    ensures { record { states = states.new; cells = cells.new; due = due.new }
+        ≡ look env.now now i step.now (record {
+          states = states.old;
+          cells = cells.old;
+          due = due.old;
+        }) }
+{
+    let turn = tell(&step.node, i, states[i].count, states, cells, env, now);
+    earlier(due, turn.due);
+    let was = states[i].told;
+    keep(&mut states[i], turn.due, turn.holds);
+    tell_up(states, i, step.up, was, turn.holds);
+}
+
+// Looks at node `i`, or leaves it as it is where it isn't to be looked at yet.
+#[inline(always)]
+fn look_or_leave(
+    step: &Step,
+    i: usize,
+    states: &mut [NodeState],
+    cells: &mut [Cell],
+    due: &mut u64,
+    env: &Env<'_>,
+    now: u64,
+)
+    requires can { Can env.now (length cells.old) (length states.old) i step.now }
+    requires first { 1 ≤ env.now.phase.number }
+    requires last { env.now.phase.number ≤ 10 }
+    ensures { record { states = states.new; cells = cells.new; due = due.new }
+        ≡ look_or_leave env.now now i step.now (record {
+          states = states.old;
+          cells = cells.old;
+          due = due.old;
+        }) }
+{
+    let wake = states[i].wake;
+    if now < wake {
+        earlier(due, wake);
+    } else {
+        look(step, i, states, cells, due, env, now);
+    }
+}
+
+// Goes over the last of so many nodes, as many as aren't due before `due`, and answers how many stand before those.
+#[inline(always)]
+fn leave(states: &[NodeState], first: usize, count: usize, due: u64) -> usize
+    requires { first + count ≤ length states.now }
+    ensures fewer { result ≤ count }
+    ensures left { (j : ℕ) → result ≤ j → j < count → due ≤ (state_at states.now (first + j)).wake }
+{
+    let mut rest = count;
+    while rest > 0 {
+        if states[first + (rest - 1)].wake < due {
+            return rest;
+        }
+        rest -= 1;
+    }
+    0
+}
+
+/// Steps a condition's code, whose states start at `first`, and answers when the condition turns by itself. Children come
+/// before the node that they stand in.
+pub fn pass(
+    steps: &[Step],
+    first: usize,
+    states: &mut [NodeState],
+    cells: &mut [Cell],
+    env: &Env<'_>,
+    now: u64,
+) -> u64
+    requires can { AllCan env.now (length cells.old) (length states.old) first steps.now }
+    requires first { 1 ≤ env.now.phase.number }
+    requires last { env.now.phase.number ≤ 10 }
+    requires now { now < 2 ^ 63 }
+    ensures { record { states = states.new; cells = cells.new; due = result }
+        ≡ pass_over env.now now first steps.now (record {
+          states = states.old;
+          cells = cells.old;
+          due = never;
+        }) }
 {
     let mut due = NEVER;
-    let mut top = 0usize;
-    totals[0] = 0;
-    for step in steps {
-        top = take(step, totals, top, cells, &mut due, env, now);
+    let mut i = steps.len();
+    while i > 0 {
+        i -= 1;
+        look_or_leave(&steps[i], first + i, states, cells, &mut due, env, now);
+        // What is due so far comes after this moment, so a node that isn't due before it is one to leave.
+        i = leave(states, first, i, due);
     }
-    Turn {
-        holds: totals[1] > 0,
-        due,
-    }
+    due
 }

@@ -1,13 +1,13 @@
 // Worked histories of five moments, over a that holds in one of them, b in another, and d in each.
 #![tactic(auto, unfolding(ecam_spec::specs::TermSize::slots, ecam_spec::specs::TermNames::IsWithin))]
 
-ghost use Rattle.std.specs.Prelude.{◌≤◌, IfOk};
+ghost use Rattle.std.specs.Prelude.{◌≡◌, ◌≤◌, length, IfOk};
 ghost use Rattle.ecam_spec.specs.TermSize.{slots};
 ghost use Rattle.ecam_spec.specs.TermNames.{IsWithin};
 ghost use Rattle.term_tree.specs.View.{tree_of};
 ghost use Rattle.term_eval.specs.Code.{IsCode};
 
-use crate::{Cells, Env, Step, add_code};
+use crate::{Cells, Env, Nodes, Step, add_code};
 use ecam_kinds::{Keys, Phase};
 use std::alloc::{AllocError, Global};
 use std::test::Fail;
@@ -57,16 +57,33 @@ fn code_of(alloc: Global, cond: &Cond) -> Result<Vec<Step>, AllocError>
     Ok(steps)
 }
 
-// The same answers, by the condition's code.
-fn answers_by_code(alloc: Global, cond: &Cond, a: usize, b: usize) -> Result<[bool; 5], AllocError>
+// Marks so many nodes.
+fn mark_all(nodes: &mut Nodes, count: usize)
+    requires { count ≤ length nodes.old }
+    ensures { length nodes.new ≡ length nodes.old }
+{
+    for node in 0..count {
+        nodes.mark(node);
+    }
+}
+
+// The same answers, by the condition's code. All of its nodes are marked where `marks` says so.
+fn answers_by_code(
+    alloc: Global,
+    cond: &Cond,
+    a: usize,
+    b: usize,
+    marks: [bool; 5],
+) -> Result<([bool; 5], [u64; 5]), AllocError>
     requires few { slots (tree_of cond.now) ≤ 2 }
     requires names { IsWithin 3 0 (tree_of cond.now) }
 {
     let steps = code_of(alloc, cond)?;
-    let mut totals = vec![in alloc; 7; steps.len() + 1]?;
+    let mut nodes = Nodes::new(alloc, steps.len())?;
     let mut cells = Cells::new(alloc, 2)?;
     let keys = Keys::new();
     let mut found = [false; 5];
+    let mut dues = [0; 5];
     for moment in 0..5usize {
         let values = [truth(moment == a), truth(moment == b), truth(true)];
         let env = Env {
@@ -77,10 +94,18 @@ fn answers_by_code(alloc: Global, cond: &Cond, a: usize, b: usize) -> Result<[bo
             one_up: true,
             two_up: true,
         };
-        found[moment] = cells.run(&steps, &mut totals, &env, moment as u64).holds;
+        let count = if marks[moment] { steps.len() } else { 0 };
+        mark_all(&mut nodes, count);
+        let turn = cells.run(&mut nodes, &steps, 0, &env, moment as u64);
+        found[moment] = turn.holds;
+        dues[moment] = turn.due;
     }
-    Ok(found)
+    Ok((found, dues))
 }
+
+const ALWAYS: [bool; 5] = [true, true, true, true, true];
+
+const FIRST: [bool; 5] = [true, false, false, false, false];
 
 #[test]
 fn code_tells_what_the_tree_tells(rt: HostRuntime) -> Result<(), Fail> {
@@ -89,8 +114,71 @@ fn code_tells_what_the_tree_tells(rt: HostRuntime) -> Result<(), Fail> {
     let reset = Cond::All(vec![in alloc; Cond::Disc(B), Cond::Disc(D)]?);
     let cond = Cond::Latch(Box::new(alloc, lately)?, Box::new(alloc, reset)?);
     assert_eq!(rt;
-        answers_by_code(alloc, &cond, 0, 3)?,
+        answers_by_code(alloc, &cond, 0, 3, ALWAYS)?.0,
         [true, true, true, false, false]
+    );
+    Ok(())
+}
+
+// A node that isn't marked is left alone: a that holds in moment 1 alone is never seen where only the first moment marks it,
+// and is seen to go where moment 2 marks it.
+#[test]
+fn leaves_what_is_not_marked(rt: HostRuntime) -> Result<(), Fail> {
+    let alloc = rt.alloc();
+    let cond = Cond::Not(Box::new(alloc, Cond::Disc(A))?);
+    assert_eq!(rt;
+        answers_by_code(alloc, &cond, 1, 4, FIRST)?.0,
+        [true, true, true, true, true]
+    );
+    assert_eq!(rt;
+        answers_by_code(alloc, &cond, 0, 4, FIRST)?.0,
+        [false, false, false, false, false]
+    );
+    assert_eq!(rt;
+        answers_by_code(alloc, &cond, 1, 4, [true, true, false, true, false])?.0,
+        [true, false, false, true, true]
+    );
+    Ok(())
+}
+
+// Each kind of temporal node turns by itself in its due moment, with no mark but those of the first two moments.
+#[test]
+fn is_due_without_a_mark(rt: HostRuntime) -> Result<(), Fail> {
+    let alloc = rt.alloc();
+    let marks = [true, true, false, false, false];
+    let confirmed = Cond::Conf(Box::new(alloc, Cond::Disc(D))?, 2);
+    assert_eq!(rt;
+        answers_by_code(alloc, &confirmed, 4, 4, marks)?,
+        (
+            [false, false, true, true, true],
+            [2, 2, u64::MAX, u64::MAX, u64::MAX]
+        )
+    );
+    let lately = Cond::Hold(Box::new(alloc, Cond::Disc(A))?, 2);
+    assert_eq!(rt;
+        answers_by_code(alloc, &lately, 0, 4, marks)?,
+        (
+            [true, true, true, false, false],
+            [u64::MAX, 3, 3, u64::MAX, u64::MAX]
+        )
+    );
+    let risen = Cond::Rise(Box::new(alloc, Cond::Disc(D))?);
+    assert_eq!(rt;
+        answers_by_code(alloc, &risen, 4, 4, marks)?,
+        (
+            [true, false, false, false, false],
+            [1, u64::MAX, u64::MAX, u64::MAX, u64::MAX]
+        )
+    );
+    let lately = Cond::Hold(Box::new(alloc, Cond::Disc(A))?, 1);
+    let reset = Cond::Not(Box::new(alloc, lately)?);
+    let cond = Cond::Latch(Box::new(alloc, Cond::Disc(A))?, Box::new(alloc, reset)?);
+    assert_eq!(rt;
+        answers_by_code(alloc, &cond, 0, 4, marks)?,
+        (
+            [true, true, false, false, false],
+            [u64::MAX, 2, u64::MAX, u64::MAX, u64::MAX]
+        )
     );
     Ok(())
 }

@@ -4,5 +4,6 @@ pub mod Naming
 pub mod Lines
 pub mod Flattening
 pub mod Watches
+pub mod Silence
 pub mod Numbers
 pub mod Scope

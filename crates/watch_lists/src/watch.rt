@@ -1,5 +1,5 @@
 // The lists of a book in one.
-ghost use Rattle.std.specs.Prelude.{◌≡◌, ℕ, ◌<◌, length, IfOk};
+ghost use Rattle.std.specs.Prelude.{◌≡◌, ℕ, ◌<◌, ◌≤◌, true, length, IfOk};
 ghost use Rattle.std.specs.Box.{boxed_slice_items};
 ghost use Rattle.book_model.specs.Sealed.{the_book};
 ghost use Rattle.book_model.specs.Conditions.{places};
@@ -7,7 +7,7 @@ ghost use Rattle.book_model.specs.declared.draft.Draft.{Draft};
 ghost use Rattle.watch_lists.specs.Naming.{sizes_of, operand_count, names_at};
 ghost use Rattle.watch_lists.specs.Listed.{has_term, items_of};
 ghost use Rattle.watch_lists.specs.Flat.{IsFlat};
-ghost use Rattle.watch_lists.specs.Watching.{IsWatch};
+ghost use Rattle.watch_lists.specs.Watching.{IsWatch, NoneNamed};
 
 use crate::book::lists_of;
 use book_model::Book;
@@ -39,6 +39,18 @@ impl Watch {
             ≡ names_at (sizes_of d) (places (the_book d)) j operand }
     {
         &self.terms[self.starts[operand]..self.starts[operand + 1]]
+    }
+
+    /// Whether no condition names any of the operands from one up to another. Its cost is two reads.
+    pub fn is_silent(&self, from: usize, to: usize) -> bool
+        requires { (d : Draft) × IsWatch d self.now × (from ≤ to)
+            × (to ≤ operand_count (sizes_of d)) }
+        ensures silent { (d : Draft) → IsWatch d self.now → to ≤ operand_count (sizes_of d)
+            → result ≡ true → NoneNamed d from to }
+        ensures named { (d : Draft) → IsWatch d self.now → from ≤ to
+            → to ≤ operand_count (sizes_of d) → NoneNamed d from to → result ≡ true }
+    {
+        self.starts[from] == self.starts[to]
     }
 }
 

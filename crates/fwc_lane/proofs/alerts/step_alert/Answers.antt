@@ -39,26 +39,6 @@ step_term-holds-requires-clause-names c =
 pub wake_alert-requires-clause-alert : goal.wake_alert-requires-clause-alert
 wake_alert-requires-clause-alert c = omega (arith, c.requires.alert, many-alerts c.args.book.now)
 
-pub wake_alert-requires-clause-watch : goal.wake_alert-requires-clause-watch
-wake_alert-requires-clause-watch c = (c.step_term-holds.ensures.fits (the_book c.args.book.now) c.requires.terms).watch
-
-pub wake_alert-requires-clause-room : goal.wake_alert-requires-clause-room
-wake_alert-requires-clause-room c = (c.step_term-holds.ensures.fits (the_book c.args.book.now) c.requires.terms).room
-
-pub returns-clause-terms : goal.returns-clause-terms
-returns-clause-terms c =
-    let fits = c.step_term-holds.ensures.fits (the_book c.args.book.now) c.requires.terms in
-    record {
-      codes = fits.codes;
-      totals = fits.totals;
-      slots = fits.slots;
-      visits = fits.visits;
-      truths = fits.truths;
-      dues = fits.dues;
-      room = omega (arith, fits.room, c.wake_alert.ensures.room);
-      watch = fits.watch;
-    }
-
 pub returns-clause-stands : goal.returns-clause-stands
 returns-clause-stands c = λ m visits lends phase half.
     let d = c.args.book.now in
@@ -70,15 +50,17 @@ returns-clause-stands c = λ m visits lends phase half.
     let there : a < length b.alerts = omega (arith, c.requires.alert, many-alerts d) in
     let x = get_or xs a c.index-alerts-alert.result in
     let here = ap (get_or xs a) c.index-alerts-alert.is in
+    let steps = c.step_term-holds.ensures.steps b c.requires.terms
+    (ap (slice_get (places b)) c.alert_number.ensures ∙ own-place d c.alerts.ensures.sealed xs a x c.alerts.ensures.value lt here) in
     let actives = ap (take a) c.active-2.ensures.value in
     let truth = own-truth d c.alerts.ensures.sealed xs a x c.alerts.ensures.value lt here m k _ (record { values = lends.values; pressed = lends.pressed; one_up = lends.one_up; two_up = lends.two_up })
-    c.args.truths.now phase actives visits _ c.alert_number.ensures _ _ _ c.step_term-holds.ensures.steps half in
+    c.args.truths.now phase actives visits _ c.alert_number.ensures _ _ _ steps half in
     record {
-      terms = alert-known d c.alerts.ensures.sealed m k a visits c.step_term-holds.new.terms c.wake_alert.new.woken c.differ-other.result c.step_one-active.result _ there c.differ-other.ensures
+      terms = alert-known d c.alerts.ensures.sealed m k a visits c.step_term-holds.new.terms c.wake_alert.new.terms c.differ-other.result c.step_one-active.result _ there c.differ-other.ensures
           (c.step_one-active.ensures.answer (condition_in b m) (phase_in b m) k truth phase half.alerts ∙ active-is b m a k)
           (λ h e. get_or_default c.active.result.now a _ false (omega (arith, ap length c.active.ensures.value, c.requires.fits.active, there)) ∙ ap (λ ys. get_or ys a false) c.active.ensures.value ∙ was-active b m k h a c.args.truths.now e there half.alerts)
           c.wake_alert.ensures.wakes
           (own-stands d c.alerts.ensures.sealed xs a x c.alerts.ensures.value lt here m k _ (record { values = lends.values; pressed = lends.pressed; one_up = lends.one_up; two_up = lends.two_up })
-          c.args.truths.now phase actives visits _ c.alert_number.ensures _ _ _ c.step_term-holds.ensures.steps half);
+          c.args.truths.now phase actives visits _ c.alert_number.ensures _ _ _ steps half);
       alerts = c.step_one-active.ensures.stands (condition_in b m) (phase_in b m) k truth phase half.alerts;
     }

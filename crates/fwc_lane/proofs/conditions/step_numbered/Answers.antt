@@ -2,6 +2,7 @@ use Rattle.std.proofs.Common.{◌<◌, false, length, sym, ◌∙◌, arith}
 use Rattle.std.proofs.lemmas.List.{get_or_default}
 use Rattle.std.proofs.lemmas.Option.{slice_get_within}
 use Rattle.book_model.specs.Conditions.{places}
+use Rattle.condition_codes.specs.Places.{nodes_before}
 use Rattle.fwc_lane.proofs.Stepping.{rest-asked, half-rest}
 use Rattle.fwc_lane.proofs.conditions.step_numbered.Goals as goal
 
@@ -25,10 +26,10 @@ returns-then-not-has-clause-steps c = λ b p fits here names.
     let off = sym c.has.ensures ∙ c.if-not-has.true in
     let inside : c.args.number < length (places b) = slice_get_within (places b) c.args.number p here in
     record {
-      truth = λ ps worlds hit visited at shows tells half.
+      truth = λ worlds hit visited at shows tells half.
           c.index.ensures
           ∙ get_or_default c.args.terms.now.truths.items c.args.number c.index.result.now false (omega (arith, inside, fits.truths))
-          ∙ (rest-asked (worlds c.args.number) hit c.args.now c.args.number p c.args.terms.now c.requires.now tells (half.left c.args.number _ (omega arith) at) off).told;
-      stands = λ ps worlds hit visited at apart shows tells half.
-          half-rest ps worlds c.args.now c.args.number p at hit visited c.args.terms.now c.requires.now tells off half;
+          ∙ (rest-asked (worlds c.args.number) hit c.args.now c.args.number (nodes_before (places b) c.args.number) p c.args.terms.now c.requires.now tells (half.left c.args.number _ (omega arith) at) off).told;
+      stands = λ worlds hit visited at apart shows tells half.
+          half-rest (places b) worlds c.args.now c.args.number p at hit visited c.args.terms.now c.requires.now tells off half;
     }

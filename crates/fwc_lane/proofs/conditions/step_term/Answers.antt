@@ -5,4 +5,4 @@ pub step_numbered-requires-clause-place : goal.step_numbered-requires-clause-pla
 step_numbered-requires-clause-place c = (c.requires.place.0, placed_of c.args._term.now, c.requires.place.1, c.requires.place.2, c.requires.names)
 
 pub returns-clause-steps : goal.returns-clause-steps
-returns-clause-steps c = c.step_numbered.ensures.steps c.requires.place.0 (placed_of c.args._term.now) c.requires.place.1 c.requires.place.2 c.requires.names
+returns-clause-steps c = λ b fits here. c.step_numbered.ensures.steps b (placed_of c.args._term.now) fits here c.requires.names

@@ -7,6 +7,7 @@ use Rattle.book_model.proofs.BookLists.{many-alerts, many-pages, many-parameters
 use Rattle.system_display.specs.Selecting.{IsChoiceOf}
 use Rattle.fwc_lane.proofs.Showing.{active-is}
 use Rattle.fwc_lane.proofs.CrewMoments.{cancelled-told, first-told}
+use Rattle.fwc_lane.proofs.PageRest.{auto-stood, chosen-stood}
 use Rattle.fwc_lane.proofs.ZoneSteps.{displays, auto-drawn, page-drawn, status-page-drawn}
 use Rattle.fwc_lane.proofs.display.fill_display.Goals as goal
 
@@ -14,16 +15,22 @@ pub called_page-page-requires-clause-alert : goal.called_page-page-requires-clau
 called_page-page-requires-clause-alert c =
     subst (λ n. IfSome c.first.result (λ a. a < n)) (many-alerts c.args.book.now) (c.first.ensures.within (the_book c.args.book.now) c.requires.fits.marks)
 
-pub fill_page-requires-clause-values : goal.fill_page-requires-clause-values
-fill_page-requires-clause-values c = c.requires.fits.values ∙ many-parameters c.args.book.now
+pub draw_page-requires-clause-values : goal.draw_page-requires-clause-values
+draw_page-requires-clause-values c = c.requires.fits.values ∙ many-parameters c.args.book.now
 
-pub fill_page-requires-in-Page-clause-page : goal.fill_page-requires-in-Page-clause-page
-fill_page-requires-in-Page-clause-page c =
+pub draw_page-requires-clause-turned : goal.draw_page-requires-clause-turned
+draw_page-requires-clause-turned c = c.requires.fits.turned ∙ many-parameters c.args.book.now
+
+pub draw_page-requires-in-Page-clause-values : goal.draw_page-requires-in-Page-clause-values
+draw_page-requires-in-Page-clause-values c = c.requires.fits.values ∙ many-parameters c.args.book.now
+
+pub draw_page-requires-in-Page-clause-turned : goal.draw_page-requires-in-Page-clause-turned
+draw_page-requires-in-Page-clause-turned c = c.requires.fits.turned ∙ many-parameters c.args.book.now
+
+pub draw_page-requires-in-Page-clause-page : goal.draw_page-requires-in-Page-clause-page
+draw_page-requires-in-Page-clause-page c =
     let within = subst (IsChoiceOf (length (the_book c.args.book.now).pages)) c.in-Page.is (c.choice.ensures.within (the_book c.args.book.now) c.requires.fits.selector) in
     omega (arith, within, many-pages c.args.book.now)
-
-pub fill_page-requires-in-Page-clause-values : goal.fill_page-requires-in-Page-clause-values
-fill_page-requires-in-Page-clause-values c = c.requires.fits.values ∙ many-parameters c.args.book.now
 
 pub fill_status-requires-clause-active : goal.fill_status-requires-clause-active
 fill_status-requires-clause-active c = ap length c.active.ensures.value ∙ c.requires.fits.truths.active ∙ many-alerts c.args.book.now
@@ -32,22 +39,26 @@ pub fill_status-requires-clause-cancelled : goal.fill_status-requires-clause-can
 fill_status-requires-clause-cancelled c = ap length c.cancelled.ensures ∙ c.requires.fits.marks.many.cancelled ∙ many-alerts c.args.book.now
 
 pub returns-in-Auto-clause-rows : goal.returns-in-Auto-clause-rows
-returns-in-Auto-clause-rows c = λ m k scene.
+returns-in-Auto-clause-rows c = λ m k scene stays.
     let b = the_book c.args.book.now in
     auto-drawn b m k _ _ c.first.result c.called_page-page.result (sym c.in-Auto.is ∙ c.choice.ensures.choice (panel b m) (suc k) scene.selector)
     (c.first.ensures.value ∙ first-told b m k _ scene.marks)
     (λ d pages phase page. c.called_page-page.ensures.page d pages (phase ∙ sym scene.phase) page)
-    (c.fill_page.ensures.rows (display b m k) (displays b m k _ scene.values))
+    (c.draw_page.ensures.rows (display b m k) (displays b m k _ scene.values)
+    (λ on. auto-stood b m k _ scene.turned _ (stays on) c.first.result c.called_page-page.result (sym c.in-Auto.is ∙ c.choice.ensures.choice (panel b m) (suc k) scene.selector)
+    (c.first.ensures.value ∙ first-told b m k _ scene.marks)
+    (λ d pages phase page. c.called_page-page.ensures.page d pages (phase ∙ sym scene.phase) page)))
 
 pub returns-in-Page-clause-rows : goal.returns-in-Page-clause-rows
-returns-in-Page-clause-rows c = λ m k scene.
+returns-in-Page-clause-rows c = λ m k scene stays.
     let b = the_book c.args.book.now in
     page-drawn b m k _ _ c.in-Page.page (sym c.in-Page.is ∙ c.choice.ensures.choice (panel b m) (suc k) scene.selector)
-    (c.fill_page-in-Page.ensures.rows (display b m k) (displays b m k _ scene.values))
+    (c.draw_page-in-Page.ensures.rows (display b m k) (displays b m k _ scene.values)
+    (λ on. chosen-stood b m k _ scene.turned _ (stays on) c.in-Page.page (sym c.in-Page.is ∙ c.choice.ensures.choice (panel b m) (suc k) scene.selector)))
 
 pub returns-in-Status-clause-rows : goal.returns-in-Status-clause-rows
 unfolding previous
-returns-in-Status-clause-rows c = λ m k scene.
+returns-in-Status-clause-rows c = λ m k scene stays.
     let d = c.args.book.now in
     let b = the_book d in
     status-page-drawn b m k _ _ c.in-Status.page (sym c.in-Status.is ∙ c.choice.ensures.choice (panel b m) (suc k) scene.selector)

@@ -20,7 +20,7 @@ returns-clause-stands c = λ m visited lends half stands was.
     let d = c.args.book.now in
     let b = the_book d in
     let inputs = c.step_inputs-inputs.ensures.inputs m visited lends half in
-    more-known d c.sealed.ensures m c.args.now alerts_from 0 visited _ c.wake_phase.new.woken (λ o. c.is_other_phase-other.result && eqb o (length b.parameters + length b.alerts)) c.wake_phase.ensures.wakes
+    more-known d c.sealed.ensures m c.args.now alerts_from 0 visited _ c.wake_phase.new.terms (λ o. c.is_other_phase-other.result && eqb o (length b.parameters + length b.alerts)) c.wake_phase.ensures.wakes
     (λ h e.
     phase-moves b m c.args.now h c.step-phase.result.number c.args.was.number c.is_other_phase-other.result e c.is_other_phase-other.ensures
     (c.step-phase.ensures.answer (flight b m) c.args.now stands inputs) (was h e))

@@ -51,7 +51,9 @@ loop-memo-preserved c =
     let room : i < length c.loop-memo.flags.items = omega (arith, c.in-Some.ensures.1, c.loop-memo.invariant.flags, c.requires.flags, many-memos d) in
     let is = c.set_flag-other.ensures.items in
     let x = get_or c.memos.result.now i c.index-memos-memo.result in
-    let steps = subst (λ n. StepsTerm c.args.env.now c.args.now (n + i) (placed_of x.when) c.loop-memo.terms c.step_term-holds.new.terms c.step_term-holds.result) c.first_memo-first.ensures c.step_term-holds.ensures.steps in
+    let place = memo-place-at d c.memos.ensures.sealed c.memos.result.now i x c.memos.ensures.value lt (ap (get_or c.memos.result.now i) c.index-memos-memo.is) in
+    let steps = subst (λ n. StepsTerm (places (the_book d)) c.args.env.now c.args.now (n + i) (placed_of x.when) c.loop-memo.terms c.step_term-holds.new.terms c.step_term-holds.result) c.first_memo-first.ensures
+    (c.step_term-holds.ensures.steps (the_book d) c.loop-memo.invariant.fits (ap (λ n. slice_get (places (the_book d)) (n + i)) c.first_memo-first.ensures ∙ place)) in
     record {
       most = omega (arith, c.in-Some.ensures.1);
       fits = c.step_term-holds.ensures.fits (the_book d) c.loop-memo.invariant.fits;

@@ -16,9 +16,9 @@ step_numbered-done-requires-clause-place c =
 
 pub returns-clause-steps : goal.returns-clause-steps
 returns-clause-steps c b w p fits here next names also =
-    line-steps c.args.env.now c.args.now c.args.number w p c.args.terms.now c.step_numbered-when.new.terms c.step_numbered-done.new.terms
+    line-steps (places b) c.args.env.now c.args.now c.args.number w p c.args.terms.now c.step_numbered-when.new.terms c.step_numbered-done.new.terms
     c.step_numbered-when.result c.step_numbered-done.result c.stands.result (c.step_numbered-when.ensures.steps b w fits here names)
-    (subst (λ n. StepsTerm c.args.env.now c.args.now n p c.step_numbered-when.new.terms c.step_numbered-done.new.terms c.step_numbered-done.result) (add-one c.args.number)
+    (subst (λ n. StepsTerm (places b) c.args.env.now c.args.now n p c.step_numbered-when.new.terms c.step_numbered-done.new.terms c.step_numbered-done.result) (add-one c.args.number)
     (c.step_numbered-done.ensures.steps b p (c.step_numbered-when.ensures.fits b fits) (ap (slice_get (places b)) (add-one c.args.number) ∙ next) also))
     c.stands.ensures
 

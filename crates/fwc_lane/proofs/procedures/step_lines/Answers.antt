@@ -65,7 +65,7 @@ loop-line-preserved c =
       stands = λ m visits shows were half.
           line-next d c.sealed.ensures c.in-Some.line found.1 m c.args.now c.args.env.now shows visits c.loop-line.terms c.step_line-stands.new.terms c.step_line-stands.result
           (λ w p here next names also.
-          subst (λ n. StepsLine c.args.env.now c.args.now n w p c.loop-line.terms c.step_line-stands.new.terms c.step_line-stands.result) at
+          subst (λ n. StepsLine (places b) c.args.env.now c.args.now n w p c.loop-line.terms c.step_line-stands.new.terms c.step_line-stands.result) at
           (c.step_line-stands.ensures.steps b w p c.loop-line.invariant.fits (ap (slice_get (places b)) at ∙ here) (ap (λ i. slice_get (places b) (suc i)) at ∙ next)
           (rw (c.requires.values, c.requires.active) names) (rw (c.requires.values, c.requires.active) also)))
           c.loop-line.flags.items c.set_flag-other.new.flags.items is room

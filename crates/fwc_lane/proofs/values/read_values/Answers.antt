@@ -1,8 +1,8 @@
-use Rattle.std.proofs.Common.{◌≡◌, ◌≢◌, ◌<◌, ◌≤◌, ◌&&◌, ◌||◌, ℕ, length, get_or, None, IfSome, refl, ◌∙◌, ap, subst, sym, arith, eqb, not, inl, inr}
+use Rattle.std.proofs.Common.{◌≡◌, ◌≢◌, ◌<◌, ◌≤◌, ◌&&◌, ◌||◌, ℕ, length, get_or, set, None, IfSome, refl, ◌∙◌, ap, subst, sym, arith, eqb, not, inl, inr}
 use Rattle.std.specs.Prelude.{unwrap_or}
 use Rattle.std.specs.Option.{option_eq}
 use Rattle.std.proofs.lemmas.Bool.{cases_eq}
-use Rattle.std.proofs.lemmas.List.{get_or-set_other}
+use Rattle.std.proofs.lemmas.List.{get_or-set_other, length-set}
 use Rattle.std.proofs.lemmas.List.Elements.{All-set}
 use Rattle.std.specs.Ordering.{int_eq}
 use Rattle.book_model.specs.Sealed.{the_book}
@@ -12,7 +12,8 @@ use Rattle.ecam_spec.specs.Situation.{parameter_at}
 use Rattle.system_display.specs.Pages.{IsShort, AreShort}
 use Rattle.fwc_lane.specs.Waking.{ranged, value_turned}
 use Rattle.fwc_lane.proofs.FlagSteps.{set-own, set-behind, set-length, left-false, right-false}
-use Rattle.fwc_lane.proofs.Hitting.{wakes-then, wakes-none}
+use Rattle.fwc_lane.proofs.Awake.{awake-then, awake-none}
+use Rattle.fwc_lane.proofs.TurnedFlags.{many-flags, turned-then}
 use Rattle.fwc_lane.proofs.ValueSteps.{is-short, none-turned, one-turned, found-there, read-over}
 use Rattle.fwc_lane.proofs.values.read_values.Goals as goal
 
@@ -24,10 +25,12 @@ loop-param-init c =
       many = refl;
       read = λ words k stands before p lt. absurd (omega arith);
       short = c.requires.short;
-      room = refl;
-      wakes = wakes-none b (ranged 0 (length b.parameters) (value_turned values values)) c.args.woken.now (none-turned (length b.parameters) values);
+      terms = c.requires.terms;
+      wakes = awake-none b (ranged 0 (length b.parameters) (value_turned values values)) c.args.terms.now (none-turned (length b.parameters) values);
       later = λ p le. refl;
       kept = λ e. refl;
+      flags = refl;
+      turned = λ p off. refl;
     }
 
 pub value-value-requires-clause-param : goal.value-value-requires-clause-param
@@ -45,8 +48,11 @@ wake-requires-clause-operand c =
     let at = found-there c.loop-param.from (length c.args.book.now.params.items) c.changed.result c.in-Some.param c.in-Some.is c.changed.ensures.within in
     omega (arith, at.1, many-parameters c.args.book.now)
 
-pub wake-requires-clause-room : goal.wake-requires-clause-room
-wake-requires-clause-room c = omega (arith, c.loop-param.invariant.room, c.requires.room)
+pub index_mut-requires : goal.index_mut-requires
+index_mut-requires c =
+    let at = found-there c.loop-param.from (length c.args.book.now.params.items) c.changed.result c.in-Some.param c.in-Some.is c.changed.ensures.within in
+    let many = many-flags c.args.turned.now c.fill.new.self c.fill.ensures.len in
+    omega (arith, at.1, c.loop-param.turned.ok.0, c.loop-param.invariant.flags, many, c.requires.flags, many-parameters c.args.book.now)
 
 pub loop-param-smaller : goal.loop-param-smaller
 loop-param-smaller c =
@@ -82,14 +88,17 @@ loop-param-preserved c =
             i (subst (λ o. i < unwrap_or o n) (sym c.in-Some.is) low) within
       ];
       short = subst AreShort (sym set-is) (All-set (λ v. IfSome v IsShort) before p _ (is-short _ _ c.value-value.ensures.bound) is.short);
-      room = c.wake.ensures.room ∙ is.room;
-      wakes = wakes-then b (ranged 0 n (value_turned was before)) (λ o. c.set_value-other.result && eqb o p) (ranged 0 n (value_turned was after)) c.args.woken.now c.loop-param.woken c.wake.new.woken
+      terms = c.wake.ensures.fits;
+      wakes = awake-then b (ranged 0 n (value_turned was before)) (λ o. c.set_value-other.result && eqb o p) (ranged 0 n (value_turned was after)) c.args.terms.now c.loop-param.terms c.wake.new.terms
           (λ o. one-turned n p was before after at.1 (is.later p at.0) others o ∙ ap (λ x. ranged 0 n (value_turned was before) o || (x && eqb o p)) (sym flag))
           is.wakes c.wake.ensures.wakes;
       later = λ j le. set-behind before after p _ None set-is j (omega arith) ∙ is.later j (omega (arith, le, at.0));
       kept = λ off.
-          let none = sym c.is_either-turned.ensures ∙ off in
+          let none = sym c.is_either-any.ensures ∙ off in
           c.set_value-other.ensures.kept (right-false _ _ none) ∙ is.kept (left-false _ _ none);
+      flags = length-set c.loop-param.turned.items p c.set_value-other.result ∙ is.flags;
+      turned = λ i off. turned-then c.loop-param.turned.items (set c.loop-param.turned.items p c.set_value-other.result) p c.set_value-other.result refl before after was
+          (omega (arith, is.flags, many-flags c.args.turned.now c.fill.new.self c.fill.ensures.len, c.requires.flags, at.1)) c.set_value-other.ensures.kept (is.later p at.0) others is.turned i off;
     }
 
 pub returns-clause-values : goal.returns-clause-values
@@ -99,3 +108,6 @@ returns-clause-values c = λ words k stands values i within.
     read-over b words k c.loop-param.from c.args.values.now.items c.loop-param.values.items c.changed.result values (is.read words k stands values) is.later
     (c.changed.ensures.same words k stands)
     i (subst (λ o. i < unwrap_or o (length b.parameters)) (sym c.in_default.is) within) within
+
+pub returns-clause-flags : goal.returns-clause-flags
+returns-clause-flags c = c.loop-param.invariant.flags ∙ many-flags c.args.turned.now c.fill.new.self c.fill.ensures.len

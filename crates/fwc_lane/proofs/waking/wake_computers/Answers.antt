@@ -1,8 +1,8 @@
 use Rattle.std.proofs.Common.{◌≡◌, ◌+◌, ◌&&◌, ◌||◌, ◌==◌, length, refl, ap, subst, arith}
 use Rattle.book_model.specs.Sealed.{the_book}
 use Rattle.book_model.proofs.BookLists.{many-parameters, many-alerts}
-use Rattle.fwc_lane.specs.Waking.{WakesBy}
-use Rattle.fwc_lane.proofs.Hitting.{wakes-then}
+use Rattle.fwc_lane.specs.Waking.{HasWoken}
+use Rattle.fwc_lane.proofs.Awake.{awake-then}
 use Rattle.fwc_lane.proofs.waking.wake_computers.Goals as goal
 
 pub wake-requires-clause-operand : goal.wake-requires-clause-operand
@@ -17,8 +17,8 @@ returns-clause-wakes c =
     let e : length c.params.result.now + length c.alerts.result.now ≡ length b.parameters + length b.alerts =
     omega (arith, ap length c.params.ensures.value, ap length c.alerts.ensures.value, many-parameters c.args.book.now, many-alerts c.args.book.now) in
     let second : length c.params.result.now + length c.alerts.result.now + 26 + 1 ≡ length b.parameters + length b.alerts + 27 = omega (arith, e) in
-    wakes-then b (λ o. c.args.one && (o == length b.parameters + length b.alerts + 26)) (λ o. c.args.two && (o == length b.parameters + length b.alerts + 27))
+    awake-then b (λ o. c.args.one && (o == length b.parameters + length b.alerts + 26)) (λ o. c.args.two && (o == length b.parameters + length b.alerts + 27))
     (λ o. (c.args.one && (o == length b.parameters + length b.alerts + 26)) || (c.args.two && (o == length b.parameters + length b.alerts + 27)))
-    c.args.woken.now c.wake.new.woken c.wake-2.new.woken (λ o. refl)
-    (subst (λ n. WakesBy b (λ o. c.args.one && (o == n)) c.args.woken.now c.wake.new.woken) (ap (λ n. n + 26) e) c.wake.ensures.wakes)
-    (subst (λ n. WakesBy b (λ o. c.args.two && (o == n)) c.wake.new.woken c.wake-2.new.woken) second c.wake-2.ensures.wakes)
+    c.args.terms.now c.wake.new.terms c.wake-2.new.terms (λ o. refl)
+    (subst (λ n. HasWoken b (λ o. c.args.one && (o == n)) c.args.terms.now c.wake.new.terms) (ap (λ n. n + 26) e) c.wake.ensures.wakes)
+    (subst (λ n. HasWoken b (λ o. c.args.two && (o == n)) c.wake.new.terms c.wake-2.new.terms) second c.wake-2.ensures.wakes)

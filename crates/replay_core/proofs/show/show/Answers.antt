@@ -9,3 +9,11 @@ returns-in-Ok-clause-shows g c = record {
   pair = c.play-played.new.loaded.pair;
   plays = c.play-played.ensures.plays;
 }
+
+pub returns-clause-shows : goal.returns-clause-shows
+returns-clause-shows g c = record {
+  played = c.play-played.result;
+  result_is = sym (ap uncounted c.in-Err.is);
+  pair = c.play-played.new.loaded.pair;
+  plays = c.play-played.ensures.plays;
+}

@@ -15,7 +15,7 @@ use Rattle.std.specs.Option.{IfSome}
 use Rattle.term_eval.specs.declared.memory.Cell.{Cell}
 use Rattle.term_eval.specs.declared.turn.Turn.{Turn}
 use Rattle.term_eval.specs.Steps.{Steps, StepsAll}
-use Rattle.term_eval.proofs.Nodes.{steps-negation}
+use Rattle.term_eval.proofs.NodeSteps.{steps-negation}
 use Rattle.term_eval.proofs.Members.{steps-none, steps-more, steps-all, steps-any, steps-at_least}
 use Rattle.term_eval.proofs.Atoms.{steps-constant, steps-discrete, steps-valid, steps-compared, steps-in_phase, steps-alert, steps-press, steps-computer}
 use Rattle.term_eval.proofs.Arms.{steps-as, steps_all-as, names-of, names_of_all, arm-confirmed, arm-held, arm-risen, arm-latched}

@@ -18,6 +18,7 @@ returns-clause-fits c = record {
       let all : vec_len c.args.self.now.values ≡ length c.args.self.now.values.items = omega arith in
       ap length (c.fill.ensures.items (λ y same. search rules)) ∙ length-replicate _ None ∙ all ∙ c.requires.values;
   short = subst AreShort (sym (c.fill.ensures.items (λ y same. search rules))) (none-short _);
+  turned = c.requires.turned;
   terms = c.clear-2.ensures.fits (the_book c.args.book.now) c.requires.terms;
   lines = c.requires.lines;
   memos = c.requires.memos;
@@ -39,6 +40,7 @@ returns-clause-stands c = λ f.
       values = λ p. ap (λ vs. get_or vs p None) (c.fill.ensures.items (λ y same. search rules)) ∙ none-each _ p;
       keys = c.new-self-3.ensures;
       cells = c.clear-2.ensures.stands;
+      nodes = c.clear-2.ensures.nodes;
       phases = c.new-self.ensures;
       truths = λ conditions phases. c.clear-3.ensures.stands b conditions phases c.requires.truths;
       marks = λ p. c.clear-4.ensures.stands b p c.requires.marks;

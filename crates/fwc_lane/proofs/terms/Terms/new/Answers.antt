@@ -3,13 +3,11 @@ use Rattle.std.proofs.lemmas.List.{length-replicate}
 use Rattle.book_model.specs.Sealed.{the_book}
 use Rattle.fwc_lane.proofs.terms.Terms.new.Goals as goal
 
-pub overflow_add-longest : goal.overflow_add-longest
-overflow_add-longest c = omega (arith, c.longest.ensures.few (the_book c.args.book.now) c.in_ok-codes.ensures)
-
 pub returns-clause-fits : goal.returns-clause-fits
 returns-clause-fits c = record {
   codes = c.in_ok-codes.ensures;
-  totals = omega (arith, c.in_ok-totals.ensures.len, c.in_ok-totals.totals.ok.0, c.longest.ensures.value);
+  nodes = c.in_ok-nodes.ensures.len ∙ c.count.ensures (the_book c.args.book.now) c.in_ok-codes.ensures;
+  askers = c.in_ok-askers.ensures;
   slots = c.in_ok-cells.ensures.len ∙ c.slots.ensures.value;
   visits = omega (arith, c.in_ok-cells.ensures.visits);
   truths = omega (arith, c.in_ok-truths.ensures.len, c.in_ok-truths.truths.ok.0, c.condition_count-count.ensures.count);

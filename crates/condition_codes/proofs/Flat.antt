@@ -1,0 +1,75 @@
+-- One list more is put behind the others.
+use Rattle.std.proofs.Common.{◌≡◌, ℕ, suc, ◌+◌, ◌-◌, ◌<◌, ◌≤◌, List, [], ◌∷◌, ◌++◌, length, take, drop, slice_get, slice_index, Some, refl, sym, ap, ◌∙◌, inl, inr, arith}
+use Rattle.std.proofs.lemmas.Bool.{cases_lt}
+use Rattle.std.proofs.lemmas.List.{get_or_append_left, get_or_push, get_or-take, get_or-drop, length-append, length-take, length-drop, take_all, drop_all, take-append-le, drop-append-le}
+use Rattle.std.proofs.lemmas.Option.{slice_get_within, slice_get-get_or, get_or_from_slice_get}
+use Rattle.condition_codes.specs.Flat.{piece, ArePieces}
+
+-- there is none
+pub pieces-none : {X : Type 0} → ArePieces {X = X} 0 (0 ∷ []) []
+pieces-none = record {
+  count = refl;
+  ends = refl;
+  ordered = λ j less. absurd (omega arith);
+  within = λ j le. let e : j ≡ 0 = omega arith in omega (arith, ap (slice_index (0 ∷ [])) e);
+}
+
+module _ {X : Type 0} (n : ℕ) (starts : List ℕ) (items own : List X) (old : ArePieces n starts items) where
+  abbrev starts' : List ℕ
+  starts' = starts ++ length (items ++ own) ∷ []
+
+  longer : length (items ++ own) ≡ length items + length own
+  longer = length-append items own
+
+  pub start-old : (j : ℕ) → j ≤ n → slice_index starts' j ≡ slice_index starts j
+  start-old j le = get_or_append_left starts (length (items ++ own) ∷ []) 0 j (omega (arith, old.count))
+
+  start-last : slice_index starts' n ≡ length items
+  start-last = start-old n (omega arith) ∙ old.ends
+
+  pub start-new : slice_index starts' (suc n) ≡ length (items ++ own)
+  start-new = get_or_push starts (length (items ++ own)) 0 (suc n) old.count
+
+  -- those before stand where they stood
+  pub piece-old : (j : ℕ) → j < n → piece starts' (items ++ own) j ≡ piece starts items j
+  piece-old j less =
+      let a = slice_index starts j in
+      let b = slice_index starts (suc j) in
+      let low : a ≤ length items = old.within j (omega arith) in
+      let high : b ≤ length items = old.within (suc j) less in
+      ap (λ m. take (slice_index starts' (suc j) - m) (drop m (items ++ own))) (start-old j (omega arith))
+      ∙ ap (λ m. take (m - a) (drop a (items ++ own))) (start-old (suc j) less)
+      ∙ ap (take (b - a)) (drop-append-le a items own low)
+      ∙ take-append-le (b - a) (drop a items) own (omega (arith, length-drop a items, high))
+
+  pub piece-new : piece starts' (items ++ own) n ≡ own
+  piece-new =
+      ap (λ m. take (slice_index starts' (suc n) - m) (drop m (items ++ own))) start-last
+      ∙ ap (λ m. take (m - length items) (drop (length items) (items ++ own))) start-new
+      ∙ ap (take (length (items ++ own) - length items)) (drop-append-le (length items) items own (omega arith) ∙ ap (λ l. l ++ own) (drop_all (length items) items (omega arith)))
+      ∙ take_all (length (items ++ own) - length items) own (omega (arith, longer))
+
+  pub pieces-next : ArePieces (suc n) starts' (items ++ own)
+  pieces-next = record {
+    count = omega (arith, length-append starts (length (items ++ own) ∷ []), old.count);
+    ends = start-new;
+    ordered = λ j less. elim (cases_lt j n) [
+      | inl before ↦ omega (arith, start-old j (omega arith), start-old (suc j) before, old.ordered j before)
+      | inr after ↦ let e : j ≡ n = omega arith in omega (arith, ap (slice_index starts') e, ap (λ m. slice_index starts' (suc m)) e, start-last, start-new, longer)
+    ];
+    within = λ j le. elim (cases_lt n j) [
+      | inl after ↦ let e : j ≡ suc n = omega arith in omega (arith, ap (slice_index starts') e, start-new)
+      | inr before ↦ omega (arith, start-old j before, old.within j before, longer)
+    ];
+  }
+
+-- what a piece has stands among all items
+pub piece-get : {X : Type 0} (starts : List ℕ) (items : List X) (j i : ℕ) (x : X) → slice_get (piece starts items j) i ≡ Some x → slice_get items (slice_index starts j + i) ≡ Some x
+piece-get starts items j i x is =
+    let a = slice_index starts j in
+    let b = slice_index starts (suc j) in
+    let lt : i < length (piece starts items j) = slice_get_within (piece starts items j) i x is in
+    let own : i < b - a = omega (arith, length-take (b - a) (drop a items)) in
+    let inside : a + i < length items = omega (arith, length-take (b - a) (drop a items), length-drop a items) in
+    slice_get-get_or items (a + i) x inside
+    ∙ ap Some (sym (get_or-drop a items i x) ∙ sym (get_or-take (b - a) (drop a items) i x own) ∙ get_or_from_slice_get (piece starts items j) i x x is)

@@ -1,0 +1,55 @@
+use Rattle.std.proofs.Common.{◌≡◌, All, map, length, sym, ap, subst, ◌∙◌}
+use Rattle.std.proofs.lemmas.List.{length-map}
+use Rattle.ecam_spec.specs.TermSize.{Placed}
+use Rattle.ecam_spec.specs.TermNames.{IsWithin}
+use Rattle.book_model.specs.Sealed.{the_book}
+use Rattle.book_model.specs.Conditions.{places}
+use Rattle.term_eval.specs.Asked.{node_asks}
+use Rattle.term_eval.specs.declared.code.Step.{Step}
+use Rattle.watch_lists.specs.declared.number.Sizes.{Sizes}
+use Rattle.watch_lists.specs.Naming.{sizes_of, operand_count}
+use Rattle.watch_lists.proofs.Naming.{few-operands}
+use Rattle.watch_lists.proofs.Lines.{sizes-are}
+use Rattle.condition_codes.specs.Chains.{IsAsked, wanted, AreChains, AreAskers}
+use Rattle.condition_codes.specs.IsAskers.{sizes_in}
+use Rattle.condition_codes.proofs.NamesWithin.{all-names}
+use Rattle.condition_codes.proofs.Asked.{steps-within}
+use Rattle.condition_codes.proofs.Asking.{sizes-read, askers-of}
+use Rattle.condition_codes.proofs.askers.Askers.new.Goals as goal
+
+pub chains_of-requires-clause-few : goal.chains_of-requires-clause-few
+chains_of-requires-clause-few c =
+    few-operands c.args.book.now c.sealed.ensures _ (sizes-are c.args.book.now _ _ (ap length c.params.ensures.value) (ap length c.alerts.ensures.value))
+
+pub chains_of-requires-clause-own : goal.chains_of-requires-clause-own
+chains_of-requires-clause-own c =
+    let d = c.args.book.now in
+    let n : Sizes = record { params = length c.params.result.now; alerts = length c.alerts.result.now } in
+    let same : n ≡ sizes_of d = sizes-are d _ _ (ap length c.params.ensures.value) (ap length c.alerts.ensures.value) in
+    let ps = places (the_book d) in
+    let names : All (λ (p : Placed). IsWithin n.params n.alerts p.tree) ps =
+    subst (λ (m : Sizes). All (λ (p : Placed). IsWithin m.params m.alerts p.tree) ps) (sym same) (all-names d c.sealed.ensures) in
+    subst (All (λ (s : Step). IsAsked n (node_asks s.node))) (sym (c.steps.ensures ∙ c.requires.codes.whole))
+    (steps-within n c.code_asks_for_what_the_condition_asks_for.ensures ps names)
+
+pub returns : goal.returns
+returns c =
+    let d = c.args.book.now in
+    let b = the_book d in
+    let n : Sizes = record { params = length c.params.result.now; alerts = length c.alerts.result.now } in
+    let same : n ≡ sizes_in b = sizes-read d _ _ (ap length c.params.ensures.value) (ap length c.alerts.ensures.value) in
+    let starts = c.in_ok-starts.starts.items.items in
+    let nodes = c.in_ok-starts.nodes.items.items in
+    let steps = c.args.codes.now.steps.items.items in
+    let ws = map (wanted n) steps in
+    let read : map (wanted n) c.steps.result.now ≡ ws = ap (map (wanted n)) c.steps.ensures in
+    let firsts = c.in_ok-firsts.firsts.items in
+    let nexts = c.in_ok-firsts.nexts.items in
+    let long : length ws ≡ length c.deref-2.result.now =
+    ap length (sym read) ∙ length-map c.steps.result.now (wanted n) ∙ sym c.in_ok-firsts.ensures.nodes ∙ ap length (sym c.deref-2.ensures.value) in
+    let chains : AreChains ws 0 c.deref.result.now c.deref-2.result.now =
+    rw (c.deref.ensures.value, c.deref-2.ensures.value) (subst (λ l. AreChains l 0 firsts nexts) read c.in_ok-firsts.ensures.chains) in
+    let all : AreAskers ws (length c.deref.result.now) starts nodes = c.in_ok-starts.ensures ws long chains in
+    let counted : AreAskers ws (operand_count n) starts nodes = subst (λ m. AreAskers ws m starts nodes) (ap length c.deref.ensures.value ∙ c.in_ok-firsts.ensures.operands) all in
+    askers-of b c.args.codes.now c.requires c.code_asks_for_what_the_condition_asks_for.ensures (record { starts = c.in_ok-starts.starts; nodes = c.in_ok-starts.nodes })
+    (subst (λ (m : Sizes). AreAskers (map (wanted m) steps) (operand_count m) starts nodes) same counted)

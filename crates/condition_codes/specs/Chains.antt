@@ -1,0 +1,50 @@
+-- Chains of the nodes that ask for one operand: each node tells the next.
+use Rattle.std.specs.Prelude.{◌≡◌, ℕ, suc, ◌<◌, ◌≤◌, true, List, ◌++◌, length, slice_get, slice_index, Option, Some, None}
+use Rattle.std.specs.Option.{option_map}
+use Rattle.term_eval.specs.Asked.{node_asks}
+use Rattle.term_eval.specs.Woken.{Operand}
+use Rattle.term_eval.specs.declared.code.Step.{Step}
+use Rattle.watch_lists.specs.declared.number.Sizes.{Sizes}
+use Rattle.watch_lists.specs.Naming.{operand_number, IsOperand}
+use Rattle.watch_lists.specs.Listed.{has_term}
+use Rattle.condition_codes.specs.Flat.{piece, ArePieces}
+
+-- a node that asks for an operand asks for one of the book
+abbrev pub IsAsked : Sizes → Option Operand → Type 0
+IsAsked n (Some x) = IsOperand n x
+IsAsked n None = Unit {0}
+
+-- the number of the operand that a step asks for
+abbrev pub wanted : Sizes → Step → Option ℕ
+wanted n s = option_map (operand_number n) (node_asks s.node)
+
+-- node i asks for operand o
+abbrev pub Wants : List (Option ℕ) → ℕ → ℕ → Type 0
+Wants ws i o = slice_get ws i ≡ Some (Some o)
+
+-- f is the first node from one on that asks for the operand, or where there is none, the number of nodes
+pub record IsNext (ws : List (Option ℕ)) (o from f : ℕ) : Type 0 where
+  pub low : from ≤ f
+  pub high : f ≤ length ws
+  pub asks : f < length ws → Wants ws f o
+  pub first : (m : ℕ) → from ≤ m → m < f → Wants ws m o → ⊥
+
+-- each operand tells the first of the nodes from one on that ask for it, and each of these nodes the next
+pub record AreChains (ws : List (Option ℕ)) (from : ℕ) (firsts nexts : List ℕ) : Type 0 where
+  pub first : (o : ℕ) → o < length firsts → IsNext ws o from (slice_index firsts o)
+  pub next : (m o : ℕ) → from ≤ m → Wants ws m o → IsNext ws o (suc m) (slice_index nexts m)
+
+-- the list has each node that asks for the operand, and numbers of nodes alone
+pub record HasAskers (ws : List (Option ℕ)) (o : ℕ) (list : List ℕ) : Type 0 where
+  pub each : (m : ℕ) → Wants ws m o → has_term list m ≡ true
+  pub within : (k : ℕ) → k < length list → slice_index list k < length ws
+
+-- the lists of the first n operands
+pub record AreAskers (ws : List (Option ℕ)) (n : ℕ) (starts nodes : List ℕ) : Type 0 where
+  pub pieces : ArePieces n starts nodes
+  pub lists : (o : ℕ) → o < n → HasAskers ws o (piece starts nodes o)
+
+-- the nodes from the first on that ask for an operand were put behind others
+abbrev pub AddsAskers : ℕ → List ℕ → List ℕ → List ℕ → Type 0
+AddsAskers first nexts old new = (own : List ℕ) × (new ≡ old ++ own) × ((ws : List (Option ℕ)) (o : ℕ) → length ws ≡ length nexts → IsNext ws o 0 first
+    → ((m p : ℕ) → Wants ws m p → IsNext ws p (suc m) (slice_index nexts m)) → HasAskers ws o own)
