@@ -11,9 +11,10 @@ use Rattle.ecam_spec.specs.Screen.{order}
 use Rattle.ecam_spec.specs.Situation.{no_alert}
 use Rattle.ecam_spec.specs.TermSize.{trees, placed}
 use Rattle.ecam_spec.specs.Draft.{book_of, resolved, alert_names}
-use Rattle.ecam_spec.specs.KeepsLimits.{IsSound}
+use Rattle.ecam_spec.specs.declared.limits.TheConstants.{PARAMETERS}
+use Rattle.ecam_spec.specs.KeepsLimits.{IsSound, IsSoundParameter}
 use Rattle.ecam_spec.specs.DraftFaults.{draft_fault}
-use Rattle.book_model.specs.View.{alert_of, name_of, draft_of, line_of}
+use Rattle.book_model.specs.View.{alert_of, name_of, draft_of, line_of, parameter_of}
 use Rattle.book_model.specs.Parts.{order_by, level_places, has_level, is_level, secondaries_by, line_counts, total}
 use Rattle.book_model.specs.Slots.{draft_trees, draft_places}
 use Rattle.book_model.specs.Sealed.{the_book, IsSealed}
@@ -79,6 +80,15 @@ module _ (d : Draft) where
 
   pub terms-book : draft_trees d ≡ terms_of (the_book d)
   terms-book = draft_trees-view d ∙ sym (terms_of-book (draft_of d))
+
+  -- how many parameters a sound draft has, and that they are sound
+  pub few-parameters : IsSound (draft_of d) → length d.params.items ≤ PARAMETERS
+  unfolding draft_of
+  few-parameters sound = omega (arith, sound.parameter_count, length-map d.params.items parameter_of)
+
+  pub sound-parameters : IsSound (draft_of d) → All IsSoundParameter (map parameter_of d.params.items)
+  unfolding draft_of
+  sound-parameters sound = sound.parameters
 
   -- how many alerts a sound draft has, and how many lines each of them
   pub few-alerts : IsSound (draft_of d) → length d.alerts.items ≤ 2048

@@ -5,5 +5,7 @@ pub mod Conditions
 pub mod Told
 pub mod Parts
 pub mod Slots
+pub mod SourcePlaces
+pub mod Listening
 pub mod Inside
 pub mod NamePlaces

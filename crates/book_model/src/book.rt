@@ -3,13 +3,15 @@ ghost use Rattle.ecam_spec.specs.Screen.{order};
 ghost use Rattle.ecam_spec.specs.BookTerms.{terms_of, slots_in, lines_of};
 
 use crate::draft::{Alert, Draft, Memo, Page, Param, PhaseTerms, Text};
+use crate::index::Index;
 use crate::parts::{line_starts_of, order_of, secondaries_of};
 use crate::slots::place;
 use std::alloc::{AllocError, Global};
 use std::marker::Model;
 
 /// A book: a draft without a fault, in which each condition has its place among the slots, with the order of
-/// its alerts, their secondaries by place, and the place of each alert's first line among all lines.
+/// its alerts, their secondaries by place, the place of each alert's first line among all lines, and the sources
+/// that listen to each bus and label.
 #[derive(Drop)]
 pub struct Book {
     draft: Draft,
@@ -18,6 +20,7 @@ pub struct Book {
     line_starts: Vec<usize>,
     line_count: usize,
     slots: usize,
+    index: Index,
 }
 
 impl Model for Book {
@@ -38,11 +41,14 @@ impl Model for Book {
 }
 
 impl Book {
-    ghost use Rattle.std.specs.Prelude.{◌≡◌, ◌<◌, length, map, take, slice_get, Some, None, All, IfOk};
+    ghost use Rattle.std.specs.Prelude.{◌≡◌, ◌<◌, ◌*◌, length, map, take, slice_get, Some, None, All, IfOk};
+    ghost use Rattle.ecam_spec.specs.Book.{Source};
+    ghost use Rattle.ecam_spec.specs.Word.{label};
     ghost use Rattle.ecam_spec.specs.KeepsLimits.{IsSound};
     ghost use Rattle.ecam_spec.specs.DraftFaults.{draft_fault};
     ghost use Rattle.book_model.specs.View.{draft_of};
     ghost use Rattle.book_model.specs.Sealed.{IsSealed, the_book};
+    ghost use Rattle.book_model.specs.SourcePlaces.{source_at, listens, last_below};
 
     /// Seals a draft that has no fault: gives each condition its place among the slots, and changes nothing
     /// else. Fails only where memory runs out.
@@ -55,6 +61,7 @@ impl Book {
         let order = order_of(alloc, draft.alerts.as_slice())?;
         let secondaries = secondaries_of(alloc, draft.alerts.as_slice())?;
         let (line_starts, line_count) = line_starts_of(alloc, draft.alerts.as_slice())?;
+        let index = Index::new(alloc, draft.params.as_slice())?;
         let mut draft = draft;
         let slots = place(&mut draft);
         Ok(Book {
@@ -64,6 +71,7 @@ impl Book {
             line_starts,
             line_count,
             slots,
+            index,
         })
     }
 
@@ -167,5 +175,28 @@ impl Book {
         ensures sealed { IsSealed self.now }
     {
         self.slots
+    }
+
+    /// The last place of a source that listens to this bus and the label of a word of these bits, of the three places that
+    /// each parameter has. Its cost is one look-up.
+    #[inline(always)]
+    pub fn last_listener(&self, bus: u8, bits: u32) -> Option<u16>
+        ensures value { result
+            ≡ last_below (listens (the_book self.now).parameters bus (label bits))
+            (3 * length (the_book self.now).parameters) }
+        ensures sealed { IsSealed self.now }
+    {
+        self.index.last_listener(bus, bits)
+    }
+
+    /// The last place before this one of a source that listens to the same bus and label. Its cost is one look-up.
+    #[inline(always)]
+    pub fn listener_before(&self, place: usize) -> Option<u16>
+        requires { place < 3 * length (the_book self.now).parameters }
+        ensures value { (s : Source) → source_at (the_book self.now).parameters place ≡ Some s
+            → result ≡ last_below (listens (the_book self.now).parameters s.bus s.label) place }
+        ensures sealed { IsSealed self.now }
+    {
+        self.index.listener_before(place)
     }
 }

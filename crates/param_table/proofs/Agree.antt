@@ -7,7 +7,7 @@ use Rattle.ecam_spec.specs.Book.{Source, Book}
 use Rattle.ecam_spec.specs.Value.{BusWord, takes, arrives, reading}
 use Rattle.ecam_spec.proofs.PastAgree.{last-below}
 use Rattle.ecam_spec.proofs.ValueAgree.{word_of-below}
-use Rattle.param_table.specs.Places.{parameter_with}
+use Rattle.book_model.specs.SourcePlaces.{parameter_with}
 use Rattle.param_table.specs.TableState.{SourceStands, ParamsStand}
 use Rattle.param_table.specs.declared.received.Received.{Received}
 use Rattle.param_table.specs.declared.table.Params.{Params}

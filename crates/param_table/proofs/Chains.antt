@@ -1,22 +1,15 @@
--- The last number below n that passes, and the chains of places that an index leads through.
-use Rattle.std.proofs.Common.{◌≡◌, ℕ, zero, suc, ◌<◌, Bool, true, false, ltb, Option, Some, None, cond, refl, sym, ap, ◌∙◌, arith, inl, inr}
+-- The chains of places of the sources that listen to a word, from the last down.
+use Rattle.std.proofs.Common.{◌≡◌, ℕ, zero, suc, ◌<◌, Bool, true, false, ltb, Option, Some, None, cond, sym, ap, ◌∙◌, arith, inl, inr}
 use Rattle.std.specs.Prelude.{IfSome}
 use Rattle.std.proofs.lemmas.Bool.{cases_Bool, cases_lt}
 use Rattle.std.proofs.lemmas.Bool.Decides.{nat_tests}
-use Rattle.param_table.specs.Places.{last_below}
+use Rattle.book_model.specs.SourcePlaces.{last_below}
+use Rattle.book_model.proofs.LastBelow.{last_below-suc, last_below-zero}
 
 -- the number isn't among those that are still to come: all from the next one down
 abbrev pub is_past : Option ℕ → ℕ → Bool
 is_past None q = true
 is_past (Some h) q = ltb h q
-
-pub last_below-suc : (p : ℕ → Bool) (n : ℕ) → last_below p (suc n) ≡ cond (p n) (Some n) (last_below p n)
-unfolding last_below
-last_below-suc p n = elim (p n) as (λ b. elim b [ true ↦ Some n | false ↦ last_below p n ] ≡ cond b (Some n) (last_below p n)) [ true ↦ refl | false ↦ refl ]
-
-pub last_below-zero : (p : ℕ → Bool) → last_below p 0 ≡ None
-unfolding last_below
-last_below-zero p = refl
 
 -- none that is past passes
 pub past_fails : (p : ℕ → Bool) (n q : ℕ) → q < n → is_past (last_below p n) q ≡ true → p q ≡ false
@@ -44,9 +37,3 @@ found_passes p (suc n) = rw last_below-suc (elim (cases_Bool (p n)) [
   weaker : (o : Option ℕ) → IfSome o (λ h. (h < n) × (p h ≡ true)) → IfSome o (λ h. (h < suc n) × (p h ≡ true))
   weaker None h = h
   weaker (Some x) h = (omega arith, h.1)
-
--- all numbers below n alike
-pub none_below : (p : ℕ → Bool) (n : ℕ) → ((q : ℕ) → q < n → p q ≡ false) → last_below p n ≡ None
-none_below p zero none = last_below-zero p
-none_below p (suc n) none =
-    last_below-suc p n ∙ ap (λ b. cond b (Some n) (last_below p n)) (none n (omega arith)) ∙ none_below p n (λ q h. none q (omega arith))

@@ -1,8 +1,6 @@
 pub mod Moments
 pub mod Chains
 pub mod Sources
-pub mod Labels
-pub mod Entering
 pub mod Said
 pub mod Told
 pub mod Values

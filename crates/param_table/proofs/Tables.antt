@@ -15,18 +15,18 @@ use Rattle.book_model.specs.declared.draft.Draft.{Draft}
 use Rattle.book_model.specs.Sealed.{the_book, IsSealed}
 use Rattle.book_model.specs.View.{source_of}
 use Rattle.wakes.specs.Marks.{is_marked, room}
-use Rattle.param_table.specs.Listening.{IsIndex}
 use Rattle.param_table.specs.declared.received.Received.{Received}
 use Rattle.param_table.specs.declared.rules.Rule.{Rule}
 use Rattle.param_table.specs.declared.held.Held.{Held}
 use Rattle.param_table.specs.declared.table.Params.{Params}
-use Rattle.param_table.specs.Places.{parameter_with, source_at, listens, takes_at, last_below}
+use Rattle.book_model.specs.SourcePlaces.{parameter_with, source_at, listens, last_below}
+use Rattle.param_table.specs.Taking.{takes_at}
 use Rattle.param_table.specs.Rules.{IsRule, AreRules}
 use Rattle.param_table.specs.HeldValues.{given, kept_word, entry, is_ending, is_repeated, repeated, set_back}
 use Rattle.param_table.specs.HeldState.{AreDue, Renews, WillLook}
 use Rattle.param_table.specs.TableState.{SourceStands, IsHeld, ParamsFit, ParamsStand, IsValueOf, IsStill}
 use Rattle.param_table.proofs.Sources.{not_even}
-use Rattle.param_table.proofs.Entering.{none_replicate}
+use Rattle.book_model.proofs.Entering.{none_replicate}
 use Rattle.param_table.proofs.Said.{start_stands, moment_stands, set_back_stands, word_stands, given_is, source_before-below}
 use Rattle.param_table.proofs.Told.{word_told, moment_told}
 use Rattle.param_table.proofs.Steps.{will_look_at, still_given}
@@ -280,11 +280,10 @@ repeated_is params place clock bits (Some t) (Some r) is held so =
     }
 
 -- the table fits when the clock is set back
-pub back_fits : (b : Book) (old new : Params) → old.clock ≡ 2 ^ 32 - 1 → new.clock ≡ 2 ^ 31 - 1 → new.index ≡ old.index → new.rules ≡ old.rules → new.held.received.items.items ≡ map set_back old.held.received.items.items
+pub back_fits : (b : Book) (old new : Params) → old.clock ≡ 2 ^ 32 - 1 → new.clock ≡ 2 ^ 31 - 1 → new.rules ≡ old.rules → new.held.received.items.items ≡ map set_back old.held.received.items.items
     → new.held.changed ≡ old.held.changed → length new.held.dues ≡ length old.held.dues → ParamsFit b old → ParamsFit b new
-back_fits b old new full half index rules same marks dues fits = record {
+back_fits b old new full half rules same marks dues fits = record {
   sound = fits.sound;
-  index = subst (IsIndex b.parameters) (sym index) fits.index;
   rules = subst (λ rs. AreRules b.parameters rs.items.items) (sym rules) fits.rules;
   held = record {
     places = ap length same ∙ length-map old.held.received.items.items set_back ∙ fits.held.places;
@@ -305,7 +304,6 @@ passed p = record p { clock = p.clock + 1 }
 pub passed-fits : (b : Book) (p : Params) → ParamsFit b p → ParamsFit b (passed p)
 passed-fits b p fits = record {
   sound = fits.sound;
-  index = fits.index;
   rules = fits.rules;
   held = record {
     places = fits.held.places;

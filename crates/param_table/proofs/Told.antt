@@ -11,7 +11,8 @@ use Rattle.ecam_spec.specs.Value.{BusWord, takes, arrives, is_fresh}
 use Rattle.ecam_spec.specs.History.{OneMore}
 use Rattle.ecam_spec.proofs.PastAgree.{once_within-below, previous-below}
 use Rattle.param_table.specs.declared.received.Received.{Received}
-use Rattle.param_table.specs.Places.{parameter_with, source_at, takes_at}
+use Rattle.book_model.specs.SourcePlaces.{parameter_with, source_at}
+use Rattle.param_table.specs.Taking.{takes_at}
 use Rattle.param_table.specs.HeldValues.{is_ending}
 use Rattle.param_table.specs.TableState.{MayDiffer, SourceStands, IsHeld}
 use Rattle.param_table.proofs.Moments.{arrives-push}

@@ -13,7 +13,7 @@ use Rattle.ecam_spec.specs.Places.{first_of}
 use Rattle.wakes.specs.Marks.{is_marked}
 use Rattle.param_table.specs.declared.received.Received.{Received}
 use Rattle.param_table.specs.declared.table.Params.{Params}
-use Rattle.param_table.specs.Places.{source_at}
+use Rattle.book_model.specs.SourcePlaces.{source_at}
 use Rattle.param_table.specs.TableState.{ParamsStand, IsHeld, source_before, value_before}
 use Rattle.param_table.specs.HeldValues.{given, first_given}
 use Rattle.param_table.proofs.Said.{given_is}

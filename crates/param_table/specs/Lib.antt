@@ -1,5 +1,4 @@
-pub mod Places
-pub mod Listening
+pub mod Taking
 pub mod Rules
 pub mod HeldValues
 pub mod HeldState

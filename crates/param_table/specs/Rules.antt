@@ -2,7 +2,7 @@
 use Rattle.std.specs.Prelude.{◌≡◌, ℕ, ◌*◌, List, length, get_or, Option, Some, None}
 use Rattle.ecam_spec.specs.Book.{Parameter}
 use Rattle.book_model.specs.View.{source_of}
-use Rattle.param_table.specs.Places.{parameter_with, source_at}
+use Rattle.book_model.specs.SourcePlaces.{parameter_with, source_at}
 use Rattle.param_table.specs.declared.rules.Rule.{Rule}
 
 -- the source at a place, with its parameter's kind and freshness

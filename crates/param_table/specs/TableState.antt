@@ -10,8 +10,7 @@ use Rattle.ecam_spec.specs.Book.{Source, Parameter, Book}
 use Rattle.ecam_spec.specs.KeepsLimits.{IsSoundParameter}
 use Rattle.ecam_spec.specs.Value.{BusWord, arrives, word_of, is_fresh, has_sdi, reading, source_value, value}
 use Rattle.wakes.specs.Marks.{is_marked, room}
-use Rattle.param_table.specs.Places.{parameter_with, source_at}
-use Rattle.param_table.specs.Listening.{IsIndex}
+use Rattle.book_model.specs.SourcePlaces.{parameter_with, source_at}
 use Rattle.param_table.specs.Rules.{AreRules}
 use Rattle.param_table.specs.HeldValues.{given}
 use Rattle.param_table.specs.HeldState.{AreDue}
@@ -65,10 +64,9 @@ pub record HeldFits (params : List Parameter) (clock : ℕ) (h : Held) : Type 0 
   pub dues : length h.dues ≡ 3 * length params
   pub each : (q : ℕ) → IfSome (get_or h.received.items.items q None) (IsHeld params clock q)
 
--- the table was made for the book: it has the places of the book's sources, and finds them by bus and label
+-- the table was made for the book: it has the places of the book's sources, and how each reads its words
 pub record ParamsFit (b : Book) (p : Params) : Type 0 where
   pub sound : All IsSoundParameter b.parameters
-  pub index : IsIndex b.parameters p.index
   pub rules : AreRules b.parameters p.rules.items.items
   pub held : HeldFits b.parameters p.clock p.held
 

@@ -2,8 +2,6 @@
 #![tactic(auto)]
 
 mod held;
-mod index;
-mod place;
 mod received;
 mod rules;
 mod table;

@@ -7,11 +7,10 @@ ghost use Rattle.param_table.specs.Rules.{AreRules, IsRule};
 ghost use Rattle.param_table.specs.HeldValues.{entry};
 ghost use Rattle.param_table.specs.TableState.{IsValueOf};
 
-use crate::place::source_at;
 use crate::received::Received;
 use crate::words::{has_sdi, reading};
 use arinc_words::Word;
-use book_model::{Kind, Param, WordSource};
+use book_model::{Kind, Param, WordSource, source_at};
 use std::alloc::{AllocError, Global};
 use std::boxed::BoxedSlice;
 

@@ -9,7 +9,6 @@ ghost use Rattle.param_table.specs.TableState.{ParamsFit, ParamsStand, IsValueOf
 ghost use Rattle.param_table.specs.HeldValues.{first_given, set_back};
 
 use crate::held::{Held, look_soon, none_received};
-use crate::index::Index;
 use crate::received::{HALF, given, set_back};
 use crate::rules::{Rule, rules_of};
 use crate::taking::receive;
@@ -28,7 +27,6 @@ pub struct Params {
     held: Held,
     // How the words of each source are read, by place.
     rules: BoxedSlice<Option<Rule>>,
-    index: Index,
 }
 
 impl Params {
@@ -39,7 +37,6 @@ impl Params {
             → ParamsStand (the_book book.now) words 0 p) }
     {
         let params = book.params();
-        let index = Index::new(alloc, params)?;
         let rules = rules_of(alloc, params)?;
         let received = none_received(alloc, 3 * params.len())?;
         let changed = Marked::new(alloc, params.len())?;
@@ -52,7 +49,6 @@ impl Params {
                 dues,
             },
             rules,
-            index,
         })
     }
 
@@ -98,33 +94,25 @@ impl Params {
             → ParamsStand (the_book book.now) old k self.old
             → ParamsStand (the_book book.now) new k self.new }
     {
-        let word = Word::new(bits);
-        if self.index.last(bus, &word).is_none() {
+        if book.last_listener(bus, bits).is_none() {
             return;
         }
+        let word = Word::new(bits);
         if word.odd() {
-            receive(
-                &mut self.held,
-                &self.index,
-                &self.rules,
-                book,
-                self.clock,
-                bus,
-                &word,
-            );
+            receive(&mut self.held, &self.rules, book, self.clock, bus, &word);
         }
     }
 
     /// Whether any source of the book listens to a word's bus and label. A word to which none does leaves each table of the book
     /// as it is. Its cost is one look-up.
     #[inline(always)]
-    pub fn listens(&self, _book: &Book, bus: u8, bits: u32) -> bool
-        requires { ParamsFit (the_book _book.now) self.now }
+    pub fn listens(&self, book: &Book, bus: u8, bits: u32) -> bool
+        requires { ParamsFit (the_book book.now) self.now }
         ensures { result ≡ false → (p : Params) (old new : ℕ → List BusWord) (k : ℕ)
             → OneMore old new k (record { bus = bus; bits = bits })
-            → ParamsStand (the_book _book.now) old k p → ParamsStand (the_book _book.now) new k p }
+            → ParamsStand (the_book book.now) old k p → ParamsStand (the_book book.now) new k p }
     {
-        self.index.last(bus, &Word::new(bits)).is_some()
+        book.last_listener(bus, bits).is_some()
     }
 
     /// The moment ends. What is fresh is told by the clock, so that a Tick costs a look at the sources whose freshness
@@ -236,7 +224,6 @@ impl Params {
         requires clock { self.old.clock ≡ 2 ^ 32 - 1 }
         requires count { length self.old.held.dues ≡ length self.old.held.received.items.items }
         ensures clock { self.new.clock ≡ 2 ^ 31 - 1 }
-        ensures index { self.new.index ≡ self.old.index }
         ensures rules { self.new.rules ≡ self.old.rules }
         ensures changed { self.new.held.changed ≡ self.old.held.changed }
         ensures received { self.new.held.received.items.items

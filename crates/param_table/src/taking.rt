@@ -4,15 +4,13 @@ ghost use Rattle.ecam_spec.specs.Word.{is_odd};
 ghost use Rattle.ecam_spec.specs.KeepsLimits.{IsSoundParameter};
 ghost use Rattle.book_model.specs.Sealed.{the_book};
 ghost use Rattle.wakes.specs.Marks.{is_marked};
-ghost use Rattle.param_table.specs.Places.{takes_at};
-ghost use Rattle.param_table.specs.Listening.{IsIndex};
+ghost use Rattle.param_table.specs.Taking.{takes_at};
 ghost use Rattle.param_table.specs.Rules.{AreRules};
 ghost use Rattle.param_table.specs.HeldValues.{entry, entered};
 ghost use Rattle.param_table.specs.HeldState.{Renews};
 ghost use Rattle.param_table.specs.TableState.{HeldFits};
 
 use crate::held::Held;
-use crate::index::Index;
 use crate::rules::{Rule, entry};
 use arinc_words::Word;
 use book_model::Book;
@@ -21,33 +19,31 @@ use book_model::Book;
 #[inline(always)]
 pub fn receive(
     held: &mut Held,
-    index: &Index,
     rules: &[Option<Rule>],
-    _book: &Book,
+    book: &Book,
     clock: u32,
     bus: u8,
     word: &Word,
 )
     requires odd { IsTrue (is_odd word.now) }
-    requires sound { All IsSoundParameter (the_book _book.now).parameters }
-    requires index { IsIndex (the_book _book.now).parameters index.now }
-    requires rules { AreRules (the_book _book.now).parameters rules.now }
-    requires fits { HeldFits (the_book _book.now).parameters clock held.old }
-    ensures fits { HeldFits (the_book _book.now).parameters clock held.new }
+    requires sound { All IsSoundParameter (the_book book.now).parameters }
+    requires rules { AreRules (the_book book.now).parameters rules.now }
+    requires fits { HeldFits (the_book book.now).parameters clock held.old }
+    ensures fits { HeldFits (the_book book.now).parameters clock held.new }
     ensures received { (q : ℕ) → slice_index_or held.new.received.items.items q None
-        ≡ (if takes_at (the_book _book.now).parameters (record { bus = bus; bits = word.now }) q
+        ≡ (if takes_at (the_book book.now).parameters (record { bus = bus; bits = word.now }) q
         then entry clock word.now (slice_index_or rules.now q None)
         else slice_index_or held.old.received.items.items q None) }
     ensures renews { Renews clock held.old held.new }
-    ensures others { (p : ℕ) → ((q : ℕ) → q / 3 ≡ p → takes_at (the_book _book.now).parameters
+    ensures others { (p : ℕ) → ((q : ℕ) → q / 3 ≡ p → takes_at (the_book book.now).parameters
         (record { bus = bus; bits = word.now }) q ≡ false)
         → is_marked held.new.changed p ≡ is_marked held.old.changed p }
 {
-    let mut next = index.last(bus, word);
+    let mut next = book.last_listener(bus, word.bits());
     while let Some(place) = next {
         let place = usize::from(place);
-        visit(held, rules, _book, clock, place, word);
-        next = index.before(place);
+        visit(held, rules, book, clock, place, word);
+        next = book.listener_before(place);
     }
 }
 

@@ -10,13 +10,12 @@ pub returns-clause-stands : goal.returns-clause-stands
 returns-clause-stands c = λ b words fits none.
     let was = c.args.self.now in
     let held = was.held.received in
-    let new : Params = record { clock = 0; held = record { received = boxed_slice_with_items held c.fill.new.self; changed = c.clear.new.self; dues = c.clear-2.new.self }; rules = was.rules; index = was.index } in
+    let new : Params = record { clock = 0; held = record { received = boxed_slice_with_items held c.fill.new.self; changed = c.clear.new.self; dues = c.clear-2.new.self }; rules = was.rules } in
     let wiped : new.held.received.items.items ≡ replicate (length held.items.items) None =
     with_items_is held.items c.fill.new.self (c.fill.ensures.len ∙ ap length c.as_mut_slice.ensures.value ∙ sym held.items.ok.0)
     ∙ c.fill.ensures.after (λ y same. search rules) ∙ ap (λ l. replicate (length l) None) c.as_mut_slice.ensures.value in
     let kept : ParamsFit b new = record {
       sound = fits.sound;
-      index = fits.index;
       rules = fits.rules;
       held = record {
         places = ap length wiped ∙ length-replicate (length held.items.items) None ∙ fits.held.places;

@@ -1,10 +1,8 @@
-use Rattle.std.proofs.Common.{◌≡◌, ◌+◌, ◌*◌, ◌/◌, length, map, replicate, None, All, sym, ap, ◌∙◌, subst, arith}
+use Rattle.std.proofs.Common.{◌≡◌, ◌+◌, ◌*◌, ◌/◌, length, map, replicate, None, sym, ap, ◌∙◌, subst, arith}
 use Rattle.std.proofs.lemmas.List.{length-replicate, length-map}
 use Rattle.wakes.specs.Tournament.{never}
 use Rattle.book_model.specs.View.{parameter_of}
 use Rattle.book_model.specs.Sealed.{the_book}
-use Rattle.ecam_spec.specs.KeepsLimits.{IsSoundParameter}
-use Rattle.param_table.specs.Listening.{IsIndex}
 use Rattle.param_table.specs.Rules.{AreRules}
 use Rattle.param_table.specs.TableState.{ParamsFit}
 use Rattle.book_model.proofs.BookLists.{book-parameters}
@@ -13,19 +11,11 @@ use Rattle.param_table.proofs.Tables.{start, book_sound, held_none}
 use Rattle.param_table.proofs.table.Params.new.Goals as goal
 use Rattle.param_table.proofs.table.Params.new.Goals.{In_ok-dues}
 
-pub new-requires-clause-few : goal.new-requires-clause-few
-new-requires-clause-few c = rw c.params-params.ensures.value (sizes c.args.book.now c.params-params.ensures.sealed).params
-
-pub new-requires-clause-sound : goal.new-requires-clause-sound
-new-requires-clause-sound c =
-    let sound : All IsSoundParameter (map parameter_of c.args.book.now.params.items) = subst (All IsSoundParameter) (book-parameters c.args.book.now) (book_sound c.args.book.now c.params-params.ensures.sealed) in
-    rw c.params-params.ensures.value sound
+pub new-requires : goal.new-requires
+new-requires c = omega (arith, (sizes c.args.book.now c.params-params.ensures.sealed).params, ap length c.params-params.ensures.value)
 
 pub new-requires-2 : goal.new-requires-2
 new-requires-2 c = omega (arith, (sizes c.args.book.now c.params-params.ensures.sealed).params, ap length c.params-params.ensures.value)
-
-pub new-requires-3 : goal.new-requires-3
-new-requires-3 c = omega (arith, (sizes c.args.book.now c.params-params.ensures.sealed).params, ap length c.params-params.ensures.value)
 
 -- nothing has come yet
 blank : (c : In_ok-dues) → c.in_ok-received.received.items.items ≡ replicate (3 * length c.params-params.result.now) None
@@ -40,10 +30,9 @@ many c = sym (length-map c.params-params.result.now parameter_of) ∙ ap length 
 
 fits : (c : In_ok-dues)
     → ParamsFit (the_book c.args.book.now)
-    (record { clock = 0; held = record { received = c.in_ok-received.received; changed = c.in_ok-changed.changed; dues = c.in_ok-dues.dues }; rules = c.in_ok-rules.rules; index = c.in_ok-index.index })
+    (record { clock = 0; held = record { received = c.in_ok-received.received; changed = c.in_ok-changed.changed; dues = c.in_ok-dues.dues }; rules = c.in_ok-rules.rules })
 fits c = record {
   sound = book_sound c.args.book.now c.params-params.ensures.sealed;
-  index = subst (λ ps. IsIndex ps c.in_ok-index.index) (read c) c.in_ok-index.ensures;
   rules = subst (λ ps. AreRules ps c.in_ok-rules.rules.items.items) (read c) c.in_ok-rules.ensures;
   held = record {
     places = ap length (blank c) ∙ length-replicate (3 * length c.params-params.result.now) None ∙ ap (λ n. 3 * n) (many c);
@@ -59,5 +48,5 @@ returns-clause-fits c = fits c
 pub returns-clause-stands : goal.returns-clause-stands
 returns-clause-stands c = λ words none.
     start (the_book c.args.book.now) words
-    (record { clock = 0; held = record { received = c.in_ok-received.received; changed = c.in_ok-changed.changed; dues = c.in_ok-dues.dues }; rules = c.in_ok-rules.rules; index = c.in_ok-index.index })
+    (record { clock = 0; held = record { received = c.in_ok-received.received; changed = c.in_ok-changed.changed; dues = c.in_ok-dues.dues }; rules = c.in_ok-rules.rules })
     (3 * length c.params-params.result.now) (fits c) none (blank c) c.in_ok-changed.ensures.none

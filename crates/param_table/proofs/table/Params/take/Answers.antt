@@ -1,11 +1,9 @@
-use Rattle.std.proofs.Common.{◌≡◌, ℕ, ◌*◌, ◌%◌, false, Option, Some, None, length, get_or, refl, sym, ap, ◌∙◌}
+use Rattle.std.proofs.Common.{◌≡◌, ℕ, false, Option, Some, None, refl, sym, ap, ◌∙◌}
 use Rattle.std.specs.Prelude.{is_some}
-use Rattle.ecam_spec.specs.Word.{label, is_odd}
+use Rattle.ecam_spec.specs.Word.{is_odd}
 use Rattle.ecam_spec.specs.Value.{BusWord}
 use Rattle.book_model.specs.Sealed.{the_book}
 use Rattle.param_table.specs.declared.table.Params.{Params}
-use Rattle.param_table.specs.Places.{listens, last_below}
-use Rattle.param_table.specs.Listening.{key_of}
 use Rattle.param_table.specs.TableState.{ParamsFit}
 use Rattle.param_table.proofs.Tables.{word, even_word, unheard_word}
 use Rattle.param_table.proofs.table.Params.take.Goals as goal
@@ -17,19 +15,15 @@ nothing (Some n) none = absurd (let w : ⊥ = cc in w)
 pub returns-then-is_none-clause-stands : goal.returns-then-is_none-clause-stands
 returns-then-is_none-clause-stands c = λ old new k on stands.
     let w : BusWord = record { bus = c.args.bus; bits = c.args.bits } in
-    let lookup : c.last.result ≡ last_below (listens (the_book c.args.book.now).parameters w.bus (label w.bits)) (3 * length (the_book c.args.book.now).parameters) =
-    c.last.ensures
-    ∙ ap (λ n. get_or c.args.self.now.index.last.items.items (key_of c.args.bus (n % 256)) None) c.new-word.ensures
-    ∙ stands.fits.index.last c.args.bus c.args.bits in
-    unheard_word (the_book c.args.book.now) old new k w c.args.self.now on (nothing c.last.result c.if-is_none.ensures ∙ lookup) stands
+    unheard_word (the_book c.args.book.now) old new k w c.args.self.now on (nothing c.last_listener.result c.if-is_none.ensures ∙ c.last_listener.ensures.value) stands
 
 pub returns-then-odd-clause-stands : goal.returns-then-odd-clause-stands
 returns-then-odd-clause-stands c = λ old new k on stands.
     let b = the_book c.args.book.now in
     let w : BusWord = record { bus = c.args.bus; bits = c.args.bits } in
     let before = c.args.self.now in
-    let after : Params = record { clock = before.clock; held = c.receive.new.held; rules = before.rules; index = before.index } in
-    let fits : ParamsFit b after = record { sound = stands.fits.sound; index = stands.fits.index; rules = stands.fits.rules; held = c.receive.ensures.fits } in
+    let after : Params = record { clock = before.clock; held = c.receive.new.held; rules = before.rules } in
+    let fits : ParamsFit b after = record { sound = stands.fits.sound; rules = stands.fits.rules; held = c.receive.ensures.fits } in
     word b old new k w before after fits on refl (rw (sym c.new-word.ensures, sym c.deref.ensures.value) c.receive.ensures.received) c.receive.ensures.renews (rw (sym c.new-word.ensures) c.receive.ensures.others) stands
 
 pub returns-else-odd-clause-stands : goal.returns-else-odd-clause-stands

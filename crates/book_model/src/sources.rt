@@ -1,9 +1,9 @@
 // Where the sources of a book's parameters stand: three places for each parameter, since it has no more sources.
 ghost use Rattle.std.specs.Prelude.{◌≡◌, map, option_map};
 ghost use Rattle.book_model.specs.View.{source_of, parameter_of};
-ghost use Rattle.param_table.specs.Places.{source_at};
+ghost use Rattle.book_model.specs.SourcePlaces.{source_at};
 
-use book_model::{Param, WordSource};
+use crate::draft::{Param, WordSource};
 
 /// The source at a place: those of parameter p stand at the places from 3p on, in order.
 pub fn source_at(params: &[Param], place: usize) -> Option<WordSource>

@@ -2,7 +2,7 @@
 use Rattle.std.proofs.Common.{◌≡◌, ℕ, ◌%◌, ◌<◌, arith}
 use Rattle.std.specs.Int.{reverse_bits_onto}
 use Rattle.ecam_spec.specs.Word.{label}
-use Rattle.param_table.specs.Listening.{turned}
+use Rattle.book_model.specs.Listening.{turned}
 
 pub label-low : (word : ℕ) → label (word % 256) ≡ label word
 unfolding label

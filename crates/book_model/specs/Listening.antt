@@ -3,8 +3,8 @@ use Rattle.std.specs.Prelude.{◌≡◌, ℕ, ◌+◌, ◌*◌, ◌%◌, List, l
 use Rattle.std.specs.Int.{reverse_bits, w8}
 use Rattle.ecam_spec.specs.Word.{label}
 use Rattle.ecam_spec.specs.Book.{Source, Parameter}
-use Rattle.param_table.specs.Places.{source_at, listens, last_below}
-use Rattle.param_table.specs.declared.index.Index.{Index}
+use Rattle.book_model.specs.SourcePlaces.{source_at, listens, last_below}
+use Rattle.book_model.specs.declared.index.Index.{Index}
 
 -- the first eight bits of the words with this label
 abbrev pub turned : ℕ → ℕ

@@ -6,13 +6,13 @@ use Rattle.std.proofs.lemmas.Bool.Decides.{nat_tests}
 use Rattle.std.proofs.lemmas.List.{get_or_append_left, get_or_push, get_or-set_same, get_or-set_other, length-set, length_push, length-replicate}
 use Rattle.std.proofs.lemmas.Option.{same_Some}
 use Rattle.ecam_spec.specs.Book.{Source, Parameter}
-use Rattle.param_table.specs.Places.{source_at, listens, last_below}
+use Rattle.book_model.specs.SourcePlaces.{source_at, listens, last_below}
 use Rattle.ecam_spec.specs.Word.{label}
-use Rattle.param_table.specs.Listening.{key_of, turned, IsIndex}
-use Rattle.param_table.specs.declared.index.Index.{Index}
-use Rattle.param_table.proofs.Chains.{last_below-suc, last_below-zero}
-use Rattle.param_table.proofs.Labels.{label-low, label-turned, turned-label, turned-small}
-use Rattle.param_table.proofs.Sources.{place_within}
+use Rattle.book_model.specs.Listening.{key_of, turned, IsIndex}
+use Rattle.book_model.specs.declared.index.Index.{Index}
+use Rattle.book_model.proofs.LastBelow.{last_below-suc, last_below-zero}
+use Rattle.book_model.proofs.Labels.{label-low, label-turned, turned-label, turned-small}
+use Rattle.book_model.proofs.SourcePlaces.{place_within}
 
 -- the places below n are entered
 pub record IsEntered (params : List Parameter) (n : ℕ) (last before : List (Option ℕ)) : Type 0 where

@@ -3,11 +3,10 @@ ghost use Rattle.std.specs.Prelude.{◌≡◌, ◌*◌, ◌+◌, ◌<◌, ◌≤
 ghost use Rattle.ecam_spec.specs.declared.limits.TheConstants.{PARAMETERS};
 ghost use Rattle.ecam_spec.specs.KeepsLimits.{IsSoundParameter};
 ghost use Rattle.book_model.specs.View.{parameter_of};
-ghost use Rattle.param_table.specs.Listening.{key_of, turned};
+ghost use Rattle.book_model.specs.Listening.{key_of, turned};
 
-use crate::place::source_at;
-use arinc_words::Word;
-use book_model::{Param, WordSource};
+use crate::draft::{Param, WordSource};
+use crate::sources::source_at;
 use std::alloc::{AllocError, Global};
 use std::boxed::BoxedSlice;
 
@@ -15,7 +14,7 @@ use std::boxed::BoxedSlice;
 const KEYS: usize = 4096;
 
 /// The places of the sources that listen to each bus and label, as chains: from the last of them down to the
-/// first. It is made once for a table.
+/// first.
 #[derive(Drop)]
 pub struct Index {
     // By 256 times the bus and the first eight bits of a word, which tell its label: the last place.
@@ -25,7 +24,7 @@ pub struct Index {
 }
 
 impl Index {
-    ghost use Rattle.param_table.specs.Listening.{IsIndex};
+    ghost use Rattle.book_model.specs.Listening.{IsIndex};
 
     /// The index of a book's parameters. An error is want of memory.
     pub fn new(alloc: Global, params: &[Param]) -> Result<Index, AllocError>
@@ -46,14 +45,14 @@ impl Index {
         })
     }
 
-    /// The last place of a source that listens to this bus and the word's label, at the cost of one look-up: by the
-    /// word's bits as they stand, so that the label needn't be turned round.
+    /// The last place of a source that listens to this bus and the label of a word of these bits, by the bits as they
+    /// stand, so that the label needn't be turned round.
     #[inline(always)]
-    pub fn last(&self, bus: u8, word: &Word) -> Option<u16>
+    pub fn last_listener(&self, bus: u8, bits: u32) -> Option<u16>
         ensures { result
-            ≡ slice_index_or self.now.last.items.items (key_of bus (word.now % 256)) None }
+            ≡ slice_index_or self.now.last.items.items (key_of bus (bits % 256)) None }
     {
-        let key = 256 * usize::from(bus) + (word.bits() % 256) as usize;
+        let key = 256 * usize::from(bus) + (bits % 256) as usize;
         if key < self.last.len() {
             self.last[key]
         } else {
@@ -63,7 +62,7 @@ impl Index {
 
     /// The place before this one of a source that listens to the same bus and label.
     #[inline(always)]
-    pub fn before(&self, place: usize) -> Option<u16>
+    pub fn listener_before(&self, place: usize) -> Option<u16>
         requires { place < length self.now.before.items.items }
         ensures { result ≡ slice_index_or self.now.before.items.items place None }
     {

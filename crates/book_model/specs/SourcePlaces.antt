@@ -1,10 +1,9 @@
--- The places of a table of sources: three for each parameter, since it has no more sources.
+-- The places of a book's sources: three for each parameter, since it has no more sources.
 use Rattle.std.specs.Prelude.{ℕ, zero, suc, ◌/◌, ◌%◌, Bool, true, false, ◌&&◌, ◌==◌, List, get_or, Option, Some, None}
 use Rattle.std.specs.Option.{option_map_or}
 use Rattle.std.specs.List.{slice_get}
 use Rattle.ecam_spec.specs.Book.{Source, Parameter}
 use Rattle.ecam_spec.specs.Situation.{no_parameter}
-use Rattle.ecam_spec.specs.Value.{BusWord, takes}
 
 -- the parameter to which a place belongs
 abbrev pub parameter_with : List Parameter → ℕ → Parameter
@@ -21,10 +20,6 @@ passes p params place = option_map_or p (source_at params place) false
 -- the source at a place listens to words with this label on this bus
 abbrev pub listens : List Parameter → ℕ → ℕ → ℕ → Bool
 listens params bus label = passes (λ s. bus == s.bus && label == s.label) params
-
--- the source at a place takes the word
-abbrev pub takes_at : List Parameter → BusWord → ℕ → Bool
-takes_at params w = passes (λ s. takes s w) params
 
 -- the last number below n that passes
 unfoldable pub last_below : (ℕ → Bool) → ℕ → Option ℕ

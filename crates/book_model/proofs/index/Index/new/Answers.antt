@@ -5,12 +5,12 @@ use Rattle.ecam_spec.specs.Book.{Parameter}
 use Rattle.ecam_spec.specs.KeepsLimits.{IsSoundParameter, IsSoundSource}
 use Rattle.book_model.specs.declared.draft.WordSource.{WordSource}
 use Rattle.book_model.specs.View.{source_of, parameter_of}
-use Rattle.param_table.specs.Places.{source_at}
-use Rattle.param_table.specs.Listening.{key_of, turned}
-use Rattle.param_table.proofs.Sources.{sound_source}
-use Rattle.param_table.proofs.Labels.{turned-small}
-use Rattle.param_table.proofs.Entering.{IsEntered, entered_none, enter_none, enter_some, entered_all}
-use Rattle.param_table.proofs.index.Index.new.Goals as goal
+use Rattle.book_model.specs.SourcePlaces.{source_at}
+use Rattle.book_model.specs.Listening.{key_of, turned}
+use Rattle.book_model.proofs.SourcePlaces.{sound_source}
+use Rattle.book_model.proofs.Labels.{turned-small}
+use Rattle.book_model.proofs.Entering.{IsEntered, entered_none, enter_none, enter_some, entered_all}
+use Rattle.book_model.proofs.index.Index.new.Goals as goal
 
 key_within : (params : List Parameter) (n keys : ℕ) (o : Option WordSource) → All IsSoundParameter params → option_map source_of o ≡ source_at params n → keys ≡ 4096
     → MatchOption o ⊤ (λ s. key_of s.bus (turned s.label) < keys)
