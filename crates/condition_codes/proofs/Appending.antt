@@ -3,8 +3,8 @@ use Rattle.std.proofs.Common.{◌≡◌, ℕ, suc, ◌<◌, ◌≤◌, List, [],
 use Rattle.std.specs.List.{flat_map}
 use Rattle.std.proofs.lemmas.Bool.{cases_lt}
 use Rattle.std.proofs.lemmas.Grind.{flat_map-append}
-use Rattle.std.proofs.lemmas.List.{get_or_append_left, get_or_push, length-append, append-nil}
-use Rattle.std.proofs.lemmas.Option.{slice_get_within, slice_get-get_or, get_or_from_slice_get}
+use Rattle.std.proofs.lemmas.List.{length-append, append-nil}
+use Rattle.std.proofs.lemmas.Option.{slice_get_within}
 use Rattle.ecam_spec.specs.TermSize.{Placed, nodes}
 use Rattle.term_eval.specs.Code.{code, IsCode}
 use Rattle.term_eval.specs.declared.code.Step.{Step}
@@ -12,6 +12,7 @@ use Rattle.term_eval.proofs.Codes.{length-code}
 use Rattle.condition_codes.specs.Flat.{piece, ArePieces}
 use Rattle.condition_codes.specs.Places.{nodes_before}
 use Rattle.condition_codes.specs.Pieces.{AreCodes}
+use Rattle.condition_codes.proofs.Behind.{longer, each-more}
 use Rattle.condition_codes.proofs.Flat.{pieces-none, pieces-next, piece-old, piece-new, start-old, start-new}
 use Rattle.condition_codes.proofs.Places.{nodes-none, nodes-old, nodes-new}
 
@@ -25,25 +26,11 @@ module _ (ps : List Placed) (starts : List ℕ) (steps own : List Step) (old : A
   abbrev ps' : List Placed
   ps' = ps ++ p ∷ []
 
-  count' : length ps' ≡ suc n
-  count' = length-append ps (p ∷ []) ∙ omega arith
-
-  get-old : (j : ℕ) (q : Placed) → j < n → slice_get ps' j ≡ Some q → slice_get ps j ≡ Some q
-  get-old j q less is =
-      slice_get-get_or ps j q less ∙ ap Some (sym (get_or_append_left ps (p ∷ []) q j less) ∙ get_or_from_slice_get ps' j q q is)
-
-  get-new : (q : Placed) → slice_get ps' n ≡ Some q → p ≡ q
-  get-new q is = sym (get_or_push ps p q n refl) ∙ get_or_from_slice_get ps' n q q is
-
   code-at : (j : ℕ) (q : Placed) → slice_get ps' j ≡ Some q → IsCode q.tree q.at (piece starts' (steps ++ own) j)
-  code-at j q is = elim (cases_lt j n) [
-    | inl before ↦ subst (IsCode q.tree q.at) (sym (piece-old n starts steps own old.pieces j before)) (old.codes j q (get-old j q before is))
-    | inr after ↦
-        let here : n ≡ j = omega (arith, slice_get_within ps' j q is, count') in
-        subst (λ m. IsCode q.tree q.at (piece starts' (steps ++ own) m)) here
-        (subst (λ (r : Placed). IsCode r.tree r.at (piece starts' (steps ++ own) n)) (get-new q (ap (slice_get ps') here ∙ is))
-        (subst (IsCode p.tree p.at) (sym (piece-new n starts steps own old.pieces)) coded))
-  ]
+  code-at =
+      each-more ps p (λ j q. IsCode q.tree q.at (piece starts' (steps ++ own) j))
+      (λ j q is. subst (IsCode q.tree q.at) (sym (piece-old n starts steps own old.pieces j (slice_get_within ps j q is))) (old.codes j q is))
+      (subst (IsCode p.tree p.at) (sym (piece-new n starts steps own old.pieces)) coded)
 
   many : length own ≡ nodes p.tree
   many = ap length coded.is ∙ length-code p.tree p.at 0
@@ -51,7 +38,7 @@ module _ (ps : List Placed) (starts : List ℕ) (steps own : List Step) (old : A
   nodes-at : (j : ℕ) → j ≤ length ps' → slice_index starts' j ≡ nodes_before ps' j
   nodes-at j le = elim (cases_lt n j) [
     | inl after ↦
-        let e : j ≡ suc n = omega (arith, count') in
+        let e : j ≡ suc n = omega (arith, longer ps p) in
         omega (
           arith,
           ap (slice_index starts') e,
@@ -68,7 +55,7 @@ module _ (ps : List Placed) (starts : List ℕ) (steps own : List Step) (old : A
 
   pub codes-next : AreCodes ps' starts' (steps ++ own)
   codes-next = record {
-    pieces = subst (λ m. ArePieces m starts' (steps ++ own)) (sym count') (pieces-next n starts steps own old.pieces);
+    pieces = subst (λ m. ArePieces m starts' (steps ++ own)) (sym (longer ps p)) (pieces-next n starts steps own old.pieces);
     nodes = nodes-at;
     codes = code-at;
     whole = ap (λ l. l ++ own) old.whole

@@ -1,5 +1,5 @@
 -- One list more is put behind the others.
-use Rattle.std.proofs.Common.{◌≡◌, ℕ, suc, ◌+◌, ◌-◌, ◌<◌, ◌≤◌, List, [], ◌∷◌, ◌++◌, length, take, drop, slice_get, slice_index, Some, refl, sym, ap, ◌∙◌, inl, inr, arith}
+use Rattle.std.proofs.Common.{◌≡◌, ℕ, zero, suc, ◌+◌, ◌-◌, ◌<◌, ◌≤◌, List, [], ◌∷◌, ◌++◌, length, take, drop, slice_get, slice_index, Some, refl, sym, ap, ◌∙◌, inl, inr, arith}
 use Rattle.std.proofs.lemmas.Bool.{cases_lt}
 use Rattle.std.proofs.lemmas.List.{get_or_append_left, get_or_push, get_or-take, get_or-drop, length-append, length-take, length-drop, take_all, drop_all, take-append-le, drop-append-le}
 use Rattle.std.proofs.lemmas.Option.{slice_get_within, slice_get-get_or, get_or_from_slice_get}
@@ -13,6 +13,12 @@ pieces-none = record {
   ordered = λ j less. absurd (omega arith);
   within = λ j le. let e : j ≡ 0 = omega arith in omega (arith, ap (slice_index (0 ∷ [])) e);
 }
+
+-- what was put behind the items is what stands behind them
+pub rest-is : {X : Type 0} (items own : List X) → take (length (items ++ own) - length items) (drop (length items) (items ++ own)) ≡ own
+rest-is items own =
+    ap (take (length (items ++ own) - length items)) (drop-append-le (length items) items own (omega arith) ∙ ap (λ l. l ++ own) (drop_all (length items) items (omega arith)))
+    ∙ take_all (length (items ++ own) - length items) own (omega (arith, length-append items own))
 
 module _ {X : Type 0} (n : ℕ) (starts : List ℕ) (items own : List X) (old : ArePieces n starts items) where
   abbrev starts' : List ℕ
@@ -46,8 +52,7 @@ module _ {X : Type 0} (n : ℕ) (starts : List ℕ) (items own : List X) (old : 
   piece-new =
       ap (λ m. take (slice_index starts' (suc n) - m) (drop m (items ++ own))) start-last
       ∙ ap (λ m. take (m - length items) (drop (length items) (items ++ own))) start-new
-      ∙ ap (take (length (items ++ own) - length items)) (drop-append-le (length items) items own (omega arith) ∙ ap (λ l. l ++ own) (drop_all (length items) items (omega arith)))
-      ∙ take_all (length (items ++ own) - length items) own (omega (arith, longer))
+      ∙ rest-is items own
 
   pub pieces-next : ArePieces (suc n) starts' (items ++ own)
   pieces-next = record {
@@ -73,3 +78,39 @@ piece-get starts items j i x is =
     let inside : a + i < length items = omega (arith, length-take (b - a) (drop a items), length-drop a items) in
     slice_get-get_or items (a + i) x inside
     ∙ ap Some (sym (get_or-drop a items i x) ∙ sym (get_or-take (b - a) (drop a items) i x own) ∙ get_or_from_slice_get (piece starts items j) i x x is)
+
+-- and does so before the next piece starts
+pub piece-within : {X : Type 0} (starts : List ℕ) (items : List X) (j i : ℕ) (x : X) → slice_get (piece starts items j) i ≡ Some x → slice_index starts j + i < slice_index starts (suc j)
+piece-within starts items j i x is =
+    let a = slice_index starts j in
+    let b = slice_index starts (suc j) in
+    omega (arith, slice_get_within (piece starts items j) i x is, length-take (b - a) (drop a items))
+
+-- what stands there among all items the piece has
+pub piece-has : {X : Type 0} (starts : List ℕ) (items : List X) (j i : ℕ) (x : X) → slice_index starts j + i < slice_index starts (suc j) → slice_get items (slice_index starts j + i) ≡ Some x
+    → slice_get (piece starts items j) i ≡ Some x
+piece-has starts items j i x less is =
+    let a = slice_index starts j in
+    let b = slice_index starts (suc j) in
+    let inside : a + i < length items = slice_get_within items (a + i) x is in
+    let own : i < b - a = omega arith in
+    let lt : i < length (piece starts items j) = omega (arith, length-take (b - a) (drop a items), length-drop a items) in
+    slice_get-get_or (piece starts items j) i x lt
+    ∙ ap Some (get_or-take (b - a) (drop a items) i x own ∙ get_or-drop a items i x ∙ get_or_from_slice_get items (a + i) x x is)
+
+-- a place among all items is one in one of n pieces
+pub record InPiece (n : ℕ) (starts : List ℕ) (m : ℕ) : Type 0 where
+  pub number : ℕ
+  pub within : ℕ
+  pub low : number < n
+  pub is : slice_index starts number + within ≡ m
+  pub high : slice_index starts number + within < slice_index starts (suc number)
+
+pub in-piece : (starts : List ℕ) → slice_index starts 0 ≡ 0 → (n m : ℕ) → m < slice_index starts n → InPiece n starts m
+in-piece starts first zero m lt = absurd (omega (arith, first))
+in-piece starts first (suc n) m lt = elim (cases_lt m (slice_index starts n)) [
+  | inl before ↦
+      let here = in-piece starts first n m before in
+      record { number = here.number; within = here.within; low = omega (arith, here.low); is = here.is; high = here.high }
+  | inr after ↦ record { number = n; within = m - slice_index starts n; low = omega arith; is = omega arith; high = omega arith }
+]

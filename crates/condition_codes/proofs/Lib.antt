@@ -1,9 +1,12 @@
 pub mod Places
+pub mod Behind
 pub mod Flat
 pub mod Appending
+pub mod Owning
 pub mod Walking
 pub mod NamesWithin
 pub mod Asked
 pub mod Chaining
 pub mod Walked
+pub mod Numbering
 pub mod Asking

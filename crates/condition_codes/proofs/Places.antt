@@ -17,18 +17,6 @@ nodes-next [] j p is = absurd (let no : j < 0 = slice_get_within [] j p is in om
 nodes-next (q ∷ qs) zero p is = let same : q ≡ p = cc in omega (arith, ap (λ (r : Placed). nodes r.tree) same, nodes-none qs)
 nodes-next (q ∷ qs) (suc j) p is = omega (arith, nodes-next qs j p is)
 
--- more conditions have as many nodes or more
-pub nodes-grow : (ps : List Placed) (i j : ℕ) → i ≤ j → nodes_before ps i ≤ nodes_before ps j
-unfolding nodes_before
-nodes-grow [] i j le = omega arith
-nodes-grow (p ∷ ps) zero j le = omega arith
-nodes-grow (p ∷ ps) (suc i) zero le = absurd (omega arith)
-nodes-grow (p ∷ ps) (suc i) (suc j) le = omega (arith, nodes-grow ps i j (omega arith))
-
--- a condition's nodes end before those of each behind it begin
-pub nodes-apart : (ps : List Placed) (i j : ℕ) (p : Placed) → slice_get ps i ≡ Some p → i < j → nodes_before ps i + nodes p.tree ≤ nodes_before ps j
-nodes-apart ps i j p is less = omega (arith, nodes-next ps i p is, nodes-grow ps (suc i) j (omega arith))
-
 -- those before stand where they stood
 pub nodes-old : (ps : List Placed) (p : Placed) (j : ℕ) → j ≤ length ps → nodes_before (ps ++ p ∷ []) j ≡ nodes_before ps j
 unfolding nodes_before

@@ -1,12 +1,12 @@
 -- Chains of the nodes that ask for one operand: each node tells the next.
-use Rattle.std.specs.Prelude.{◌≡◌, ℕ, suc, ◌<◌, ◌≤◌, true, List, ◌++◌, length, slice_get, slice_index, Option, Some, None}
+use Rattle.std.specs.Prelude.{◌≡◌, ℕ, suc, ◌+◌, ◌<◌, ◌≤◌, List, ◌++◌, length, slice_get, slice_index, Option, Some, None}
 use Rattle.std.specs.Option.{option_map}
 use Rattle.term_eval.specs.Asked.{node_asks}
 use Rattle.term_eval.specs.Woken.{Operand}
 use Rattle.term_eval.specs.declared.code.Step.{Step}
 use Rattle.watch_lists.specs.declared.number.Sizes.{Sizes}
 use Rattle.watch_lists.specs.Naming.{operand_number, IsOperand}
-use Rattle.watch_lists.specs.Listed.{has_term}
+use Rattle.condition_codes.specs.declared.askers.Asker.{Asker}
 use Rattle.condition_codes.specs.Flat.{piece, ArePieces}
 
 -- a node that asks for an operand asks for one of the book
@@ -34,17 +34,22 @@ pub record AreChains (ws : List (Option ℕ)) (from : ℕ) (firsts nexts : List 
   pub first : (o : ℕ) → o < length firsts → IsNext ws o from (slice_index firsts o)
   pub next : (m o : ℕ) → from ≤ m → Wants ws m o → IsNext ws o (suc m) (slice_index nexts m)
 
--- the list has each node that asks for the operand, and numbers of nodes alone
-pub record HasAskers (ws : List (Option ℕ)) (o : ℕ) (list : List ℕ) : Type 0 where
-  pub each : (m : ℕ) → Wants ws m o → has_term list m ≡ true
-  pub within : (k : ℕ) → k < length list → slice_index list k < length ws
+-- the list has each node that asks for the operand, by what it is among all, and no other
+pub record HasAskers (ws : List (Option ℕ)) (nodes : List Asker) (o : ℕ) (list : List Asker) : Type 0 where
+  pub each : (m : ℕ) (a : Asker) → Wants ws m o → slice_get nodes m ≡ Some a → (k : ℕ) × (slice_get list k ≡ Some a)
+  pub only : (k : ℕ) (a : Asker) → slice_get list k ≡ Some a → (m : ℕ) × Wants ws m o × (slice_get nodes m ≡ Some a)
 
 -- the lists of the first n operands
-pub record AreAskers (ws : List (Option ℕ)) (n : ℕ) (starts nodes : List ℕ) : Type 0 where
-  pub pieces : ArePieces n starts nodes
-  pub lists : (o : ℕ) → o < n → HasAskers ws o (piece starts nodes o)
+pub record AreAskers (ws : List (Option ℕ)) (nodes : List Asker) (n : ℕ) (starts : List ℕ) (askers : List Asker) : Type 0 where
+  pub pieces : ArePieces n starts askers
+  pub lists : (o : ℕ) → o < n → HasAskers ws nodes o (piece starts askers o)
 
 -- the nodes from the first on that ask for an operand were put behind others
-abbrev pub AddsAskers : ℕ → List ℕ → List ℕ → List ℕ → Type 0
-AddsAskers first nexts old new = (own : List ℕ) × (new ≡ old ++ own) × ((ws : List (Option ℕ)) (o : ℕ) → length ws ≡ length nexts → IsNext ws o 0 first
-    → ((m p : ℕ) → Wants ws m p → IsNext ws p (suc m) (slice_index nexts m)) → HasAskers ws o own)
+abbrev pub AddsAskers : ℕ → List ℕ → List Asker → List Asker → List Asker → Type 0
+AddsAskers first nexts nodes old new = (own : List Asker) × (new ≡ old ++ own) × ((ws : List (Option ℕ)) (o : ℕ) → length ws ≡ length nexts → IsNext ws o 0 first
+    → ((m p : ℕ) → Wants ws m p → IsNext ws p (suc m) (slice_index nexts m)) → HasAskers ws nodes o own)
+
+-- the nodes of conditions one behind another, by where each starts
+abbrev pub AreNodes : List ℕ → List Asker → Type 0
+AreNodes starts nodes = (j i : ℕ) → suc j < length starts → slice_index starts j + i < slice_index starts (suc j)
+    → slice_get nodes (slice_index starts j + i) ≡ Some (record { term = j; node = i })

@@ -1,8 +1,9 @@
--- The codes of a book: of each of its conditions the code, under its number.
+-- The codes of a book: of each of its conditions the code, and which of its nodes have slots, under its number.
 use Rattle.ecam_spec.specs.Book.{Book}
 use Rattle.book_model.specs.Conditions.{places}
-use Rattle.condition_codes.specs.Pieces.{AreCodes}
+use Rattle.condition_codes.specs.Pieces.{AreCodes, AreOwners}
 use Rattle.condition_codes.specs.declared.codes.Codes.{Codes}
 
 pub record IsCodes (b : Book) (c : Codes) : Type 0 where
   pub codes : AreCodes (places b) c.starts.items.items c.steps.items.items
+  pub owners : AreOwners (places b) c.owner_starts.items.items c.owners.items.items c.ats.items.items

@@ -2,7 +2,7 @@
 use Rattle.std.specs.Prelude.{◌≡◌, ℕ, ◌≤◌, List, ◌++◌, length, slice_get, slice_index, Some}
 use Rattle.std.specs.List.{flat_map}
 use Rattle.ecam_spec.specs.TermSize.{Placed}
-use Rattle.term_eval.specs.Code.{code, IsCode}
+use Rattle.term_eval.specs.Code.{code, owners, IsCode}
 use Rattle.term_eval.specs.declared.code.Step.{Step}
 use Rattle.condition_codes.specs.declared.pieces.Pieces.{Pieces}
 use Rattle.condition_codes.specs.Flat.{piece, ArePieces}
@@ -15,8 +15,16 @@ pub record AreCodes (ps : List Placed) (starts : List ℕ) (steps : List Step) :
   pub codes : (j : ℕ) (p : Placed) → slice_get ps j ≡ Some p → IsCode p.tree p.at (piece starts steps j)
   pub whole : steps ≡ flat_map (λ (p : Placed). code p.at 0 p.tree) ps
 
-abbrev pub HasCodes : List Placed → Pieces → Type 0
-HasCodes ps c = AreCodes ps c.starts.items c.steps.items
+-- the pieces are the numbers of the conditions' temporal nodes, and with them stands where the slots of each start
+pub record AreOwners (ps : List Placed) (starts numbers ats : List ℕ) : Type 0 where
+  pub pieces : ArePieces (length ps) starts numbers
+  pub each : (j : ℕ) (p : Placed) → slice_get ps j ≡ Some p → piece starts numbers j ≡ owners 0 (code p.at 0 p.tree)
+  pub count : length ats ≡ length ps
+  pub slots : (j : ℕ) (p : Placed) → slice_get ps j ≡ Some p → slice_index ats j ≡ p.at
+
+pub record HasCodes (ps : List Placed) (c : Pieces) : Type 0 where
+  pub codes : AreCodes ps c.starts.items c.steps.items
+  pub owners : AreOwners ps c.owner_starts.items c.owners.items c.ats.items
 
 -- the codes of these conditions were put behind the others
 abbrev pub AddsCodes : List Placed → Pieces → Pieces → Type 0

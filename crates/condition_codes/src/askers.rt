@@ -1,5 +1,5 @@
 // The nodes that ask for an operand, listed for each operand of a book.
-ghost use Rattle.std.specs.Prelude.{◌≡◌, ℕ, ◌+◌, ◌<◌, true, length, slice_get, slice_index, Some, IfOk};
+ghost use Rattle.std.specs.Prelude.{◌≡◌, ℕ, suc, ◌-◌, ◌<◌, ◌≤◌, length, slice_get, slice_index, Some, IfOk};
 ghost use Rattle.ecam_spec.specs.Book as plain;
 ghost use Rattle.ecam_spec.specs.TermSize.{Placed};
 ghost use Rattle.book_model.specs.Sealed.{the_book};
@@ -7,10 +7,9 @@ ghost use Rattle.book_model.specs.Conditions.{places};
 ghost use Rattle.term_eval.specs.Asked.{Asks};
 ghost use Rattle.term_eval.specs.Woken.{Operand};
 ghost use Rattle.watch_lists.specs.Naming.{operand_count, operand_number};
-ghost use Rattle.watch_lists.specs.Listed.{has_term};
-ghost use Rattle.condition_codes.specs.IsAskers.{IsAskers, sizes_in};
+ghost use Rattle.condition_codes.specs.Chains.{AreNodes};
+ghost use Rattle.condition_codes.specs.IsAskers.{IsAskers, IsAmong, IsAsking, sizes_in};
 ghost use Rattle.condition_codes.specs.IsCodes.{IsCodes};
-ghost use Rattle.condition_codes.specs.Places.{nodes_before};
 
 use crate::chains::{chains_of, list_chains};
 use crate::codes::Codes;
@@ -20,16 +19,24 @@ use std::boxed::BoxedSlice;
 use term_eval::code_asks_for_what_the_condition_asks_for;
 use watch_lists::Sizes;
 
-/// Per operand of a book the numbers of the nodes that ask for it, counted through the codes of all conditions, in one flat
-/// list. Nothing changes it, and it can't grow.
+/// A node of a condition.
+#[derive(Clone, Copy, Debug, PartialEq, Eq)]
+pub struct Asker {
+    /// The condition's number in stepping order.
+    pub term: usize,
+    /// The number of the node within its code.
+    pub node: usize,
+}
+
+/// Per operand of a book the nodes that ask for it, in one flat list. Nothing changes it, and it can't grow.
 #[derive(Drop)]
 pub struct Askers {
     starts: BoxedSlice<usize>,
-    nodes: BoxedSlice<usize>,
+    askers: BoxedSlice<Asker>,
 }
 
 impl Askers {
-    /// The askers of a book, by its codes. Its cost is two visits of each step and one of each operand, and four requests
+    /// The askers of a book, by its codes. Its cost is three visits of each step and one of each operand, and five requests
     /// for memory. An error is want of memory.
     pub fn new(alloc: Global, book: &Book, codes: &Codes) -> Result<Askers, AllocError>
         requires { IsCodes (the_book book.now) codes.now }
@@ -42,23 +49,43 @@ impl Askers {
             alerts: book.alerts().len(),
         };
         let (firsts, nexts) = chains_of(alloc, codes.steps(), sizes)?;
-        let (starts, nodes) = list_chains(alloc, &firsts, &nexts)?;
-        Ok(Askers { starts, nodes })
+        let nodes = nodes_of(alloc, codes.starts())?;
+        let (starts, askers) = list_chains(alloc, &firsts, &nexts, &nodes)?;
+        Ok(Askers { starts, askers })
     }
 
-    /// The numbers, among the nodes of all conditions, of those that ask for an operand. A look-up costs two reads.
-    pub fn nodes(&self, operand: usize) -> &[usize]
+    /// The nodes that ask for an operand. A look-up costs two reads.
+    pub fn asking(&self, operand: usize) -> &[Asker]
         requires { (b : plain.Book) × IsAskers b self.now × (operand < operand_count (sizes_in b)) }
         ensures each { (b : plain.Book) → IsAskers b self.now
             → operand < operand_count (sizes_in b)
             → (j i : ℕ) (p : Placed) (x : Operand) → slice_get (places b) j ≡ Some p
             → Asks p.tree i x → operand_number (sizes_in b) x ≡ operand
-            → has_term result.now (nodes_before (places b) j + i) ≡ true }
-        ensures within { (b : plain.Book) → IsAskers b self.now
+            → IsAmong result.now j i }
+        ensures only { (b : plain.Book) → IsAskers b self.now
             → operand < operand_count (sizes_in b)
-            → (k : ℕ) → k < length result.now
-            → slice_index result.now k < nodes_before (places b) (length (places b)) }
+            → (k : ℕ) (a : Asker) → slice_get result.now k ≡ Some a
+            → IsAsking b operand a }
     {
-        &self.nodes[self.starts[operand]..self.starts[operand + 1]]
+        &self.askers[self.starts[operand]..self.starts[operand + 1]]
     }
+}
+
+// All nodes, one condition behind another, by where the code of each starts.
+fn nodes_of(alloc: Global, starts: &[usize]) -> Result<Vec<Asker>, AllocError>
+    requires first { slice_index starts.now 0 ≡ 0 }
+    requires some { 1 ≤ length starts.now }
+    requires ordered { (j : ℕ) → suc j < length starts.now
+        → slice_index starts.now j ≤ slice_index starts.now (suc j) }
+    ensures nodes { IfOk result (λ r. AreNodes starts.now r.items) }
+    ensures count { IfOk result (λ r. length r.items
+        ≡ slice_index starts.now (length starts.now - 1)) }
+{
+    let mut nodes = Vec::with_capacity(alloc, starts[starts.len() - 1])?;
+    for term in 0..starts.len() - 1 {
+        for node in 0..starts[term + 1] - starts[term] {
+            nodes.push(Asker { term, node })?;
+        }
+    }
+    Ok(nodes)
 }

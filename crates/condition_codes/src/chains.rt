@@ -7,6 +7,7 @@ ghost use Rattle.term_eval.specs.declared.code.Step.{Step};
 ghost use Rattle.watch_lists.specs.Naming.{operand_count, operand_number};
 ghost use Rattle.condition_codes.specs.Chains.{IsAsked, wanted, IsNext, AreChains, AreAskers, AddsAskers};
 
+use crate::askers::Asker;
 use std::alloc::{AllocError, Global};
 use std::boxed::BoxedSlice;
 use term_eval::{Node, Step};
@@ -62,13 +63,19 @@ pub fn chains_of(
 }
 
 // The nodes of one chain.
-fn add_chain(nodes: &mut Vec<usize>, first: usize, nexts: &[usize]) -> Result<(), AllocError>
+fn add_chain(
+    askers: &mut Vec<Asker>,
+    first: usize,
+    nexts: &[usize],
+    nodes: &[Asker],
+) -> Result<(), AllocError>
     requires forward { (m : ℕ) → m < length nexts.now → m < slice_index nexts.now m }
-    ensures { OnOk result (AddsAskers first nexts.now nodes.old.items nodes.new.items) }
+    requires nodes { length nodes.now ≡ length nexts.now }
+    ensures { OnOk result (AddsAskers first nexts.now nodes.now askers.old.items askers.new.items) }
 {
     let mut node = first;
     while node < nexts.len() {
-        nodes.push(node)?;
+        askers.push(nodes[node])?;
         node = nexts[node];
     }
     Ok(())
@@ -80,18 +87,21 @@ pub fn list_chains(
     alloc: Global,
     firsts: &[usize],
     nexts: &[usize],
-) -> Result<(BoxedSlice<usize>, BoxedSlice<usize>), AllocError>
+    nodes: &[Asker],
+) -> Result<(BoxedSlice<usize>, BoxedSlice<Asker>), AllocError>
     requires forward { (m : ℕ) → m < length nexts.now → m < slice_index nexts.now m }
+    requires nodes { length nodes.now ≡ length nexts.now }
     ensures { IfOk result (λ r. (ws : List (Option ℕ)) → length ws ≡ length nexts.now
         → AreChains ws 0 firsts.now nexts.now
-        → AreAskers ws (length firsts.now) (boxed_slice_items r.0) (boxed_slice_items r.1)) }
+        → AreAskers ws nodes.now (length firsts.now) (boxed_slice_items r.0)
+        (boxed_slice_items r.1)) }
 {
     let mut starts = Vec::with_capacity(alloc, firsts.len() + 1)?;
-    let mut nodes = Vec::with_capacity(alloc, nexts.len())?;
+    let mut askers = Vec::with_capacity(alloc, nexts.len())?;
     starts.push(0)?;
     for first in firsts {
-        add_chain(&mut nodes, *first, nexts)?;
-        starts.push(nodes.len())?;
+        add_chain(&mut askers, *first, nexts, nodes)?;
+        starts.push(askers.len())?;
     }
-    Ok((starts.into_boxed_slice(), nodes.into_boxed_slice()))
+    Ok((starts.into_boxed_slice(), askers.into_boxed_slice()))
 }

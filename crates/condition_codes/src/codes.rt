@@ -2,8 +2,8 @@
 ghost use Rattle.std.specs.Prelude.{◌≡◌, ℕ, ◌<◌, length, slice_get, Some, IfOk};
 ghost use Rattle.std.specs.Box.{boxed_slice_items};
 ghost use Rattle.ecam_spec.specs.Book as plain;
-ghost use Rattle.ecam_spec.specs.TermSize.{Placed};
-ghost use Rattle.term_eval.specs.Code.{IsCode};
+ghost use Rattle.ecam_spec.specs.TermSize.{Placed, nodes};
+ghost use Rattle.term_eval.specs.Code.{code, owners, IsCode};
 ghost use Rattle.book_model.specs.Sealed.{the_book};
 ghost use Rattle.book_model.specs.Conditions.{places};
 ghost use Rattle.condition_codes.specs.IsCodes.{IsCodes};
@@ -22,6 +22,9 @@ use term_eval::Step;
 pub struct Codes {
     steps: BoxedSlice<Step>,
     starts: BoxedSlice<usize>,
+    owners: BoxedSlice<usize>,
+    owner_starts: BoxedSlice<usize>,
+    ats: BoxedSlice<usize>,
 }
 
 impl Codes {
@@ -34,6 +37,9 @@ impl Codes {
         Ok(Codes {
             steps: pieces.steps.into_boxed_slice(),
             starts: pieces.starts.into_boxed_slice(),
+            owners: pieces.owners.into_boxed_slice(),
+            owner_starts: pieces.owner_starts.into_boxed_slice(),
+            ats: pieces.ats.into_boxed_slice(),
         })
     }
 
@@ -56,12 +62,47 @@ impl Codes {
         self.starts[number]
     }
 
+    /// Where its slots start. A look-up costs one read.
+    pub fn at(&self, number: usize) -> usize
+        requires { (b : plain.Book) × IsCodes b self.now × (number < length (places b)) }
+        ensures { (b : plain.Book) → IsCodes b self.now → (p : Placed)
+            → slice_get (places b) number ≡ Some p → result ≡ p.at }
+    {
+        self.ats[number]
+    }
+
+    /// The numbers of its temporal nodes, slot by slot. A look-up costs two reads.
+    pub fn owners(&self, number: usize) -> &[usize]
+        requires { (b : plain.Book) × IsCodes b self.now × (number < length (places b)) }
+        ensures { (b : plain.Book) → IsCodes b self.now → (p : Placed)
+            → slice_get (places b) number ≡ Some p
+            → result.now ≡ owners 0 (code p.at 0 p.tree) }
+    {
+        &self.owners[self.owner_starts[number]..self.owner_starts[number + 1]]
+    }
+
+    /// How many nodes it has. A look-up costs two reads.
+    pub fn size(&self, number: usize) -> usize
+        requires { (b : plain.Book) × IsCodes b self.now × (number < length (places b)) }
+        ensures { (b : plain.Book) → IsCodes b self.now → (p : Placed)
+            → slice_get (places b) number ≡ Some p → result ≡ nodes p.tree }
+    {
+        self.starts[number + 1] - self.starts[number]
+    }
+
     /// How many nodes all conditions have. Its cost is one read.
     pub fn count(&self) -> usize
         ensures { (b : plain.Book) → IsCodes b self.now
             → result ≡ nodes_before (places b) (length (places b)) }
     {
         self.steps.len()
+    }
+
+    /// Where the code of each condition starts, and where the last ends.
+    pub(crate) fn starts(&self) -> &[usize]
+        ensures { result.now ≡ boxed_slice_items self.now.starts }
+    {
+        &self.starts
     }
 
     /// All steps, one behind another.

@@ -8,5 +8,5 @@ mod chains;
 mod codes;
 mod pieces;
 
-pub use askers::Askers;
+pub use askers::{Asker, Askers};
 pub use codes::Codes;

@@ -6,7 +6,7 @@ ghost use Rattle.condition_codes.specs.Pieces.{AddsCodes, HasCodes};
 
 use book_model::Term;
 use std::alloc::{AllocError, Global};
-use term_eval::{Step, add_code};
+use term_eval::{Step, add_code, add_owners};
 
 /// The codes of some conditions.
 #[derive(Drop)]
@@ -15,6 +15,12 @@ pub struct Pieces {
     pub steps: Vec<Step>,
     /// Where each starts, and where the last ends.
     pub starts: Vec<usize>,
+    /// The numbers of the temporal nodes of each, slot by slot, one condition behind another.
+    pub owners: Vec<usize>,
+    /// Where those of each start, and where the last end.
+    pub owner_starts: Vec<usize>,
+    /// Where the slots of each start.
+    pub ats: Vec<usize>,
 }
 
 impl Pieces {
@@ -24,19 +30,28 @@ impl Pieces {
     {
         let mut starts = Vec::new(alloc);
         starts.push(0)?;
+        let mut owner_starts = Vec::new(alloc);
+        owner_starts.push(0)?;
         Ok(Pieces {
             steps: Vec::new(alloc),
             starts,
+            owners: Vec::new(alloc),
+            owner_starts,
+            ats: Vec::new(alloc),
         })
     }
 
-    /// Of one condition more. Its cost is one visit of each node.
+    /// Of one condition more. Its cost is two visits of each node.
     pub fn add(&mut self, term: &Term) -> Result<(), AllocError>
         requires { term.now.at + slots (tree_in term.now) < 2 ^ 64 }
         ensures { OnOk result (AddsCodes (placed_of term.now ∷ []) self.old self.new) }
     {
+        let first = self.steps.len();
         add_code(&mut self.steps, &term.cond, term.at)?;
         self.starts.push(self.steps.len())?;
+        add_owners(&mut self.owners, &self.steps[first..])?;
+        self.owner_starts.push(self.owners.len())?;
+        self.ats.push(term.at)?;
         Ok(())
     }
 }

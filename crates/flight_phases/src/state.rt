@@ -68,11 +68,13 @@ impl PhaseState {
     }
 
     /// Whether moments with the inputs of the last one leave the state as it is, so that it needn't be told of them, and
-    /// have its phase, however many they are. Before the first moment the answer is no.
+    /// have its phase, however many they are.
     pub fn is_steady(&self) -> bool
-        ensures phase { result ≡ true → (f : Flight) (k : ℕ) → Stands f (suc k) self.now → SameInputs f k
+        ensures phase { result ≡ true → (f : Flight) (k : ℕ) → Stands f (suc k) self.now
+            → SameInputs f k
             → phase f (suc k) ≡ phase f k }
-        ensures stands { result ≡ true → (f : Flight) (k : ℕ) → SameInputs f k → Stands f (suc k) self.now
+        ensures stands { result ≡ true → (f : Flight) (k : ℕ) → SameInputs f k
+            → Stands f (suc k) self.now
             → Stands f (suc (suc k)) self.now }
     {
         match self.last {

@@ -1,8 +1,9 @@
 -- One alert more is stepped.
-use Rattle.std.proofs.Common.{◌≡◌, ℕ, zero, suc, ◌+◌, ◌-◌, ◌^◌, ◌<◌, ◌≤◌, Bool, true, false, not, ◌&&◌, None, is_some, eqb, List, length, take, get_or, slice_get, Some, refl, sym, ap, subst, ◌∙◌, arith}
+use Rattle.std.proofs.Common.{◌≡◌, ◌≢◌, ℕ, zero, suc, ◌+◌, ◌-◌, ◌^◌, ◌<◌, ◌≤◌, min, Bool, true, false, not, ◌&&◌, None, is_some, List, length, take, get_or, slice_get, Some, refl, sym, ap, subst, ◌∙◌, arith}
 use Rattle.ecam_spec.specs.Book as plain
 use Rattle.ecam_spec.specs.Past.{previous}
-use Rattle.ecam_spec.specs.Term.{holds}
+use Rattle.ecam_spec.specs.Term.{World, holds}
+use Rattle.ecam_spec.specs.TermSize.{nodes}
 use Rattle.ecam_spec.specs.History.{Moment}
 use Rattle.ecam_spec.specs.Situation as situation
 use Rattle.ecam_spec.specs.Situation.{condition_in, phase_in, active_in, alert_world, known_below}
@@ -21,17 +22,19 @@ use Rattle.alert_truth.specs.Alerts.{active}
 use Rattle.alert_truth.specs.TruthsState.{HalfStand, TruthsStand}
 use Rattle.term_eval.specs.declared.env.Env.{Env}
 use Rattle.term_eval.specs.Shown.{Shows}
+use Rattle.term_eval.specs.declared.reading.Reading.TheVariants.{Flag}
 use Rattle.term_eval.specs.Woken.{Operand, moved, differ}
 use Rattle.condition_codes.specs.Places.{nodes_before}
 use Rattle.fwc_lane.specs.declared.terms.Terms.{Terms}
 use Rattle.wakes.specs.Marks.{is_marked}
 use Rattle.alert_truth.proofs.Stepping.{half-rests}
-use Rattle.fwc_lane.specs.Waking.{HasWoken, NoneMarked}
+use Rattle.fwc_lane.specs.Waking.{NoneMarked}
 use Rattle.fwc_lane.specs.Conditions.{IsLeft, HalfStepped, StepsTerm, TellsMoved, BookHalf, AlertsHalf, known_world}
 use Rattle.fwc_lane.specs.Given.{Lends}
 use Rattle.fwc_lane.proofs.Showing.{shows-own, active-is}
-use Rattle.fwc_lane.proofs.Stages.{more-known, alert-moves, same-tells}
-use Rattle.fwc_lane.proofs.Stepping.{half-rest, rest-holds}
+use Rattle.fwc_lane.proofs.Stages.{same-tells}
+use Rattle.fwc_lane.proofs.Known.{alert-known}
+use Rattle.fwc_lane.proofs.Stepping.{half-rest, half-calm, rest-holds, calm-holds}
 use Rattle.fwc_lane.proofs.Awake.{awake-off}
 use Rattle.fwc_lane.proofs.FlagSteps.{with-item}
 
@@ -69,15 +72,6 @@ pub was-active : (b : plain.Book) (m : ℕ → Moment) (k h a : ℕ) (t : Truths
 unfolding previous
 was-active b m k h a t e lt half = (half.left a (omega arith) lt).active ∙ ap (previous (active b (condition_in b m) (phase_in b m) a)) e ∙ active-is b m a h
 
--- one alert more is known
-pub alert-known : (d : Draft) (sealed : IsSealed d) (m : ℕ → Moment) (k a visited : ℕ) (t new : Terms) (other now was : Bool) → a < length (the_book d).alerts → other ≡ differ now was
-    → now ≡ active_in (the_book d) m a k → ((h : ℕ) → k ≡ suc h → was ≡ active_in (the_book d) m a h)
-    → HasWoken (the_book d) (λ o. other && eqb o (length (the_book d).parameters + a)) t new
-    → BookHalf (the_book d) m k (alerts_from + suc a) (suc a) visited t → BookHalf (the_book d) m k (alerts_from + suc a) (suc (suc a)) visited new
-alert-known d sealed m k a visited t new other now was lt is now-is was-is wakes half =
-    more-known d sealed m k (alerts_from + suc a) (suc a) visited t new (λ o. other && eqb o (length (the_book d).parameters + a)) wakes
-    (λ h e. alert-moves (the_book d) m k h a other now was e is now-is (was-is h e) lt) half
-
 pub differ-self : (b : Bool) → differ b b ≡ false
 differ-self true = refl
 differ-self false = refl
@@ -85,7 +79,7 @@ differ-self false = refl
 -- an alert that neither its condition nor time changes, and some alerts of that kind
 module _ (d : Draft) (sealed : IsSealed d) (m : ℕ → Moment) (k visited : ℕ) (terms : Terms) (t : Truths) (small : k < 2 ^ 63) where
   module _ (a : ℕ) (x : Alert) (within : a < length d.alerts.items) (here : x ≡ get_or d.alerts.items a x)
-      (off : is_marked terms.woken (alerts_from + a) ≡ false) (rests : is_marked t.restless a ≡ false) (half : AlertsHalf (the_book d) m k a visited terms t) where
+      (rests : is_marked t.restless a ≡ false) (half : AlertsHalf (the_book d) m k a visited terms t) where
     there : a < length (the_book d).alerts
     there = omega (arith, many-alerts d, within)
 
@@ -109,41 +103,63 @@ module _ (d : Draft) (sealed : IsSealed d) (m : ℕ → Moment) (k visited : ℕ
     own-left : IsLeft (world_of (the_book d) m (alerts_from + a)) hits k (alerts_from + a) (nodes_before (places (the_book d)) (alerts_from + a)) (placed_of x.when) terms
     own-left = was.left (alerts_from + a) (placed_of x.when) (let w : alerts_from + a ≤ alerts_from + a = omega arith in w) at-place
 
-    -- its condition holds where it held
-    same-condition : (h : ℕ) → k ≡ suc h → condition_in (the_book d) m a h ≡ condition_in (the_book d) m a k
-    unfolding condition_in situation.condition
-    same-condition h e =
-        ap (λ (y : plain.Alert). holds (alert_world (the_book d) m (known_below (the_book d) m a)) y.when h) (alert-read d d.alerts.items a x refl within here)
-        ∙ subst (λ w. holds w (tree_in x.when) h ≡ holds w (tree_in x.when) k) own-world-is
-        (rest-holds (world_of (the_book d) m (alerts_from + a)) hits k h (alerts_from + a) (nodes_before (places (the_book d)) (alerts_from + a)) (placed_of x.when) terms small e tells-own own-left off)
-        ∙ sym (ap (λ (y : plain.Alert). holds (alert_world (the_book d) m (known_below (the_book d) m a)) y.when k) (alert-read d d.alerts.items a x refl within here))
+    own : World
+    own = world_of (the_book d) m (alerts_from + a)
 
-    truths-rest : (n : ℕ) → k ≡ n → HalfStand (the_book d) (condition_in (the_book d) m) (phase_in (the_book d) m) k (suc a) t
-    truths-rest zero e = absurd (let w : ⊥ = (let clash : true ≡ false = sym (own-left.first e) ∙ off in cc) in w)
-    truths-rest (suc h) e =
-        subst (λ n. HalfStand (the_book d) (condition_in (the_book d) m) (phase_in (the_book d) m) n (suc a) t) (sym e)
-        (half-rests (the_book d) (condition_in (the_book d) m) (phase_in (the_book d) m) h a t there
-        (ap (condition_in (the_book d) m a) (sym e) ∙ sym (same-condition h e)) rests
-        (subst (λ n. HalfStand (the_book d) (condition_in (the_book d) m) (phase_in (the_book d) m) n a t) e half.alerts))
+    -- a condition that holds where it held, and is asked
+    module _ (after : Terms) (later : k ≢ 0) (keeps : (h : ℕ) → k ≡ suc h → holds own (tree_in x.when) h ≡ holds own (tree_in x.when) k)
+        (next : BookHalf (the_book d) m k (alerts_from + suc a) (suc a) visited after) where
+      same-condition : (h : ℕ) → k ≡ suc h → condition_in (the_book d) m a h ≡ condition_in (the_book d) m a k
+      unfolding condition_in situation.condition own
+      same-condition h e =
+          ap (λ (y : plain.Alert). holds (alert_world (the_book d) m (known_below (the_book d) m a)) y.when h) (alert-read d d.alerts.items a x refl within here)
+          ∙ subst (λ w. holds w (tree_in x.when) h ≡ holds w (tree_in x.when) k) own-world-is (keeps h e)
+          ∙ sym (ap (λ (y : plain.Alert). holds (alert_world (the_book d) m (known_below (the_book d) m a)) y.when k) (alert-read d d.alerts.items a x refl within here))
 
-    -- it is active where it was
-    same-active : (h : ℕ) → k ≡ suc h → active_in (the_book d) m a k ≡ active_in (the_book d) m a h
-    unfolding previous
-    same-active h e =
-        sym (active-is (the_book d) m a k) ∙ sym ((truths-rest k refl).stepped a (omega arith)).active ∙ was-active (the_book d) m k h a t e there half.alerts
+      truths-rest : (n : ℕ) → k ≡ n → HalfStand (the_book d) (condition_in (the_book d) m) (phase_in (the_book d) m) k (suc a) t
+      truths-rest zero e = absurd (later e)
+      truths-rest (suc h) e =
+          subst (λ n. HalfStand (the_book d) (condition_in (the_book d) m) (phase_in (the_book d) m) n (suc a) t) (sym e)
+          (half-rests (the_book d) (condition_in (the_book d) m) (phase_in (the_book d) m) h a t there
+          (ap (condition_in (the_book d) m a) (sym e) ∙ sym (same-condition h e)) rests
+          (subst (λ n. HalfStand (the_book d) (condition_in (the_book d) m) (phase_in (the_book d) m) n a t) e half.alerts))
 
-    terms-rest : BookHalf (the_book d) m k (alerts_from + suc a) (suc a) visited terms
-    unfolding hits
-    terms-rest =
-        subst (λ n. BookHalf (the_book d) m k n (suc a) visited terms) (let e : suc (alerts_from + a) ≡ alerts_from + suc a = omega arith in e)
-        (half-rest (places (the_book d)) (world_of (the_book d) m) k (alerts_from + a) (placed_of x.when) at-place hits visited terms small tells-own off was)
+      -- it is active where it was
+      same-active : (h : ℕ) → k ≡ suc h → active_in (the_book d) m a k ≡ active_in (the_book d) m a h
+      unfolding previous
+      same-active h e =
+          sym (active-is (the_book d) m a k) ∙ sym ((truths-rest k refl).stepped a (omega arith)).active ∙ was-active (the_book d) m k h a t e there half.alerts
 
-    alert-off : AlertsHalf (the_book d) m k (suc a) visited terms t
-    alert-off = record {
-      terms = alert-known d sealed m k a visited terms terms false (active_in (the_book d) m a k) (active_in (the_book d) m a k) there (sym (differ-self (active_in (the_book d) m a k))) refl
-          (λ h e. same-active h e) (awake-off (the_book d) (length (the_book d).parameters + a) terms false refl) terms-rest;
-      alerts = truths-rest k refl;
-    }
+      alert-kept : AlertsHalf (the_book d) m k (suc a) visited after t
+      alert-kept = record {
+        terms = alert-known d sealed m k visited after after a there false (active_in (the_book d) m a k) (active_in (the_book d) m a k) refl
+            (awake-off (the_book d) (length (the_book d).parameters + a) (λ o. Flag (active_in (the_book d) m a k)) after false refl)
+            (sym (differ-self (active_in (the_book d) m a k))) (λ h e. same-active h e) next;
+        alerts = truths-rest k refl;
+      }
+
+    abbrev e-next : suc (alerts_from + a) ≡ alerts_from + suc a
+    e-next = let e : suc (alerts_from + a) ≡ alerts_from + suc a = omega arith in e
+
+    -- one that isn't woken
+    alert-off : is_marked terms.woken (alerts_from + a) ≡ false → AlertsHalf (the_book d) m k (suc a) visited terms t
+    unfolding hits own
+    alert-off off =
+        alert-kept terms (λ e. absurd (let w : ⊥ = (let clash : true ≡ false = sym (own-left.first e) ∙ off in cc) in w))
+        (λ h e. rest-holds (world_of (the_book d) m (alerts_from + a)) hits k h (alerts_from + a) (nodes_before (places (the_book d)) (alerts_from + a)) (placed_of x.when) terms small e tells-own own-left off)
+        (subst (λ n. BookHalf (the_book d) m k n (suc a) visited terms) e-next
+        (half-rest (places (the_book d)) (world_of (the_book d) m) k (alerts_from + a) (placed_of x.when) at-place hits visited terms small tells-own off was))
+
+    -- one that is woken and isn't stirred: its nodes are counted
+    pub alert-calm : (new : Terms) → is_marked terms.woken (alerts_from + a) ≡ true → is_marked terms.stirred (alerts_from + a) ≡ false
+        → new ≡ record terms { cells = new.cells } → new.cells.slots ≡ terms.cells.slots → new.cells.visits ≡ min (terms.cells.visits + nodes (tree_in x.when)) (2 ^ 64 - 1)
+        → AlertsHalf (the_book d) m k (suc a) visited new t
+    unfolding hits own
+    alert-calm new on calm counted slots visits =
+        alert-kept new (λ e. absurd (let w : ⊥ = (let clash : true ≡ false = sym (own-left.stirs e) ∙ calm in cc) in w))
+        (λ h e. calm-holds (world_of (the_book d) m (alerts_from + a)) hits k h (alerts_from + a) (nodes_before (places (the_book d)) (alerts_from + a)) (placed_of x.when) terms small e tells-own own-left calm)
+        (subst (λ n. BookHalf (the_book d) m k n (suc a) visited new) e-next
+        (half-calm (places (the_book d)) (world_of (the_book d) m) k (alerts_from + a) (placed_of x.when) at-place terms new counted slots hits visited small tells-own on calm visits was))
 
   some-off : (a n : ℕ) → a + n ≤ length d.alerts.items → NoneMarked terms.woken (alerts_from + a) (alerts_from + (a + n)) → NoneMarked t.restless a (a + n)
       → AlertsHalf (the_book d) m k a visited terms t → AlertsHalf (the_book d) m k (a + n) visited terms t
@@ -152,8 +168,8 @@ module _ (d : Draft) (sealed : IsSealed d) (m : ℕ → Moment) (k visited : ℕ
       let e : suc (a + n) ≡ a + suc n = omega arith in
       with-item d.alerts.items (a + n) (omega arith)
       (λ x here. subst (λ i. AlertsHalf (the_book d) m k i visited terms t) e
-      (alert-off (a + n) x (omega arith) here (off _ (omega arith) (omega arith)) (rests _ (omega arith) (omega arith))
-      (some-off a n (omega arith) (λ i from to. off i from (omega arith)) (λ i from to. rests i from (omega arith)) half)))
+      (alert-off (a + n) x (omega arith) here (rests _ (omega arith) (omega arith))
+      (some-off a n (omega arith) (λ i from to. off i from (omega arith)) (λ i from to. rests i from (omega arith)) half) (off _ (omega arith) (omega arith))))
 
   -- up to the next that may change, or to the end
   pub alerts-skip : (a i : ℕ) → a ≤ i → i ≤ length d.alerts.items → NoneMarked terms.woken (alerts_from + a) (alerts_from + i) → NoneMarked t.restless a i

@@ -1,11 +1,15 @@
 -- The nodes of conditions: where those of each start, and that they ask for operands of the book alone.
-use Rattle.std.proofs.Common.{◌≡◌, ℕ, zero, suc, ◌+◌, ◌<◌, ◌≤◌, Bool, true, false, ◌||◌, List, [], ◌∷◌, ◌++◌, Option, Some, None, slice_get, refl, ap, subst, ◌⊎◌, inl, inr, arith}
+use Rattle.std.proofs.Common.{◌≡◌, ℕ, zero, suc, ◌+◌, ◌<◌, ◌≤◌, Bool, true, false, ◌||◌, List, [], ◌∷◌, ◌++◌, Option, Some, None, slice_get, refl, sym, ap, subst, ◌∙◌, ◌⊎◌, inl, inr, arith}
+use Rattle.std.specs.List.{list_any}
+use Rattle.std.specs.Option.{option_map_or}
+use Rattle.std.proofs.lemmas.List.Folds.{list_any-append}
+use Rattle.std.proofs.lemmas.Map.Keys.{any_passes_from_place}
 use Rattle.ecam_spec.specs.Book.{Tree, Trees, constant, discrete, valid, compared, in_phase, alert, press, computer, negation, all, any, at_least, confirmed, held, risen, latched, none, more}
 use Rattle.ecam_spec.specs.TermNames.{IsWithin, AreWithin}
 use Rattle.ecam_spec.specs.TermSize.{Placed, nodes}
-use Rattle.term_eval.specs.Woken.{Operand}
+use Rattle.term_eval.specs.Woken.{Operand, operands, operands_of}
 use Rattle.term_eval.specs.Woken.Operand.{value, phase, activity, key, health}
-use Rattle.term_eval.specs.Asked.{asked, asked_of}
+use Rattle.term_eval.specs.Asked.{Asks, asked, asked_of}
 use Rattle.watch_lists.specs.declared.number.Sizes.{Sizes}
 use Rattle.watch_lists.specs.Naming.{IsOperand}
 use Rattle.condition_codes.specs.Places.{nodes_before}
@@ -71,6 +75,44 @@ module _ (n : Sizes) where
     all-ask : (cs : Trees) → AreWithin n.params n.alerts cs → EachIs (asked_of cs)
     all-ask none within = each-none
     all-ask (more c cs) within = join (asked c) (asked_of cs) (asks-operand c within.0) (all-ask cs within.1)
+
+-- ---- what a node asks for is named by its condition
+
+module _ (f : Operand → Bool) where
+  abbrev passes : Option Operand → Bool
+  passes o = option_map_or f o false
+
+  mutual
+    unfolding asked operands
+
+    named-asked : (c : Tree) → list_any passes (asked c) ≡ list_any f (operands c)
+    named-asked (constant b) = refl
+    named-asked (discrete p) = refl
+    named-asked (valid p) = refl
+    named-asked (compared p op x) = refl
+    named-asked (in_phase set) = refl
+    named-asked (alert a) = refl
+    named-asked (press x) = refl
+    named-asked (computer m) = refl
+    named-asked (negation c) = named-asked c
+    named-asked (all cs) = all-named cs
+    named-asked (any cs) = all-named cs
+    named-asked (at_least m cs) = all-named cs
+    named-asked (confirmed c m) = named-asked c
+    named-asked (held c m) = named-asked c
+    named-asked (risen c) = named-asked c
+    named-asked (latched s r) =
+        list_any-append passes (asked s) (asked r) ∙ ap (λ b. b || list_any passes (asked r)) (named-asked s) ∙ ap (λ b. list_any f (operands s) || b) (named-asked r)
+        ∙ sym (list_any-append f (operands s) (operands r))
+
+    all-named : (cs : Trees) → list_any passes (asked_of cs) ≡ list_any f (operands_of cs)
+    all-named none = refl
+    all-named (more c cs) =
+        list_any-append passes (asked c) (asked_of cs) ∙ ap (λ b. b || list_any passes (asked_of cs)) (named-asked c) ∙ ap (λ b. list_any f (operands c) || b) (all-named cs)
+        ∙ sym (list_any-append f (operands c) (operands_of cs))
+
+  pub asks-named : (c : Tree) (i : ℕ) (x : Operand) → Asks c i x → f x ≡ true → list_any f (operands c) ≡ true
+  asks-named c i x is on = sym (named-asked c) ∙ any_passes_from_place passes (asked c) i (Some x) is on
 
 -- one of two tests is passed
 pub one-of : (a b : Bool) → (a || b) ≡ true → (a ≡ true) ⊎ (b ≡ true)

@@ -1,5 +1,5 @@
 -- A moment that wakes no condition, in which no alert is restless and the phase stays: each condition holds where it held.
-use Rattle.std.proofs.Common.{◌≡◌, ℕ, suc, ◌+◌, ◌^◌, ◌<◌, ◌≤◌, Bool, false, not, ◌&&◌, eqb, List, length, refl, sym, ap, arith}
+use Rattle.std.proofs.Common.{◌≡◌, ℕ, suc, ◌+◌, ◌^◌, ◌<◌, ◌≤◌, Bool, false, not, List, length, refl, sym, ap, arith}
 use Rattle.std.proofs.lemmas.Bool.{eq-eqb}
 use Rattle.ecam_spec.specs.Term.{holds}
 use Rattle.ecam_spec.specs.BookTerms.{lines_of}
@@ -15,11 +15,12 @@ use Rattle.wakes.specs.Marks.{is_marked}
 use Rattle.flight_phases.specs.Inputs.{AreInputs}
 use Rattle.alert_truth.specs.declared.truths.Truths.{Truths}
 use Rattle.alert_truth.specs.TruthsState.{HalfStand, TruthsStand}
+use Rattle.term_eval.specs.declared.reading.Reading.TheVariants.{InPhase}
 use Rattle.fwc_lane.specs.declared.terms.Terms.{Terms}
 use Rattle.fwc_lane.specs.Conditions.{BookHalf, AlertsHalf, LinesHalf, MemosHalf, AllStepped, WasPhase, LinesWere, MemosWere}
 use Rattle.fwc_lane.specs.PhaseTruths.{inputs_by}
 use Rattle.fwc_lane.proofs.Awake.{awake-off}
-use Rattle.fwc_lane.proofs.Stages.{more-known, phase-moves}
+use Rattle.fwc_lane.proofs.Known.{phase-known}
 use Rattle.fwc_lane.proofs.FlightSteps.{inputs-rest, inputs-kept}
 use Rattle.fwc_lane.proofs.AlertSteps.{alerts-begin, alerts-skip, alerts-end}
 use Rattle.fwc_lane.proofs.ProcedureSteps.{lines-begin, lines-past, lines-end, lines-told}
@@ -32,18 +33,18 @@ module _ (d : Draft) (sealed : IsSealed d) (m : ℕ → Moment) (k visited : ℕ
   inputs-same = inputs-kept d sealed d.phase refl m k small visited t (λ j from to. off j) half
 
   module _ (was : Phase) (stays : was.number ≡ phase_in (the_book d) m k) (before : WasPhase (the_book d) m k was) where
-    phase-known : BookHalf (the_book d) m k alerts_from 1 visited t
-    phase-known =
+    phase-stays : BookHalf (the_book d) m k alerts_from 1 visited t
+    phase-stays =
         let b = the_book d in
         let inputs = inputs-rest d sealed d.phase refl m k small visited t (λ j from to. off j) half in
-        more-known d sealed m k alerts_from 0 visited t t (λ o. false && eqb o (length b.parameters + length b.alerts)) (awake-off b (length b.parameters + length b.alerts) t false refl)
-        (λ h e. phase-moves b m k h was.number was.number false e (sym (ap not (eq-eqb was.number was.number refl))) stays (before h e)) inputs
+        phase-known d sealed m k visited t t false was was.number stays (awake-off b (length b.parameters + length b.alerts) (λ o. InPhase was) t false refl)
+        (sym (ap not (eq-eqb was.number was.number refl))) before inputs
 
     module _ (alerts : Truths) (rests : (a : ℕ) → is_marked alerts.restless a ≡ false) (stands : TruthsStand (the_book d) (condition_in (the_book d) m) (phase_in (the_book d) m) k alerts) where
       all-alerts : AlertsHalf (the_book d) m k (length d.alerts.items) visited t alerts
       all-alerts =
           alerts-skip d sealed m k visited t alerts small 0 (length d.alerts.items) (omega arith) (let le : length d.alerts.items ≤ length d.alerts.items = omega arith in le)
-          (λ j from to. off j) (λ a from to. rests a) (alerts-begin d m k visited t alerts phase-known stands)
+          (λ j from to. off j) (λ a from to. rests a) (alerts-begin d m k visited t alerts phase-stays stands)
 
       -- the alerts, which are still to be settled
       pub alerts-same : HalfStand (the_book d) (condition_in (the_book d) m) (phase_in (the_book d) m) k (length d.alerts.items) alerts

@@ -1,5 +1,5 @@
 -- A lane before anything happened, and one that took over what another holds.
-use Rattle.std.proofs.Common.{◌≡◌, ℕ, zero, suc, ◌<◌, Bool, false, List, [], ◌∷◌, length, get_or, slice_index, None, refl, sym, ap, subst, ◌∙◌, arith}
+use Rattle.std.proofs.Common.{◌≡◌, ℕ, zero, suc, ◌<◌, Bool, false, List, [], ◌∷◌, get_or, slice_index, None, refl, sym, ap, subst, ◌∙◌, arith}
 use Rattle.std.specs.List.{list_any}
 use Rattle.fwc_lane.proofs.FlagSteps.{left-false, right-false}
 use Rattle.ecam_spec.specs.Book.{Book}
@@ -17,7 +17,6 @@ use Rattle.ecam_spec.specs.Screen.{cockpit, attention, panel}
 use Rattle.ecam_kinds.specs.KeyState.{KeysStand, is_pressed}
 use Rattle.ecam_kinds.specs.declared.keys.Keys.{Keys}
 use Rattle.ecam_kinds.specs.Shown.{picture_of}
-use Rattle.std.proofs.lemmas.Option.{slice_get_within}
 use Rattle.book_model.specs.Conditions.{places, world_of}
 use Rattle.book_model.proofs.ConditionRanges.{range}
 use Rattle.param_table.specs.TableState.{ParamsStand, value_before}
@@ -27,9 +26,10 @@ use Rattle.crew_marks.specs.MarksState.{MarksStand}
 use Rattle.attention.specs.State.{AttentionStands}
 use Rattle.system_display.specs.Selecting as selecting
 use Rattle.term_eval.specs.CellState.{Stand, StandForNone}
-use Rattle.term_eval.specs.NodeState.{NodesStand, NodesStandForNone}
+use Rattle.term_eval.specs.Memory.{NodeMemory}
+use Rattle.term_eval.specs.NodeState.{NodesStand, first_wake}
 use Rattle.condition_codes.specs.Places.{nodes_before}
-use Rattle.fwc_lane.proofs.Askers.{nodes-apart}
+use Rattle.ecam_spec.specs.TermSize.{slots}
 use Rattle.term_eval.specs.Due.{staying, IsDue}
 use Rattle.fwc_lane.specs.declared.terms.Terms.{Terms}
 use Rattle.fwc_lane.specs.TermsFit.{TookTerms}
@@ -47,7 +47,6 @@ pub record IsFresh (b : Book) (l : Lane) : Type 0 where
   pub values : (p : ℕ) → get_or l.values.items p None ≡ None
   pub keys : (strokes : ℕ → List Stroke) → strokes 0 ≡ [] → KeysStand strokes 0 l.keys
   pub cells : StandForNone l.terms.cells.slots
-  pub nodes : NodesStandForNone l.terms.nodes
   pub phases : (f : Flight) → flight_phases.Stands f 0 l.phase_state
   pub truths : (conditions : ℕ → Signal) (phases : ℕ → ℕ) → TruthsStand b conditions phases 0 l.truths
   pub marks : (c : Cockpit) → MarksStand b c 0 l.marks
@@ -69,9 +68,8 @@ fresh-whole b l fits fresh m = record {
   ticked = fresh.ticked;
   terms = record {
     cells = λ j p is. fresh.cells (world_of b m j) p.tree p.at (omega (arith, range b j p is, fits.terms.slots));
-    nodes = λ j p is.
-        let within : j < length (places b) = slice_get_within (places b) j p is in
-        fresh.nodes (world_of b m j) p.tree (nodes_before (places b) j) (omega (arith, nodes-apart (places b) j (length (places b)) p within is, fits.terms.nodes));
+    nodes = λ h e. absurd (omega arith);
+    wakes = λ h e. absurd (omega arith);
     told = λ h e. absurd (omega arith);
     next = λ h e. absurd (omega arith);
     keys = λ h e. absurd (omega arith);
@@ -125,7 +123,9 @@ pub record TookOver (b : Book) (other l : Lane) : Type 0 where
 took-terms : (b : Book) (m : ℕ → Moment) (k : ℕ) (other t : Terms) → TookTerms other t → TermsStand b m k other → TermsStand b m k t
 took-terms b m k other t took was = record {
   cells = λ j p is. subst (Stand (world_of b m j) k p.tree p.at) (sym took.slots) (was.cells j p is);
-  nodes = λ j p is. subst (NodesStand (world_of b m j) k p.tree (nodes_before (places b) j)) (sym took.nodes) (was.nodes j p is);
+  nodes = λ h e j p is. subst (NodesStand (world_of b m j) h p.tree p.at (nodes_before (places b) j)) (sym took.nodes) (was.nodes h e j p is);
+  wakes = λ h e j p is.
+      ap (λ ys. slice_index ys j) took.dues ∙ was.wakes h e j p is ∙ ap (λ (n : NodeMemory). first_wake n.wakes p.at (slots p.tree)) (sym took.nodes);
   told = λ h e j p is. ap (λ ys. get_or ys j false) took.truths ∙ was.told h e j p is;
   next = λ h e j p is. subst (IsDue (staying (world_of b m j) h) p.tree h) (sym (ap (λ ys. slice_index ys j) took.dues)) (was.next h e j p is);
   keys = λ h e x at. ap (λ (q : Keys). is_pressed q x) took.keys ∙ was.keys h e x at;

@@ -16,7 +16,6 @@ use Rattle.watch_lists.specs.Listed.{has_term}
 use Rattle.watch_lists.proofs.Lines.{sizes-are}
 use Rattle.wakes.specs.Marks.{is_marked}
 use Rattle.fwc_lane.specs.Waking.{sizes_in, WakesBy}
-use Rattle.std.proofs.Math.Bool.{or-false}
 
 -- ---- some of a list pass a test
 
@@ -43,15 +42,6 @@ any-none f none [] = refl
 any-none f none (x ∷ xs) = ap (λ b. b || list_any f xs) (none x) ∙ any-none f none xs
 
 -- ---- what wakes
-
-pub wakes-as : (b : Book) (f g : ℕ → Bool) (old new : List ℕ) → ((o : ℕ) → f o ≡ g o) → WakesBy b f old new → WakesBy b g old new
-wakes-as b f g old new same wakes = λ j p is.
-    wakes j p is
-    ∙ ap (λ x. is_marked old j || x) (any-alike (λ x. f (operand_number (sizes_in b) x)) (λ x. g (operand_number (sizes_in b) x)) (λ x. same (operand_number (sizes_in b) x)) (operands p.tree))
-
-pub wakes-none : (b : Book) (f : ℕ → Bool) (marks : List ℕ) → ((o : ℕ) → f o ≡ false) → WakesBy b f marks marks
-wakes-none b f marks none = λ j p is.
-    sym (ap (λ x. is_marked marks j || x) (any-none (λ x. f (operand_number (sizes_in b) x)) (λ x. none (operand_number (sizes_in b) x)) (operands p.tree)) ∙ or-false (is_marked marks j))
 
 -- first by one test, then by another
 pub wakes-then : (b : Book) (f g h : ℕ → Bool) (old mid new : List ℕ) → ((o : ℕ) → h o ≡ (f o || g o)) → WakesBy b f old mid → WakesBy b g mid new → WakesBy b h old new
@@ -93,6 +83,3 @@ wakes-listed d operand listed old new other on lists marks = λ j p is.
     ∙ ap (λ found. option_map_or (λ (q : Placed). names (sizes_of d) q.tree operand) found false) is
     ∙ ap (λ (m : Sizes). names m p.tree operand) (sizes-same d)
     ∙ any-alike (λ x. eqb (operand_number n x) operand) (λ x. other && eqb (operand_number n x) operand) (λ x. sym (ap (λ c. c && eqb (operand_number n x) operand) on)) (operands p.tree))
-
-pub wakes-off : (b : Book) (operand : ℕ) (marks : List ℕ) (other : Bool) → other ≡ false → WakesBy b (λ o. other && eqb o operand) marks marks
-wakes-off b operand marks other off = wakes-none b (λ o. other && eqb o operand) marks (λ o. ap (λ c. c && eqb o operand) off)

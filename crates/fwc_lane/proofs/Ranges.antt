@@ -1,5 +1,5 @@
 -- Of some numbers from one on those that pass a test.
-use Rattle.std.proofs.Common.{◌≡◌, ℕ, suc, ◌+◌, ◌-◌, ◌<◌, ◌≤◌, Bool, false, ◌&&◌, ◌||◌, leb, ltb, eqb, sym, ap, ◌∙◌, inl, inr, arith}
+use Rattle.std.proofs.Common.{◌≡◌, ℕ, suc, ◌+◌, ◌-◌, ◌<◌, ◌≤◌, Bool, true, false, ◌&&◌, ◌||◌, leb, ltb, eqb, sym, ap, ◌∙◌, inl, inr, arith}
 use Rattle.std.proofs.lemmas.Bool.{cases_lt, cases_eq, lt-ltb, le-ltb, le-leb, lt-leb, eq-eqb, ne_eqb}
 use Rattle.std.proofs.Math.Bool.{and-false, and-true, or-false}
 use Rattle.fwc_lane.specs.Waking.{ranged}
@@ -22,16 +22,6 @@ ranged-none from f o = elim (cases_lt o from) [
   | inr above ↦ ranged-above from 0 f o (omega arith)
 ]
 
--- two tests that agree
-pub ranged-same : (from n : ℕ) (f g : ℕ → Bool) → ((m : ℕ) → m < n → f m ≡ g m) → (o : ℕ) → ranged from n f o ≡ ranged from n g o
-ranged-same from n f g same o = elim (cases_lt o from) [
-  | inl below ↦ ranged-below from n f o below ∙ sym (ranged-below from n g o below)
-  | inr low ↦ elim (cases_lt o (from + n)) [
-    | inl high ↦ ranged-in from n f o low high ∙ same (o - from) (omega arith) ∙ sym (ranged-in from n g o low high)
-    | inr above ↦ ranged-above from n f o above ∙ sym (ranged-above from n g o above)
-  ]
-]
-
 -- one number more
 pub ranged-next : (from n : ℕ) (f : ℕ → Bool) (o : ℕ) → ranged from (suc n) f o ≡ (ranged from n f o || (f n && eqb o (from + n)))
 ranged-next from n f o = elim (cases_lt o from) [
@@ -51,5 +41,15 @@ ranged-next from n f o = elim (cases_lt o from) [
           ranged-above from (suc n) f o (omega (arith, above, ne))
           ∙ sym (ap (λ b. b || (f n && eqb o (from + n))) (ranged-above from n f o above) ∙ ap (λ b. f n && b) (ne_eqb o (from + n) ne) ∙ and-false (f n))
     ]
+  ]
+]
+
+-- what passes is one of them
+pub ranged-within : (from n : ℕ) (f : ℕ → Bool) (o : ℕ) → ranged from n f o ≡ true → (from ≤ o) × (o < from + n)
+ranged-within from n f o on = elim (cases_lt o from) [
+  | inl below ↦ absurd (let w : ⊥ = (let clash : false ≡ true = sym (ranged-below from n f o below) ∙ on in cc) in w)
+  | inr low ↦ elim (cases_lt o (from + n)) [
+    | inl high ↦ (low, high)
+    | inr above ↦ absurd (let w : ⊥ = (let clash : false ≡ true = sym (ranged-above from n f o above) ∙ on in cc) in w)
   ]
 ]

@@ -23,7 +23,7 @@ use Rattle.fwc_lane.specs.Calm.{RestsNow, ValuesStay}
 use Rattle.fwc_lane.specs.Conditions.{HalfStepped, BookHalf}
 use Rattle.fwc_lane.specs.Waking.{ranged, value_turned, key_turned}
 use Rattle.fwc_lane.proofs.AlertSteps.{differ-self}
-use Rattle.fwc_lane.proofs.Beginning.{none-hit, given, half-due, begins}
+use Rattle.fwc_lane.proofs.Beginning.{none-hit, given, reads_given, half-due, begins}
 use Rattle.fwc_lane.proofs.Awake.{awake-none}
 use Rattle.fwc_lane.proofs.KeyNumbers as keys
 use Rattle.fwc_lane.proofs.Ticks.{has-begun, values-told, value-before}
@@ -60,7 +60,7 @@ module _ (d : Draft) (sealed : IsSealed d) (m : ℕ → Moment) (old : Lane) (fi
 
   -- the conditions, of which none is marked
   abbrev pub unmarked : Terms
-  unmarked = record old.terms { woken = [] }
+  unmarked = record old.terms { woken = []; stirred = [] }
 
   abbrev all-given : ℕ → Bool
   all-given = given b (value_turned old.values.items old.values.items) (key_turned old.terms.keys old.keys) (differ old.terms.one_up old.terms.one_up) (differ old.terms.two_up old.terms.two_up)
@@ -78,20 +78,21 @@ module _ (d : Draft) (sealed : IsSealed d) (m : ℕ → Moment) (old : Lane) (fi
       ∙ ap (λ x. (x && eqb o first) || (two && eqb o second)) (differ-self old.terms.one_up)
       ∙ ap (λ x. x && eqb o second) (differ-self old.terms.two_up)
 
-  half : HalfStepped (places b) (world_of b m) none-hit k 0 old.terms.cells.visits (record old.terms { woken = []; dues = old.terms.dues })
+  half : HalfStepped (places b) (world_of b m) none-hit k 0 old.terms.cells.visits (record old.terms { woken = []; stirred = []; dues = old.terms.dues })
   half =
       let some : k ≡ 0 → (ltb 0 k ≡ false) = λ e. ap (ltb 0) e in
-      half-due b m k small old.terms [] old.terms.dues fits.terms was.terms
+      half-due b m k small old.terms [] [] old.terms.dues fits.terms was.terms
       (λ e j lt. absurd (let w : ⊥ = (let clash : true ≡ false = sym rest.calm.ticked ∙ was.ticked ∙ some e in cc) in w))
       (λ h e j lt. none-marked j ∙ sym (lt-leb (slice_index old.terms.dues j) k (rest.dues j (omega (arith, lt, fits.terms.truths, fits.terms.dues)))))
+      (λ j lt. refl)
       (λ j lt off. refl)
 
   begun-terms : BookHalf b m k 0 0 old.terms.cells.visits unmarked
   begun-terms =
-      begins d sealed m k old.terms.cells.visits old.terms (record old.terms { woken = []; dues = old.terms.dues }) unmarked old.params old.keys old.terms.one_up old.terms.two_up old.values.items old.values.items
+      begins d sealed m k old.terms.cells.visits old.terms (record old.terms { woken = []; stirred = []; dues = old.terms.dues }) unmarked old.params old.keys old.terms.one_up old.terms.two_up old.values.items old.values.items
       was.terms came (value-before b m k old.values.items was.values)
       (values-told b m k old.values.items (λ p lt. was.values p lt ∙ sym (stay (words_in b m) k came.words p lt))) half
-      (awake-none b all-given unmarked none-given)
+      (awake-none b all-given (reads_given b old.values.items old.keys old.terms.one_up old.terms.two_up) unmarked none-given)
 
   pub begun : HasBegun b m k old.terms.one_up old.terms.two_up false (record old { terms = unmarked })
   begun =

@@ -81,7 +81,7 @@ module _ (d : Draft) (sealed : IsSealed d) (m : ℕ → Moment) (old : Lane) (fi
 
   -- the conditions, of which none is marked
   abbrev t : Terms
-  t = record old.terms { woken = [] }
+  t = record old.terms { woken = []; stirred = [] }
 
   off : (j : ℕ) → is_marked t.woken j ≡ false
   off = none-marked
@@ -124,7 +124,8 @@ module _ (d : Draft) (sealed : IsSealed d) (m : ℕ → Moment) (old : Lane) (fi
 
   all-asked : AllStepped b m k visited old.terms
   all-asked = record {
-    asked = λ j p is. (record { stands = (stepped.asked j p is).stands; nodes = (stepped.asked j p is).nodes; told = (stepped.asked j p is).told; next = (stepped.asked j p is).next });
+    asked = λ j p is.
+        let own = stepped.asked j p is in (record { stands = own.stands; nodes = own.nodes; wakes = own.wakes; told = own.told; next = own.next });
     counted = stepped.counted;
   }
 

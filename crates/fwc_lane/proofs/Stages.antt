@@ -1,6 +1,5 @@
--- What a moment knows of its world grows: the phase, and one alert after another. What is another then wakes those that name
--- it.
-use Rattle.std.proofs.Common.{◌≡◌, ◌≢◌, ℕ, suc, ◌+◌, ◌-◌, ◌<◌, ◌≤◌, Bool, true, false, not, ◌&&◌, ◌||◌, eqb, List, length, get_or, slice_get, Some, ◌⊎◌, refl, sym, ap, subst, ◌∙◌, inl, inr, arith}
+-- What moved of what a moment knows of its world: of the phase, and of one alert after another.
+use Rattle.std.proofs.Common.{◌≡◌, ◌≢◌, ℕ, suc, ◌+◌, ◌-◌, ◌<◌, ◌≤◌, Bool, false, not, ◌&&◌, ◌||◌, eqb, length, get_or, slice_get, Some, refl, sym, ap, ◌∙◌, inl, inr, arith}
 use Rattle.std.specs.List.{list_any}
 use Rattle.std.proofs.lemmas.Bool.{cases_eq, cases_lt, eq-eqb, ne_eqb}
 use Rattle.std.proofs.lemmas.List.{get_or_past}
@@ -14,70 +13,16 @@ use Rattle.ecam_spec.specs.Situation.{phase_in, active_in, known_below, world}
 use Rattle.ecam_spec.proofs.WorldLaws.{known-at, known-length}
 use Rattle.book_model.specs.declared.draft.Draft.{Draft}
 use Rattle.book_model.specs.Sealed.{the_book, IsSealed}
-use Rattle.book_model.specs.Conditions.{places, world_of}
-use Rattle.term_eval.specs.NodeState.{state_at, AreMarked}
-use Rattle.term_eval.specs.Asked.{Asks}
+use Rattle.book_model.specs.Conditions.{places}
 use Rattle.term_eval.specs.Woken.{Operand, operands, differ, turned, moved}
 use Rattle.term_eval.specs.Woken.Operand.{value, phase, activity, key, health}
-use Rattle.term_eval.proofs.NodeMarks.{stand_marked, mark_stays}
 use Rattle.watch_lists.specs.Naming.{IsOperand, operand_number}
 use Rattle.watch_lists.proofs.Scope.{any_same}
-use Rattle.wakes.specs.Marks.{is_marked}
-use Rattle.fwc_lane.specs.declared.terms.Terms.{Terms}
-use Rattle.fwc_lane.specs.Waking.{sizes_in, HasWoken}
-use Rattle.fwc_lane.specs.Conditions.{HalfStepped, TellsMoved, known_world, BookHalf}
-use Rattle.fwc_lane.proofs.FlagSteps.{left-false}
+use Rattle.fwc_lane.specs.Waking.{sizes_in}
+use Rattle.fwc_lane.specs.Conditions.{TellsMoved, known_world}
 use Rattle.std.proofs.Math.Bool.{and-false, and-true, or-false}
-use Rattle.condition_codes.specs.Places.{nodes_before}
-use Rattle.fwc_lane.proofs.Askers.{one-of, asks-operand}
-use Rattle.fwc_lane.proofs.Hitting.{any-or}
+use Rattle.fwc_lane.proofs.Askers.{asks-operand}
 use Rattle.fwc_lane.proofs.NamesWithin.{names-within}
-
--- ---- more is marked
-
-or-swap : (a b c : Bool) → ((a || b) || c) ≡ ((a || c) || b)
-or-swap true b c = refl
-or-swap false true true = refl
-or-swap false true false = refl
-or-swap false false true = refl
-or-swap false false false = refl
-
-pub half-more : (ps : List Placed) (worlds : ℕ → World) (hit hit' : Operand → Bool) (k i visited : ℕ) (t new : Terms) (more : Placed → Bool)
-    → new ≡ record t { woken = new.woken; nodes = new.nodes } → AreMarked t.nodes new.nodes
-    → ((j : ℕ) (p : Placed) → slice_get ps j ≡ Some p → is_marked new.woken j ≡ (is_marked t.woken j || more p))
-    → ((h : ℕ) → k ≡ suc h → (j : ℕ) (p : Placed) → slice_get ps j ≡ Some p → list_any hit' (operands p.tree) ≡ (list_any hit (operands p.tree) || more p))
-    → ((h : ℕ) → k ≡ suc h → (j : ℕ) (p : Placed) → slice_get ps j ≡ Some p → (n : ℕ) (x : Operand) → Asks p.tree n x → hit' x ≡ true
-    → (hit x ≡ true) ⊎ ((state_at new.nodes (nodes_before ps j + n)).wake ≡ 0))
-    → HalfStepped ps worlds hit k i visited t → HalfStepped ps worlds hit' k i visited new
-half-more ps worlds hit hit' k i visited t new more rest nodes marked hits notes half = subst (HalfStepped ps worlds hit' k i visited) (sym rest) record {
-  stepped = λ j p lt is.
-      let was = half.stepped j p lt is in (record {
-        stands = was.stands;
-        nodes = stand_marked (worlds j) (suc k) p.tree (nodes_before ps j) t.nodes new.nodes nodes was.nodes;
-        told = was.told;
-        next = was.next;
-      });
-  left = λ j p le is.
-      let was = half.left j p le is in (record {
-        short = was.short;
-        stands = was.stands;
-        nodes = stand_marked (worlds j) k p.tree (nodes_before ps j) t.nodes new.nodes nodes was.nodes;
-        first = λ e. marked j p is ∙ ap (λ b. b || more p) (was.first e);
-        later = λ h e.
-            let own = was.later h e in (record {
-              due = own.due;
-              told = own.told;
-              next = own.next;
-              marks = marked j p is ∙ ap (λ b. b || more p) own.marks ∙ or-swap (list_any hit (operands p.tree)) (eqb own.due (suc h)) (more p) ∙ ap (λ b. b || eqb own.due (suc h)) (sym (hits h e j p is));
-              kept = λ off. own.kept (left-false (is_marked t.woken j) (more p) (sym (marked j p is) ∙ off));
-              noted = λ n x asks on. elim (notes h e j p is n x asks on) [
-                | inl before ↦ mark_stays t.nodes new.nodes (nodes_before ps j + n) nodes (own.noted n x asks before)
-                | inr now ↦ now
-              ];
-            });
-      });
-  counted = half.counted;
-}
 
 -- ---- what moved of what is known
 
@@ -146,25 +91,7 @@ module _ (b : Book) (m : ℕ → Moment) where
   all-move k (health c) at = refl
   all-move k (activity i) at = ap (λ (p : Signal). turned p k) (known-at b m alerts i (λ j. false) at)
 
--- ---- in a book
-
-module _ (d : Draft) (sealed : IsSealed d) (m : ℕ → Moment) (k i known visited : ℕ) (t new : Terms) (hit : ℕ → Bool) (wakes : HasWoken (the_book d) hit t new)
-    (moves : (h : ℕ) → k ≡ suc h → (x : Operand) → IsOperand (sizes_in (the_book d)) x
-    → moved (known_world (the_book d) m (suc known)) k x ≡ (moved (known_world (the_book d) m known) k x || hit (operand_number (sizes_in (the_book d)) x)))
-    (half : BookHalf (the_book d) m k i known visited t) where
-  pub more-known : BookHalf (the_book d) m k i (suc known) visited new
-  more-known =
-      let b = the_book d in
-      half-more (places b) (world_of b m) (moved (known_world b m known) k) (moved (known_world b m (suc known)) k) k i visited t new
-      (λ p. list_any (λ x. hit (operand_number (sizes_in b) x)) (operands p.tree)) wakes.rest wakes.nodes wakes.terms
-      (λ h e j p is.
-      any_same (sizes_in b) (moved (known_world b m (suc known)) k) (λ x. moved (known_world b m known) k x || hit (operand_number (sizes_in b) x)) (moves h e) p.tree (names-within d sealed j p is)
-      ∙ any-or (moved (known_world b m known) k) (λ x. hit (operand_number (sizes_in b) x)) (operands p.tree))
-      (λ h e j p is n x asks on. elim (one-of _ _ (sym (moves h e x (asks-operand (sizes_in b) p.tree (names-within d sealed j p is) n x asks)) ∙ on)) [
-        | inl was ↦ inl was
-        | inr now ↦ inr (wakes.noted j p is n x asks now)
-      ])
-      half
+-- ---- what is known of a condition's world
 
 -- a line or a memo, for which all is known
 pub rest-tells : (d : Draft) (sealed : IsSealed d) (m : ℕ → Moment) (k j : ℕ) (p : Placed) → slice_get (places (the_book d)) j ≡ Some p

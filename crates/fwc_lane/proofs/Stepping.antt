@@ -1,14 +1,13 @@
--- One condition more is stepped: asked where it is woken, and left as it is where it isn't. The others, whose slots are their
--- own, are as they were.
+-- One condition more is stepped: run where it may turn, and left as it is where it doesn't. The others, whose nodes and slots are
+-- their own, are as they were.
 use Rattle.std.proofs.Common.{◌≡◌, ◌≢◌, ℕ, zero, suc, ◌+◌, ◌-◌, ◌^◌, ◌<◌, ◌≤◌, min, Bool, true, false, not, ◌&&◌, ◌||◌, cond, List, length, slice_get, slice_index, get_or, set, Some, AllPairs, refl, sym, ap, subst, ◌∙◌, inl, inr, arith, eqb}
 use Rattle.std.specs.Option.{option_map_or}
 use Rattle.std.proofs.Math.Nat.{eq-or-lt_of_le}
 use Rattle.std.proofs.lemmas.List.{get_or-set_same, get_or-set_other}
-use Rattle.std.proofs.lemmas.Option.{slice_get_within, get_or_from_slice_get}
+use Rattle.std.proofs.lemmas.Option.{slice_get_within}
 use Rattle.ecam_spec.specs.Book.{Book}
 use Rattle.ecam_spec.specs.Term.{World, holds}
 use Rattle.ecam_spec.specs.TermSize.{Placed, EndsBefore, slots, nodes}
-use Rattle.ecam_spec.specs.TermNames.{IsWithin}
 use Rattle.book_model.specs.Conditions.{places}
 use Rattle.book_model.proofs.ConditionRanges.{range}
 use Rattle.term_eval.specs.declared.env.Env.{Env}
@@ -16,38 +15,33 @@ use Rattle.term_eval.specs.declared.code.Step.{Step}
 use Rattle.term_eval.specs.Code.{IsCode, IsReady}
 use Rattle.term_eval.specs.CellWords.{cell_at}
 use Rattle.term_eval.specs.CellState.{Stand}
-use Rattle.term_eval.specs.declared.nodes.NodeState.{NodeState}
-use Rattle.term_eval.specs.NodeState.{state_at, NodesStand}
-use Rattle.term_eval.specs.Noted.{Noted, WillNote}
+use Rattle.term_eval.specs.NodeState.{NodesWait, NodesStand, Within, first_wake}
+use Rattle.term_eval.specs.Asked.{heard}
 use Rattle.term_eval.specs.Due.{staying, IsDue}
 use Rattle.term_eval.specs.Woken.{Operand, woken, moved}
 use Rattle.term_eval.proofs.Frames.{Stand-same}
-use Rattle.term_eval.proofs.Later.{woken_is, rests_holds, rests_stands, rests_due}
-use Rattle.term_eval.proofs.NodeRest.{rests_nodes}
-use Rattle.term_eval.proofs.StateFrames.{NodesStand-same}
-use Rattle.term_eval.proofs.Noting.{moved_noted}
+use Rattle.term_eval.proofs.Later.{woken_is}
+use Rattle.term_eval.proofs.Unstirred.{unstirred-truth, unstirred-nodes, unstirred-cells, unstirred-due}
 use Rattle.wakes.specs.Marks.{is_marked}
 use Rattle.condition_codes.specs.Places.{nodes_before}
 use Rattle.fwc_lane.specs.declared.terms.Terms.{Terms}
 use Rattle.fwc_lane.specs.TermsFit.{TermsFit}
 use Rattle.fwc_lane.specs.Visits.{nodes_woken, visits_below}
 use Rattle.fwc_lane.proofs.Askers.{nodes-apart}
-use Rattle.fwc_lane.specs.Conditions.{IsAsked, IsLeft, HalfStepped, TellsMoved, StepsTerm, StepsLine}
-
--- of two conditions the earlier ends before the later begins
-ends-before : (ps : List Placed) (i j : ℕ) (p q : Placed) → AllPairs EndsBefore ps → i < j → slice_get ps i ≡ Some p → slice_get ps j ≡ Some q → EndsBefore p q
-ends-before ps i j p q apart lt here there =
-    subst (λ r. EndsBefore r q) (get_or_from_slice_get ps i p p here)
-    (subst (EndsBefore (get_or ps i p)) (get_or_from_slice_get ps j q p there) (apart i j p lt (slice_get_within ps j q there)))
+use Rattle.fwc_lane.proofs.Hears.{waits-by, heard-same}
+use Rattle.fwc_lane.proofs.NodeFrames.{waits-same, wake-same, ends-before}
+use Rattle.fwc_lane.specs.Conditions.{IsAsked, IsLeft, IsWaiting, HalfStepped, TellsMoved, StepsTerm, StepsLine}
 
 -- the code under a condition's number can be run
-pub is-ready : (b : Book) (t : Terms) (i : ℕ) (p : Placed) (env : Env) (steps : List Step) (start : ℕ) → TermsFit b t → slice_get (places b) i ≡ Some p → IsWithin (length env.values.now) (length env.active.now) p.tree
-    → IsCode p.tree p.at steps → start ≡ nodes_before (places b) i → IsReady env steps t.cells.slots t.nodes p.tree p.at start
-is-ready b t i p env steps start fits here within code at = record {
-  code = code;
+pub is-ready : (b : Book) (t : Terms) (i : ℕ) (p : Placed) (steps : List Step) (start : ℕ) → TermsFit b t → slice_get (places b) i ≡ Some p
+    → IsCode p.tree p.at steps → start ≡ nodes_before (places b) i → IsReady steps t.cells t.nodes p.tree p.at start
+is-ready b t i p steps start fits here code at = record {
+  held = record {
+    code = code;
+    nodes = omega (arith, fits.states, nodes-apart (places b) i (length (places b)) p (slice_get_within (places b) i p here) here, at);
+    slots = omega (arith, fits.wakes, range b i p here);
+  };
   range = omega (arith, fits.slots, range b i p here);
-  room = omega (arith, fits.nodes, nodes-apart (places b) i (length (places b)) p (slice_get_within (places b) i p here) here, at);
-  names = within;
 }
 
 -- a condition that is left is marked where the moment wakes it
@@ -57,24 +51,48 @@ marked-is w hit (suc h) j start p t small tells left =
     let is = left.later h refl in
     woken_is w h p.tree is.due small is.next ∙ ap (λ b. b || eqb is.due (suc h)) (sym tells.any) ∙ sym is.marks
 
--- one that isn't is as it was asked
-pub rest-asked : (w : World) (hit : Operand → Bool) (k j start : ℕ) (p : Placed) (t : Terms) → k < 2 ^ 63 → TellsMoved hit w k p → IsLeft w hit k j start p t → is_marked t.woken j ≡ false
+-- of the nodes of a condition that waits, those have been asked whose operand moved
+pub moved-asked : (w : World) (hit : Operand → Bool) (k h j start : ℕ) (p : Placed) (t : Terms) → TellsMoved hit w k p → IsWaiting w hit h j start p t
+    → NodesWait w h (heard (moved w k) p.tree) p.tree p.at start t.nodes
+moved-asked w hit k h j start p t tells is =
+    waits-by w h (heard hit p.tree) (heard (moved w k) p.tree) p.tree p.at start t.nodes
+    (heard-same (moved w k) hit p.tree (λ i x asks. sym (tells.each i x asks))) is.nodes
+
+-- one that isn't stirred is as it was asked
+pub calm-asked : (w : World) (hit : Operand → Bool) (k j start : ℕ) (p : Placed) (t : Terms) → k < 2 ^ 63 → TellsMoved hit w k p → IsLeft w hit k j start p t → is_marked t.stirred j ≡ false
     → IsAsked w k j start p t
-rest-asked w hit zero j start p t small tells left off = absurd (let w : ⊥ = (let clash : true ≡ false = sym (left.first refl) ∙ off in cc) in w)
-rest-asked w hit (suc h) j start p t small tells left off =
+calm-asked w hit zero j start p t small tells left off = absurd (let w : ⊥ = (let clash : true ≡ false = sym (left.stirs refl) ∙ off in cc) in w)
+calm-asked w hit (suc h) j start p t small tells left off =
     let is = left.later h refl in
-    let rests : woken w p.tree (suc h) ≡ false = marked-is w hit (suc h) j start p t small tells left ∙ off in
+    let calm = is.calm off in
+    let waits = moved-asked w hit (suc h) h j start p t tells is in
+    let later : suc h < first_wake t.nodes.wakes p.at (slots p.tree) = subst (λ n. suc h < n) (sym calm.wakes) calm.later in
+    let wakes : slice_index t.dues j ≡ first_wake t.nodes.wakes p.at (slots p.tree) = is.kept off ∙ sym calm.wakes in
     record {
-      stands = rests_stands w p.tree h p.at t.cells.slots rests left.stands;
-      nodes = rests_nodes w p.tree h start t.nodes small left.short rests left.nodes;
-      told = is.told ∙ sym (rests_holds w p.tree h rests);
-      next = subst (IsDue (staying w (suc h)) p.tree (suc h)) (sym (is.kept off)) (rests_due w p.tree h is.due small rests is.next);
+      stands = unstirred-cells w h p.tree p.at start t.nodes small left.short waits later t.cells.slots left.stands;
+      nodes = unstirred-nodes w h p.tree p.at start t.nodes small left.short waits later;
+      wakes = wakes;
+      told = is.told ∙ sym calm.told ∙ sym (unstirred-truth w h p.tree p.at start t.nodes small left.short waits later);
+      next = subst (IsDue (staying w (suc h)) p.tree (suc h)) (sym wakes) (unstirred-due w h p.tree p.at start t.nodes small left.short waits later);
     }
 
--- and holds where it held
+-- and so is one that isn't woken
+not-stirred : (w : World) (hit : Operand → Bool) (k j start : ℕ) (p : Placed) (t : Terms) → IsLeft w hit k j start p t → is_marked t.woken j ≡ false → is_marked t.stirred j ≡ false
+not-stirred w hit zero j start p t left off = absurd (let w : ⊥ = (let clash : true ≡ false = sym (left.first refl) ∙ off in cc) in w)
+not-stirred w hit (suc h) j start p t left off = (left.later h refl).stirs off
+
+pub rest-asked : (w : World) (hit : Operand → Bool) (k j start : ℕ) (p : Placed) (t : Terms) → k < 2 ^ 63 → TellsMoved hit w k p → IsLeft w hit k j start p t → is_marked t.woken j ≡ false
+    → IsAsked w k j start p t
+rest-asked w hit k j start p t small tells left off = calm-asked w hit k j start p t small tells left (not-stirred w hit k j start p t left off)
+
+-- which holds where it held
+pub calm-holds : (w : World) (hit : Operand → Bool) (k h j start : ℕ) (p : Placed) (t : Terms) → k < 2 ^ 63 → k ≡ suc h → TellsMoved hit w k p → IsLeft w hit k j start p t → is_marked t.stirred j ≡ false
+    → holds w p.tree h ≡ holds w p.tree k
+calm-holds w hit k h j start p t small e tells left off = sym (left.later h e).told ∙ (calm-asked w hit k j start p t small tells left off).told
+
 pub rest-holds : (w : World) (hit : Operand → Bool) (k h j start : ℕ) (p : Placed) (t : Terms) → k < 2 ^ 63 → k ≡ suc h → TellsMoved hit w k p → IsLeft w hit k j start p t → is_marked t.woken j ≡ false
     → holds w p.tree h ≡ holds w p.tree k
-rest-holds w hit k h j start p t small e tells left off = sym (left.later h e).told ∙ (rest-asked w hit k j start p t small tells left off).told
+rest-holds w hit k h j start p t small e tells left off = calm-holds w hit k h j start p t small e tells left (not-stirred w hit k j start p t left off)
 
 module _ (ps : List Placed) (worlds : ℕ → World) (k i : ℕ) (p : Placed) (here : slice_get ps i ≡ Some p) where
   -- what the condition adds to the visits
@@ -106,13 +124,56 @@ module _ (ps : List Placed) (worlds : ℕ → World) (k i : ℕ) (p : Placed) (h
         counted = let more = below-next false rests in omega (arith, more, half.counted);
       }
 
-  -- what is asked
+  -- what is woken and isn't stirred: its nodes are counted
+  module _ (old new : Terms) (counted : new ≡ record old { cells = new.cells }) (slots_same : new.cells.slots ≡ old.cells.slots) where
+    asked-too : (j : ℕ) (q : Placed) → IsAsked (worlds j) k j (nodes_before ps j) q old → IsAsked (worlds j) k j (nodes_before ps j) q new
+    asked-too j q was = subst (IsAsked (worlds j) k j (nodes_before ps j) q) (sym counted) record {
+      stands = subst (Stand (worlds j) (suc k) q.tree q.at) (sym slots_same) was.stands;
+      nodes = was.nodes;
+      wakes = was.wakes;
+      told = was.told;
+      next = was.next;
+    }
+
+    left-too : (hit : Operand → Bool) (j : ℕ) (q : Placed) → IsLeft (worlds j) hit k j (nodes_before ps j) q old → IsLeft (worlds j) hit k j (nodes_before ps j) q new
+    left-too hit j q was = subst (IsLeft (worlds j) hit k j (nodes_before ps j) q) (sym counted) record {
+      short = was.short;
+      stands = subst (Stand (worlds j) k q.tree q.at) (sym slots_same) was.stands;
+      first = was.first;
+      stirs = was.stirs;
+      later = λ h e.
+          let is = was.later h e in (record {
+            due = is.due;
+            told = is.told;
+            next = is.next;
+            marks = is.marks;
+            nodes = is.nodes;
+            stirs = is.stirs;
+            kept = is.kept;
+            calm = λ off. (let calm = is.calm off in (record { later = calm.later; wakes = calm.wakes; told = calm.told }));
+          });
+    }
+
+    pub half-calm : (hit : Operand → Bool) (visited : ℕ) → k < 2 ^ 63 → TellsMoved hit (worlds i) k p → is_marked old.woken i ≡ true → is_marked old.stirred i ≡ false
+        → new.cells.visits ≡ min (old.cells.visits + nodes p.tree) (2 ^ 64 - 1) → HalfStepped ps worlds hit k i visited old → HalfStepped ps worlds hit k (suc i) visited new
+    half-calm hit visited small tells on off visits half =
+        let mine = half.left i p (omega arith) here in
+        let wakes : woken (worlds i) p.tree k ≡ true = marked-is (worlds i) hit k i (nodes_before ps i) p old small tells mine ∙ on in
+        record {
+          stepped = λ j q lt is. elim (eq-or-lt_of_le (let le : j ≤ i = omega arith in le)) [
+            | inl same ↦ own-at new j q same is (asked-too i p (calm-asked (worlds i) hit k i (nodes_before ps i) p old small tells mine off))
+            | inr less ↦ asked-too j q (half.stepped j q less is)
+          ];
+          left = λ j q le is. left-too hit j q (half.left j q (omega arith) is);
+          counted = let more = below-next true wakes in omega (arith, more, half.counted, visits);
+        }
+
+  -- what is run
   module _ (apart : AllPairs EndsBefore ps) (old new : Terms) (truth : Bool) (due : ℕ)
       (before : (j : ℕ) → j < p.at → cell_at new.cells.slots j ≡ cell_at old.cells.slots j)
       (behind : (j : ℕ) → p.at + slots p.tree ≤ j → cell_at new.cells.slots j ≡ cell_at old.cells.slots j)
-      (before_first : (j : ℕ) → j < nodes_before ps i → state_at new.nodes j ≡ state_at old.nodes j)
-      (behind_last : (j : ℕ) → nodes_before ps i + nodes p.tree ≤ j → state_at new.nodes j ≡ state_at old.nodes j)
-      (truths : new.truths.items ≡ set old.truths.items i truth) (dues : new.dues ≡ set old.dues i due) (marks : new.woken ≡ old.woken)
+      (within : Within (nodes_before ps i) (nodes_before ps i + nodes p.tree) p.at (p.at + slots p.tree) old.nodes new.nodes)
+      (truths : new.truths.items ≡ set old.truths.items i truth) (dues : new.dues ≡ set old.dues i due) (marks : new.woken ≡ old.woken) (stirs : new.stirred ≡ old.stirred)
       (visits : new.cells.visits ≡ min (old.cells.visits + nodes p.tree) (2 ^ 64 - 1)) where
     truth-other : (j : ℕ) → j ≢ i → get_or new.truths.items j false ≡ get_or old.truths.items j false
     truth-other j ne = ap (λ ys. get_or ys j false) truths ∙ get_or-set_other old.truths.items i j truth false ne
@@ -125,9 +186,13 @@ module _ (ps : List Placed) (worlds : ℕ → World) (k i : ℕ) (p : Placed) (h
         let ends : q.at + slots q.tree ≤ p.at = ends-before ps j i q p apart lt is here in
         let below : nodes_before ps j + nodes q.tree ≤ nodes_before ps i = nodes-apart ps j i q lt is in
         let ne : j ≢ i = omega arith in
+        let wakes : first_wake new.nodes.wakes q.at (slots q.tree) ≡ first_wake old.nodes.wakes q.at (slots q.tree) =
+        wake-same old.nodes.wakes new.nodes.wakes q.at (slots q.tree) (λ s low high. within.slots_before s (omega (arith, high, ends))) in
         record {
           stands = Stand-same (worlds j) (suc k) q.tree q.at old.cells.slots new.cells.slots (record { same = λ n low high. before n (omega arith) }) asked.stands;
-          nodes = NodesStand-same (worlds j) (suc k) old.nodes new.nodes q.tree (nodes_before ps j) (record { same = λ n low high. before_first n (omega arith) }) asked.nodes;
+          nodes = waits-same (worlds j) k (λ n. false) q.tree q.at (nodes_before ps j) old.nodes new.nodes
+              (λ n low high. within.before n (omega (arith, high, below))) (λ s low high. within.slots_before s (omega (arith, high, ends))) asked.nodes;
+          wakes = due-other j ne ∙ asked.wakes ∙ sym wakes;
           told = truth-other j ne ∙ asked.told;
           next = subst (IsDue (staying (worlds j) k) q.tree k) (sym (due-other j ne)) asked.next;
         }
@@ -138,33 +203,47 @@ module _ (ps : List Placed) (worlds : ℕ → World) (k i : ℕ) (p : Placed) (h
         let above : nodes_before ps i + nodes p.tree ≤ nodes_before ps j = nodes-apart ps i j p lt here in
         let ne : j ≢ i = omega arith in
         let same : is_marked new.woken j ≡ is_marked old.woken j = ap (λ ws. is_marked ws j) marks in
+        let stays : is_marked new.stirred j ≡ is_marked old.stirred j = ap (λ ws. is_marked ws j) stirs in
+        let wakes : first_wake new.nodes.wakes q.at (slots q.tree) ≡ first_wake old.nodes.wakes q.at (slots q.tree) =
+        wake-same old.nodes.wakes new.nodes.wakes q.at (slots q.tree) (λ s low high. within.slots_behind s (omega (arith, low, ends))) in
         record {
           short = left.short;
           stands = Stand-same (worlds j) k q.tree q.at old.cells.slots new.cells.slots (record { same = λ n low high. behind n (omega arith) }) left.stands;
-          nodes = NodesStand-same (worlds j) k old.nodes new.nodes q.tree (nodes_before ps j) (record { same = λ n low high. behind_last n (omega arith) }) left.nodes;
           first = λ e. same ∙ left.first e;
+          stirs = λ e. stays ∙ left.stirs e;
           later = λ h e.
               let was = left.later h e in (record {
                 due = was.due;
                 told = truth-other j ne ∙ was.told;
                 next = was.next;
                 marks = same ∙ was.marks;
-                kept = λ off. due-other j ne ∙ was.kept (sym same ∙ off);
-                noted = λ n x asks on. ap (λ (s : NodeState). s.wake) (behind_last (nodes_before ps j + n) (omega arith)) ∙ was.noted n x asks on;
+                nodes = waits-same (worlds j) h (heard hit q.tree) q.tree q.at (nodes_before ps j) old.nodes new.nodes
+                    (λ n low high. within.behind n (omega (arith, low, above))) (λ s low high. within.slots_behind s (omega (arith, low, ends))) was.nodes;
+                stirs = λ off. stays ∙ was.stirs (sym same ∙ off);
+                kept = λ off. due-other j ne ∙ was.kept (sym stays ∙ off);
+                calm = λ off.
+                    let calm = was.calm (sym stays ∙ off) in (record {
+                      later = calm.later;
+                      wakes = wakes ∙ calm.wakes;
+                      told = ap (λ s. s.told) (within.behind (nodes_before ps j) above) ∙ calm.told;
+                    });
               });
         }
 
     pub half-step : (hit : Operand → Bool) (visited : ℕ) → k < 2 ^ 63 → TellsMoved hit (worlds i) k p → is_marked old.woken i ≡ true → i < length old.truths.items → i < length old.dues
-        → Stand (worlds i) (suc k) p.tree p.at new.cells.slots × NodesStand (worlds i) (suc k) p.tree (nodes_before ps i) new.nodes → truth ≡ holds (worlds i) p.tree k → IsDue (staying (worlds i) k) p.tree k due
+        → Stand (worlds i) (suc k) p.tree p.at new.cells.slots → NodesStand (worlds i) k p.tree p.at (nodes_before ps i) new.nodes → due ≡ first_wake new.nodes.wakes p.at (slots p.tree)
+        → truth ≡ holds (worlds i) p.tree k → IsDue (staying (worlds i) k) p.tree k due
         → HalfStepped ps worlds hit k i visited old → HalfStepped ps worlds hit k (suc i) visited new
-    half-step hit visited small tells on room room' stands told next half =
+    half-step hit visited small tells on room room' stands kept first told next half =
         let mine = half.left i p (omega arith) here in
         let wakes : woken (worlds i) p.tree k ≡ true = marked-is (worlds i) hit k i (nodes_before ps i) p old small tells mine ∙ on in
+        let own : slice_index new.dues i ≡ due = ap (λ ys. slice_index ys i) dues ∙ get_or-set_same old.dues i due 0 room' in
         let asked : IsAsked (worlds i) k i (nodes_before ps i) p new = record {
-          stands = stands.0;
-          nodes = stands.1;
+          stands = stands;
+          nodes = kept;
+          wakes = own ∙ first;
           told = ap (λ ys. get_or ys i false) truths ∙ get_or-set_same old.truths.items i truth false room ∙ told;
-          next = subst (IsDue (staying (worlds i) k) p.tree k) (sym (ap (λ ys. slice_index ys i) dues ∙ get_or-set_same old.dues i due 0 room')) next;
+          next = subst (IsDue (staying (worlds i) k) p.tree k) (sym own) next;
         } in
         record {
           stepped = λ j q lt is. elim (eq-or-lt_of_le (let le : j ≤ i = omega arith in le)) [
@@ -174,12 +253,6 @@ module _ (ps : List Placed) (worlds : ℕ → World) (k i : ℕ) (p : Placed) (h
           left = λ j q le is. later hit j q (omega arith) is (half.left j q (omega arith) is);
           counted = let more = below-next true wakes in omega (arith, more, half.counted, visits);
         }
-
--- where the operands that pass the test are those that moved, each atom that may have turned is marked
-pub will-note : (w : World) (hit : Operand → Bool) (k j start : ℕ) (p : Placed) (t : Terms) → TellsMoved hit w k p → IsLeft w hit k j start p t → WillNote w k p.tree start t.nodes
-will-note w hit k j start p t tells left h e =
-    subst (λ n. Noted w n p.tree start t.nodes) (sym e)
-    (moved_noted w h p.tree start t.nodes (λ n x asks moves. (left.later h e).noted n x asks (tells.each n x asks ∙ ap (λ m. moved w m x) e ∙ moves)))
 
 -- one line more
 pub line-steps : (ps : List Placed) (env : Env) (k i : ℕ) (p q : Placed) (old mid new : Terms) (when done answer : Bool) → StepsTerm ps env k i p old mid when → StepsTerm ps env k (suc i) q mid new done

@@ -19,8 +19,10 @@ use Rattle.param_table.specs.TableState.{value_before}
 use Rattle.ecam_spec.specs.Screen.{cockpit, line_stands}
 use Rattle.ecam_kinds.specs.declared.phase.Phase.{Phase}
 use Rattle.book_model.specs.Told.{TellsOf}
-use Rattle.book_model.specs.Conditions.{world_of}
+use Rattle.book_model.specs.Conditions.{places, world_of}
 use Rattle.term_eval.specs.Due.{staying, IsDue}
+use Rattle.term_eval.specs.NodeState.{NodesStand}
+use Rattle.condition_codes.specs.Places.{nodes_before}
 use Rattle.fwc_lane.specs.declared.terms.Terms.{Terms}
 use Rattle.fwc_lane.specs.Conditions.{TermsStand, BookHalf, AllStepped}
 use Rattle.crew_marks.specs.CrewMarks.{CrewMarks}
@@ -113,7 +115,8 @@ terms-after b m k visited t params keys kept one two same all came =
     let back : (h : ℕ) → suc k ≡ suc h → k ≡ h = λ h e. omega (arith, e) in
     record {
       cells = λ j p is. (all.asked j p is).stands;
-      nodes = λ j p is. (all.asked j p is).nodes;
+      nodes = λ h e j p is. subst (λ n. NodesStand (world_of b m j) n p.tree p.at (nodes_before (places b) j) t.nodes) (back h e) (all.asked j p is).nodes;
+      wakes = λ h e j p is. (all.asked j p is).wakes;
       told = λ h e j p is. (all.asked j p is).told ∙ ap (holds (world_of b m j) p.tree) (back h e);
       next = λ h e j p is. subst (λ n. IsDue (staying (world_of b m j) n) p.tree n (slice_index t.dues j)) (back h e) (all.asked j p is).next;
       keys = λ h e x at. same x at ∙ came.strokes.pressed x at ∙ ap (pressed (strokes_in b m) x) (back h e);

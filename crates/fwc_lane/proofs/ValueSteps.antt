@@ -1,5 +1,5 @@
 -- The values of a moment, by those of the moment before it.
-use Rattle.std.proofs.Common.{◌≡◌, ◌≢◌, ℕ, zero, suc, ◌-◌, ◌<◌, ◌≤◌, false, not, ◌&&◌, ◌||◌, ℤ, pos, ◌≤ℤ◌, List, length, get_or, replicate, Option, Some, None, IfSome, refl, sym, ap, subst, ◌∙◌, inl, inr, arith, eqb}
+use Rattle.std.proofs.Common.{◌≡◌, ◌≢◌, ℕ, zero, suc, ◌-◌, ◌<◌, ◌≤◌, true, false, not, ◌&&◌, ◌||◌, ℤ, pos, ◌≤ℤ◌, List, length, get_or, replicate, Option, Some, None, IfSome, refl, sym, ap, subst, ◌∙◌, inl, inr, arith, eqb}
 use Rattle.std.specs.Prelude.{unwrap_or}
 use Rattle.std.specs.Option.{option_eq}
 use Rattle.std.specs.Ordering.{int_eq}
@@ -15,6 +15,7 @@ use Rattle.ecam_spec.specs.Value.{BusWord, value}
 use Rattle.ecam_spec.specs.Situation.{parameter_at}
 use Rattle.param_table.specs.TableState.{IsValueOf, value_before}
 use Rattle.system_display.specs.Pages.{IsShort, AreShort}
+use Rattle.term_eval.specs.declared.reading.Reading.TheVariants.{Value}
 use Rattle.fwc_lane.specs.Given.{AreBefore}
 use Rattle.fwc_lane.specs.Waking.{ranged, value_turned}
 use Rattle.fwc_lane.proofs.Ranges.{ranged-in, ranged-above}
@@ -82,6 +83,13 @@ module _ (n p : ℕ) (was before after : List (Option ℤ)) (there : p < n) (kep
     | inr ne ↦
         apart o ne
         ∙ sym (ap (λ x. ranged 0 n (value_turned was before) o || (value_turned was after p && x)) (ne_eqb o p ne) ∙ ap (λ x. ranged 0 n (value_turned was before) o || x) (and-false (value_turned was after p)) ∙ or-false (ranged 0 n (value_turned was before) o))
+  ]
+
+  -- what turned before reads as it did
+  pub read-before : (o : ℕ) → ranged 0 n (value_turned was before) o ≡ true → Value (get_or after o None) ≡ Value (get_or before o None)
+  read-before o on = elim (cases_eq o p) [
+    | inl e ↦ absurd (let w : ⊥ = (let clash : false ≡ true = sym (old-off o e) ∙ on in cc) in w)
+    | inr ne ↦ ap Value (others o ne)
   ]
 
 -- the value that may be another is one of these

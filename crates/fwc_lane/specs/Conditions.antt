@@ -5,7 +5,7 @@ use Rattle.ecam_spec.specs.declared.kinds.Key.{Key}
 use Rattle.ecam_spec.specs.Keys.{IsKey, pressed}
 use Rattle.ecam_spec.specs.Book.{Book, Line, Memo}
 use Rattle.ecam_spec.specs.BookTerms.{lines_of}
-use Rattle.ecam_spec.specs.TermSize.{Placed, EndsBefore}
+use Rattle.ecam_spec.specs.TermSize.{Placed, slots, EndsBefore}
 use Rattle.ecam_spec.specs.Term.{World, holds}
 use Rattle.ecam_spec.specs.History.{Moment}
 use Rattle.ecam_spec.specs.Situation.{flight, world, condition_in, phase_in, strokes_in, computer_up, flight_world, alert_world, known_below}
@@ -18,8 +18,8 @@ use Rattle.term_eval.specs.declared.env.Env.{Env}
 use Rattle.term_eval.specs.Shown.{Shows}
 use Rattle.term_eval.specs.CellState.{Stand}
 use Rattle.term_eval.specs.Code.{IsShort}
-use Rattle.term_eval.specs.NodeState.{state_at, NodesStand}
-use Rattle.term_eval.specs.Asked.{Asks}
+use Rattle.term_eval.specs.NodeState.{state_at, NodesWait, NodesStand, first_wake}
+use Rattle.term_eval.specs.Asked.{Asks, heard}
 use Rattle.term_eval.specs.Due.{staying, IsDue}
 use Rattle.term_eval.specs.Woken.{Operand, operands, moved}
 use Rattle.wakes.specs.Marks.{is_marked}
@@ -37,26 +37,36 @@ use Rattle.fwc_lane.specs.Visits.{visits_below, visits}
 -- its truth and when it turns are noted
 pub record IsAsked (w : World) (k j start : ℕ) (p : Placed) (t : Terms) : Type 0 where
   pub stands : Stand w (suc k) p.tree p.at t.cells.slots
-  pub nodes : NodesStand w (suc k) p.tree start t.nodes
+  pub nodes : NodesStand w k p.tree p.at start t.nodes
+  pub wakes : slice_index t.dues j ≡ first_wake t.nodes.wakes p.at (slots p.tree)
   pub told : slice_index_or t.truths.items j false ≡ holds w p.tree k
   pub next : IsDue (staying w k) p.tree k (slice_index t.dues j)
 
+-- a condition that isn't stirred in moment h + 1 is due when it was, which is later, and its first node tells what it told
+pub record IsUnstirred (w : World) (h due start : ℕ) (p : Placed) (t : Terms) : Type 0 where
+  pub later : suc h < due
+  pub wakes : first_wake t.nodes.wakes p.at (slots p.tree) ≡ due
+  pub told : (state_at t.nodes.states start).told ≡ holds w p.tree h
+
 -- condition j waits to be asked in moment h + 1: what is noted of it is told of moment h, and it is marked where an operand
--- passes the test or where it is due. Of its nodes those are marked that ask for such an operand
+-- passes the test or where it is due. Of its nodes those have been asked that ask for such an operand, and it is stirred where it
+-- may turn by that
 pub record IsWaiting (w : World) (hit : Operand → Bool) (h j start : ℕ) (p : Placed) (t : Terms) : Type 0 where
   pub due : ℕ
   pub told : slice_index_or t.truths.items j false ≡ holds w p.tree h
   pub next : IsDue (staying w h) p.tree h due
   pub marks : is_marked t.woken j ≡ (list_any hit (operands p.tree) || (due == suc h))
-  pub kept : is_marked t.woken j ≡ false → slice_index t.dues j ≡ due
-  pub noted : (i : ℕ) (x : Operand) → Asks p.tree i x → hit x ≡ true → (state_at t.nodes (start + i)).wake ≡ 0
+  pub nodes : NodesWait w h (heard hit p.tree) p.tree p.at start t.nodes
+  pub stirs : is_marked t.woken j ≡ false → is_marked t.stirred j ≡ false
+  pub kept : is_marked t.stirred j ≡ false → slice_index t.dues j ≡ due
+  pub calm : is_marked t.stirred j ≡ false → IsUnstirred w h due start p t
 
--- condition j hasn't been stepped by moment k yet. In the first moment it is marked, whatever it names
+-- condition j hasn't been stepped by moment k yet. In the first moment it is marked and stirred, whatever it names
 pub record IsLeft (w : World) (hit : Operand → Bool) (k j start : ℕ) (p : Placed) (t : Terms) : Type 0 where
   pub short : IsShort p.tree
   pub stands : Stand w k p.tree p.at t.cells.slots
-  pub nodes : NodesStand w k p.tree start t.nodes
   pub first : k ≡ 0 → is_marked t.woken j ≡ true
+  pub stirs : k ≡ 0 → is_marked t.stirred j ≡ true
   pub later : (h : ℕ) → k ≡ suc h → IsWaiting w hit h j start p t
 
 -- ---- some conditions
@@ -100,11 +110,13 @@ pub record StepsLine (ps : List Placed) (env : Env) (k i : ℕ) (when_at done_at
 -- ---- a book's conditions
 
 module _ (b : Book) (moments : ℕ → Moment) where
-  -- what is kept of them between moments, after k of them. Before the first nothing but the cells and the nodes says anything
+  -- what is kept of them between moments, after k of them. Before the first nothing but the cells says anything
   pub record TermsStand (k : ℕ) (t : Terms) : Type 0 where
     pub cells : (j : ℕ) (p : Placed) → slice_get (places b) j ≡ Some p → Stand (world_of b moments j) k p.tree p.at t.cells.slots
-    pub nodes : (j : ℕ) (p : Placed) → slice_get (places b) j ≡ Some p
-        → NodesStand (world_of b moments j) k p.tree (nodes_before (places b) j) t.nodes
+    pub nodes : (h : ℕ) → k ≡ suc h → (j : ℕ) (p : Placed) → slice_get (places b) j ≡ Some p
+        → NodesStand (world_of b moments j) h p.tree p.at (nodes_before (places b) j) t.nodes
+    pub wakes : (h : ℕ) → k ≡ suc h → (j : ℕ) (p : Placed) → slice_get (places b) j ≡ Some p
+        → slice_index t.dues j ≡ first_wake t.nodes.wakes p.at (slots p.tree)
     pub told : (h : ℕ) → k ≡ suc h → (j : ℕ) (p : Placed) → slice_get (places b) j ≡ Some p
         → slice_index_or t.truths.items j false ≡ holds (world_of b moments j) p.tree h
     pub next : (h : ℕ) → k ≡ suc h → (j : ℕ) (p : Placed) → slice_get (places b) j ≡ Some p

@@ -21,13 +21,15 @@ Watches b w = (d : Draft) × (the_book d ≡ b) × IsWatch d w
 -- Nothing is said of any history
 pub record TermsFit (b : Book) (t : Terms) : Type 0 where
   pub codes : IsCodes b t.codes
-  pub nodes : length t.nodes ≡ nodes_before (places b) (length (places b))
+  pub states : length t.nodes.states ≡ nodes_before (places b) (length (places b))
+  pub wakes : length t.nodes.wakes ≡ slots_in (terms_of b)
   pub askers : IsAskers b t.askers
   pub slots : length t.cells.slots ≡ slots_in (terms_of b)
   pub visits : t.cells.visits ≤ 2 ^ 64 - 1
   pub truths : length t.truths.items ≡ length (places b)
   pub dues : length t.dues ≡ length (places b)
-  pub room : length (places b) ≤ room t.woken
+  pub woken_room : length (places b) ≤ room t.woken
+  pub stirred_room : length (places b) ≤ room t.stirred
   pub watch : Watches b t.watch
 
 -- all that is kept of the moments so far was taken over from another's

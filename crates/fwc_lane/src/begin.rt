@@ -13,14 +13,15 @@ ghost use Rattle.fwc_lane.specs.TermsFit.{TermsFit};
 use crate::strokes::Strokes;
 use crate::terms::Terms;
 use crate::values::read_values;
-use crate::waking::{differ, wake_computers, wake_first, wake_keys};
+use crate::waking::{wake_computers, wake_first, wake_keys};
 use book_model::Book;
 use param_table::Params;
 
 /// Begins the end of moment `now`: reads its values, and marks the conditions that are due, and those that name a value, a
-/// key or a computer that is another than it was. Tells in `turned` which values are, and answers whether some is. Its cost
+/// key or a computer that is another than it was, whose nodes that ask for it are told. Tells in `turned` which values are, and answers whether some is. Its cost
 /// is a look for each 64 parameters, a write of a byte for each, a look at each source of those that may have another value,
-/// two at each key if one is or was pressed, and a write for each condition that names what is another, or is due.
+/// three at each key if one is or was pressed, a write for each condition that names what is another, or is due, and a look at
+/// each node that is told.
 pub fn begin_moment(
     terms: &mut Terms,
     values: &mut Vec<Option<i64>>,
@@ -59,11 +60,15 @@ pub fn begin_moment(
     ensures visits { terms.new.cells.visits ≡ terms.old.cells.visits }
 {
     book.sealed();
-    wake_first(&mut terms.woken, &mut terms.dues, terms.truths.len(), now);
+    wake_first(
+        &mut terms.woken,
+        &mut terms.stirred,
+        &mut terms.dues,
+        terms.truths.len(),
+        now,
+    );
     let any = read_values(values, turned, terms, params, book);
     wake_keys(terms, book, keys);
-    let one = differ(one_up, terms.one_up);
-    let two = differ(two_up, terms.two_up);
-    wake_computers(terms, book, one, two);
+    wake_computers(terms, book, one_up, two_up);
     any
 }

@@ -37,7 +37,7 @@ fn kept_inputs(truths: &[bool]) -> PhaseInputs
 
 /// Steps the six inputs of the phase by moment `now`, where the phase that the environment lends is 1. Where none is woken
 /// they are what they were, for one look at the set of those that are and one at each truth; else the cost is a look at
-/// each, and a look at each node of those that are woken.
+/// each, and what those cost that are woken.
 fn step_inputs(terms: &mut Terms, book: &Book, env: &Env<'_>, now: u64) -> PhaseInputs
     requires fits { TermsFit (the_book book.now) terms.old }
     requires values { length env.now.values.now ≡ length book.now.params.items }
@@ -74,8 +74,7 @@ fn step_inputs(terms: &mut Terms, book: &Book, env: &Env<'_>, now: u64) -> Phase
 
 /// Steps the inputs of the phase, and the phase, by moment `now`, and answers the phase. The environment lends phase 1 and
 /// no alert: the inputs may ask for neither. A phase that is another than it was wakes the conditions that name it. Its cost
-/// is at most two looks at each input, a look at each node of those that are woken, and a write for each condition that
-/// this wakes.
+/// is at most two looks at each input, what those cost that are woken, and a few writes for each condition that this wakes.
 pub fn step_phase(
     terms: &mut Terms,
     state: &mut PhaseState,
@@ -110,6 +109,6 @@ pub fn step_phase(
     let inputs = step_inputs(terms, book, env, now);
     let phase = state.step(&inputs);
     let other = is_other_phase(phase, was);
-    wake_phase(terms, book, other);
+    wake_phase(terms, book, other, phase);
     phase
 }

@@ -20,7 +20,7 @@ use term_eval::Env;
 
 /// Steps all memos by moment `now`: `flags` has, per memo, whether it holds, and before it of the moment before. Answers
 /// whether any flag turned. A memo whose condition isn't woken holds where it held, and isn't looked at. The cost is a look for
-/// each 64 memos, and a look at each node of the conditions that are woken.
+/// each 64 memos, and what the conditions cost that are woken.
 pub fn step_memos(
     terms: &mut Terms,
     flags: &mut Vec<bool>,

@@ -52,7 +52,7 @@ fn stands(when: bool, done: bool) -> bool
 
 /// Steps all lines by moment `now`: `flags` has, per line, whether it stands, and before it of the moment before. Answers
 /// whether any flag turned. Lines of which no condition is woken stand where they stood, and aren't looked at. The cost is a
-/// look for each 64 conditions, a few for each line of which one is woken, and a look at each node of those that are.
+/// look for each 64 conditions, a few for each line of which one is woken, and what those cost that are.
 pub fn step_lines(
     terms: &mut Terms,
     flags: &mut Vec<bool>,

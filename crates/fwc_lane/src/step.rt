@@ -34,8 +34,8 @@ pub struct Stepped {
 }
 
 /// Steps the conditions of the book by moment `now`, in their order: those that are woken, while the others hold where they
-/// held. Its cost is a look at each alert, one for each 64 conditions, a look at each node of the conditions that are woken,
-/// and a write for each that the phase or an alert wakes.
+/// held. Its cost is a look at each alert, one for each 64 conditions, what those cost that are woken, and a few writes for
+/// each that the phase or an alert wakes.
 pub fn step_conditions(
     terms: &mut Terms,
     state: &mut PhaseState,

@@ -4,7 +4,6 @@ ghost use Rattle.ecam_spec.specs.Book as plain;
 ghost use Rattle.book_model.specs.Sealed.{the_book};
 ghost use Rattle.book_model.specs.Conditions.{places};
 ghost use Rattle.term_eval.specs.CellState.{StandForNone};
-ghost use Rattle.term_eval.specs.NodeState.{NodesStandForNone};
 ghost use Rattle.fwc_lane.specs.TermsFit.{TermsFit, TookTerms};
 
 use crate::strokes::Strokes;
@@ -33,6 +32,9 @@ pub struct Terms {
     pub dues: Wakes,
     /// The conditions that the moment that is stepped wakes. Between moments it says nothing.
     pub woken: Marked,
+    /// Those of them that may turn: of which a temporal node is to be looked at, or the first node turned. Between moments it
+    /// says nothing.
+    pub stirred: Marked,
     /// Which conditions name what. Nothing changes it.
     pub watch: Watch,
     /// The keys as they were in the last moment.
@@ -49,17 +51,17 @@ impl Terms {
     pub fn new(alloc: Global, book: &Book) -> Result<Terms, AllocError>
         ensures fits { IfOk result (TermsFit (the_book book.now)) }
         ensures stands { IfOk result (λ t. StandForNone t.cells.slots) }
-        ensures nodes { IfOk result (λ t. NodesStandForNone t.nodes) }
         ensures visits { IfOk result (λ t. t.cells.visits ≡ 0) }
     {
         let count = condition_count(book);
         let codes = Codes::new(alloc, book)?;
-        let nodes = Nodes::new(alloc, codes.count())?;
+        let nodes = Nodes::new(alloc, codes.count(), book.slots())?;
         let askers = Askers::new(alloc, book, &codes)?;
         let cells = Cells::new(alloc, book.slots())?;
         let truths = vec![in alloc; false; count]?;
         let dues = Wakes::new(alloc, count)?;
         let woken = Marked::new(alloc, count)?;
+        let stirred = Marked::new(alloc, count)?;
         let watch = Watch::new(alloc, book)?;
         Ok(Terms {
             codes,
@@ -69,6 +71,7 @@ impl Terms {
             truths,
             dues,
             woken,
+            stirred,
             watch,
             keys: Strokes::new(),
             one_up: false,
@@ -77,15 +80,13 @@ impl Terms {
     }
 
     /// Forgets all moments. What is told of the last one says nothing then: the first moment asks each condition. Its cost
-    /// is one write a slot and a node.
+    /// is one write a slot.
     pub fn clear(&mut self)
         ensures fits { (b : plain.Book) → TermsFit b self.old → TermsFit b self.new }
         ensures stands { StandForNone self.new.cells.slots }
-        ensures nodes { NodesStandForNone self.new.nodes }
         ensures visits { self.new.cells.visits ≡ self.old.cells.visits }
     {
         self.cells.clear();
-        self.nodes.clear();
     }
 
     /// Takes over what is kept of the same book's conditions by another lane, but for the count of visits. Its cost is a

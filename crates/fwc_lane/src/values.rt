@@ -5,6 +5,7 @@ ghost use Rattle.ecam_spec.specs.Situation.{parameter_at};
 ghost use Rattle.book_model.specs.Sealed.{the_book};
 ghost use Rattle.param_table.specs.TableState.{ParamsFit, ParamsStand};
 ghost use Rattle.system_display.specs.Pages.{AreShort};
+ghost use Rattle.term_eval.specs.declared.reading.Reading.TheVariants.{Value};
 ghost use Rattle.fwc_lane.specs.TermsFit.{TermsFit};
 ghost use Rattle.fwc_lane.specs.Waking.{HasWoken, ranged, value_turned};
 ghost use Rattle.fwc_lane.specs.Given.{AreBefore};
@@ -14,11 +15,12 @@ use crate::terms::Terms;
 use crate::waking::wake;
 use book_model::Book;
 use param_table::Params;
+use term_eval::Reading;
 
 /// Makes the values of the moment before those of the moment that hasn't ended, tells in `turned` which are other than they
 /// were, and answers whether any is. One that is wakes the conditions that name it. Its cost is a look for each 64
-/// parameters, a write of a byte for each, a look at each source of those that may have another value, and a write for each
-/// of these conditions and of their nodes that ask for it.
+/// parameters, a write of a byte for each, a look at each source of those that may have another value, a write for each of
+/// these conditions, and a look at each of their nodes that is told.
 pub fn read_values(
     values: &mut Vec<Option<i64>>,
     turned: &mut Vec<bool>,
@@ -45,7 +47,8 @@ pub fn read_values(
     ensures terms { TermsFit (the_book book.now) terms.new }
     ensures wakes { HasWoken (the_book book.now)
         (ranged 0 (length (the_book book.now).parameters)
-        (value_turned values.old.items values.new.items)) terms.old terms.new }
+        (value_turned values.old.items values.new.items))
+        (λ o. Value (slice_index_or values.new.items o None)) terms.old terms.new }
     ensures kept { result ≡ false → values.new.items ≡ values.old.items }
 {
     turned.fill(false);
@@ -54,7 +57,7 @@ pub fn read_values(
     while let Some(param) = params.changed(book, from) {
         let value = params.value(book, param);
         let other = set_value(values, param, value);
-        wake(terms, book, param, other);
+        wake(terms, book, param, other, Reading::Value(value));
         turned[param] = other;
         any = is_either(any, other);
         from = param + 1;

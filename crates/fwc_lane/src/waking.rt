@@ -1,35 +1,49 @@
 // Which conditions a moment wakes: all in the first, then those that are due, and those that name what is another.
-ghost use Rattle.std.specs.Prelude.{◌≡◌, ℕ, suc, ◌+◌, ◌<◌, ◌≤◌, ◌^◌, ◌==◌, ◌&&◌, ◌||◌, not, nat_le, true, false, length, slice_index, MatchOption};
+ghost use Rattle.std.specs.Prelude.{◌≡◌, ℕ, suc, ◌+◌, ◌-◌, ◌<◌, ◌≤◌, ◌^◌, ◌==◌, ◌&&◌, ◌||◌, not, nat_le, true, false, length, slice_index, MatchOption, if◌then◌else◌};
 ghost use Rattle.ecam_spec.specs.Keys.{IsKey, key_number};
 ghost use Rattle.book_model.specs.Sealed.{the_book};
 ghost use Rattle.wakes.specs.Marks.{is_marked, room};
 ghost use Rattle.watch_lists.specs.Listed.{has_term};
-ghost use Rattle.term_eval.specs.NodeState.{state_at, AreMarked};
+ghost use Rattle.ecam_spec.specs.Book as plain;
+ghost use Rattle.term_eval.specs.declared.reading.Reading.TheVariants.{InPhase, Flag};
+ghost use Rattle.term_eval.specs.Reading.{IsReading};
 ghost use Rattle.term_eval.specs.Woken.{differ};
 ghost use Rattle.fwc_lane.specs.Strokes.{NonePressed};
 ghost use Rattle.fwc_lane.specs.TermsFit.{TermsFit, Watches};
-ghost use Rattle.fwc_lane.specs.Waking.{HasWoken, NamesNone, ranged, key_turned};
+ghost use Rattle.fwc_lane.specs.Waking.{HasWoken, CanTurn, TurnsEach, NamesNone, ranged, key_turned};
+ghost use Rattle.fwc_lane.specs.Waking.{key_read};
 
 use crate::strokes::Strokes;
 use crate::terms::Terms;
 use book_model::Book;
+use condition_codes::{Asker, Codes};
 use ecam_kinds::{Key, Keys, Phase};
-use term_eval::Nodes;
+use term_eval::{Nodes, Reading};
 use wakes::{Marked, Wakes};
 use watch_lists::Watch;
 
-/// Wakes the conditions that name the operand of this number, where it is another than it was, and marks their nodes that ask
-/// for it. Its cost is a write for each of these conditions and nodes, and nothing where it is as it was.
-pub fn wake(terms: &mut Terms, book: &Book, operand: usize, other: bool)
+/// Wakes the conditions that name the operand of this number, where it is another than it was, and tells their nodes that ask
+/// for it what it reads. Its cost is a write for each of these conditions, and a look at each of these nodes and at each that
+/// is told of one that turned; nothing where it is as it was.
+#[inline(always)]
+pub fn wake(terms: &mut Terms, book: &Book, operand: usize, other: bool, reading: Reading)
     requires operand { operand < length (the_book book.now).parameters
         + length (the_book book.now).alerts + 28 }
     requires fits { TermsFit (the_book book.now) terms.old }
+    requires reading { IsReading reading }
     ensures fits { TermsFit (the_book book.now) terms.new }
-    ensures wakes { HasWoken (the_book book.now) (λ o. other && (o == operand)) terms.old terms.new }
+    ensures wakes { HasWoken (the_book book.now) (λ o. other && (o == operand)) (λ o. reading)
+        terms.old terms.new }
 {
     if other {
         mark_each(&mut terms.woken, terms.watch.listed(operand));
-        mark_nodes(&mut terms.nodes, terms.askers.nodes(operand));
+        turn_each(
+            &mut terms.nodes,
+            &mut terms.stirred,
+            &terms.codes,
+            terms.askers.asking(operand),
+            reading,
+        );
     }
 }
 
@@ -45,54 +59,78 @@ fn mark_each(woken: &mut Marked, terms: &[usize])
     }
 }
 
-// Marks some nodes.
-fn mark_nodes(nodes: &mut Nodes, asking: &[usize])
-    requires { (i : ℕ) → i < length asking.now → slice_index asking.now i < length nodes.old }
-    ensures marks { AreMarked nodes.old nodes.new }
-    ensures each { (n : ℕ) → has_term asking.now n ≡ true → (state_at nodes.new n).wake ≡ 0 }
+// Tells some nodes what the operand that they ask for reads, and marks the conditions that may turn by that.
+#[inline(always)]
+fn turn_each(
+    nodes: &mut Nodes,
+    stirred: &mut Marked,
+    codes: &Codes,
+    asking: &[Asker],
+    reading: Reading,
+)
+    requires can { (b : plain.Book) × CanTurn b asking.now codes.now nodes.old stirred.old }
+    requires reading { IsReading reading }
+    ensures { (b : plain.Book) → CanTurn b asking.now codes.now nodes.old stirred.old
+        → TurnsEach b asking.now reading nodes.old stirred.old nodes.new stirred.new }
 {
-    for node in asking {
-        nodes.mark(*node);
+    for asker in asking {
+        let first = codes.start(asker.term);
+        if nodes.turn(codes.code(asker.term), first, asker.node, reading) {
+            stirred.mark(asker.term);
+        }
     }
 }
 
 /// Wakes the conditions that name the flight phase, where it is another.
-pub fn wake_phase(terms: &mut Terms, book: &Book, other: bool)
+pub fn wake_phase(terms: &mut Terms, book: &Book, other: bool, phase: Phase)
     requires fits { TermsFit (the_book book.now) terms.old }
+    requires first { 1 ≤ phase.number }
+    requires last { phase.number ≤ 10 }
     ensures fits { TermsFit (the_book book.now) terms.new }
     ensures wakes { HasWoken (the_book book.now)
         (λ o. other && (o == length (the_book book.now).parameters
         + length (the_book book.now).alerts))
-        terms.old terms.new }
+        (λ o. InPhase phase) terms.old terms.new }
 {
     wake(
         terms,
         book,
         book.params().len() + book.alerts().len(),
         other,
+        Reading::InPhase(phase),
     );
 }
 
 /// Wakes the conditions that name an alert, where it became active or is no longer.
-pub fn wake_alert(terms: &mut Terms, book: &Book, alert: usize, other: bool)
+pub fn wake_alert(terms: &mut Terms, book: &Book, alert: usize, other: bool, active: bool)
     requires alert { alert < length (the_book book.now).alerts }
     requires fits { TermsFit (the_book book.now) terms.old }
     ensures fits { TermsFit (the_book book.now) terms.new }
     ensures wakes { HasWoken (the_book book.now)
-        (λ o. other && (o == length (the_book book.now).parameters + alert)) terms.old terms.new }
+        (λ o. other && (o == length (the_book book.now).parameters + alert)) (λ o. Flag active)
+        terms.old terms.new }
 {
-    wake(terms, book, book.params().len() + alert, other);
+    wake(
+        terms,
+        book,
+        book.params().len() + alert,
+        other,
+        Reading::Flag(active),
+    );
 }
 
 /// Wakes the conditions that name a key which is pressed in the moment and was not in the one before, or the other way
-/// round. Its cost is two looks at each key, and a write for each of these conditions and their nodes that ask for it;
-/// nothing where no key is or was pressed, and two reads where no condition of the book names a key.
+/// round. Its cost is three looks at each key, a write for each of these conditions, and a look at each of their nodes that is
+/// told; nothing where no key is or was pressed, and two reads where no condition of the book names a key.
 pub fn wake_keys(terms: &mut Terms, book: &Book, keys: &Strokes)
     requires fits { TermsFit (the_book book.now) terms.old }
     ensures fits { TermsFit (the_book book.now) terms.new }
     ensures wakes { HasWoken (the_book book.now)
         (ranged (length (the_book book.now).parameters + length (the_book book.now).alerts + 1) 25
-        (key_turned terms.old.keys keys.now)) terms.old terms.new }
+        (key_turned terms.old.keys keys.now))
+        (λ o. key_read keys.now (o - (length (the_book book.now).parameters
+        + length (the_book book.now).alerts + 1)))
+        terms.old terms.new }
 {
     if are_quiet(&terms.keys, keys) {
         return;
@@ -102,7 +140,7 @@ pub fn wake_keys(terms: &mut Terms, book: &Book, keys: &Strokes)
     }
     for number in 0..25 {
         let other = key_turned(terms.keys.keys(), keys.keys(), number);
-        wake_key(terms, book, number, other);
+        wake_key(terms, book, number, other, is_pressed(keys.keys(), number));
     }
 }
 
@@ -125,20 +163,21 @@ fn are_unheard(watch: &Watch, book: &Book) -> bool
 }
 
 // Wakes the conditions that name the key of this number, where it is another.
-fn wake_key(terms: &mut Terms, book: &Book, number: usize, other: bool)
+fn wake_key(terms: &mut Terms, book: &Book, number: usize, other: bool, pressed: bool)
     requires number { number < 25 }
     requires fits { TermsFit (the_book book.now) terms.old }
     ensures fits { TermsFit (the_book book.now) terms.new }
     ensures wakes { HasWoken (the_book book.now)
         (λ o. other && (o == length (the_book book.now).parameters
         + length (the_book book.now).alerts + 1 + number))
-        terms.old terms.new }
+        (λ o. Flag pressed) terms.old terms.new }
 {
     wake(
         terms,
         book,
         book.params().len() + book.alerts().len() + 1 + number,
         other,
+        Reading::Flag(pressed),
     );
 }
 
@@ -149,6 +188,17 @@ fn key_turned(was: &Keys, keys: &Keys, number: usize) -> bool
 {
     match key_at(number) {
         Some(key) => differ(keys.pressed(key), was.pressed(key)),
+        None => false,
+    }
+}
+
+// Whether the key of this number is pressed.
+fn is_pressed(keys: &Keys, number: usize) -> bool
+    requires { number < 25 }
+    ensures { Flag result ≡ key_read keys.now number }
+{
+    match key_at(number) {
+        Some(key) => keys.pressed(key),
         None => false,
     }
 }
@@ -173,28 +223,43 @@ fn key_at(number: usize) -> Option<Key>
 }
 
 /// Wakes the conditions that name a computer which came up or failed.
-pub fn wake_computers(terms: &mut Terms, book: &Book, one: bool, two: bool)
+pub fn wake_computers(terms: &mut Terms, book: &Book, one_up: bool, two_up: bool)
     requires fits { TermsFit (the_book book.now) terms.old }
     ensures fits { TermsFit (the_book book.now) terms.new }
     ensures wakes { HasWoken (the_book book.now)
-        (λ o. (one && (o == length (the_book book.now).parameters
+        (λ o. (differ one_up terms.old.one_up && (o == length (the_book book.now).parameters
         + length (the_book book.now).alerts + 26))
-        || (two && (o == length (the_book book.now).parameters
+        || (differ two_up terms.old.two_up && (o == length (the_book book.now).parameters
         + length (the_book book.now).alerts + 27)))
+        (λ o. Flag (if o == length (the_book book.now).parameters
+        + length (the_book book.now).alerts + 26
+        then one_up else two_up))
         terms.old terms.new }
 {
     let first = book.params().len() + book.alerts().len() + 26;
-    wake(terms, book, first, one);
-    wake(terms, book, first + 1, two);
+    let one = differ(one_up, terms.one_up);
+    let two = differ(two_up, terms.two_up);
+    wake(terms, book, first, one, Reading::Flag(one_up));
+    wake(terms, book, first + 1, two, Reading::Flag(two_up));
 }
 
-/// Begins to gather the conditions that moment `now` wakes: all in the first, else those that are due, and these are due no
-/// more until they are stepped. Its cost is a write for each 64 conditions, and a few for each that is due.
-pub fn wake_first(woken: &mut Marked, dues: &mut Wakes, count: usize, now: u64)
+/// Begins to gather the conditions that moment `now` wakes, each of which is stirred too: all in the first, else those that are
+/// due, and these are due no more until they are stepped. Its cost is two writes for each 64 conditions, and a few for each
+/// that is due.
+pub fn wake_first(
+    woken: &mut Marked,
+    stirred: &mut Marked,
+    dues: &mut Wakes,
+    count: usize,
+    now: u64,
+)
     requires room { count ≤ room woken.old }
+    requires stirred_room { count ≤ room stirred.old }
     requires dues { length dues.old ≡ count }
     requires now { now < 2 ^ 63 }
     ensures room { room woken.new ≡ room woken.old }
+    ensures stirred_room { room stirred.new ≡ room stirred.old }
+    ensures same { (j : ℕ) → j < count → is_marked stirred.new j ≡ is_marked woken.new j }
     ensures len { length dues.new ≡ length dues.old }
     ensures first { now ≡ 0 → (j : ℕ) → j < count → is_marked woken.new j ≡ true }
     ensures marks { (h : ℕ) → now ≡ suc h → (j : ℕ) → j < count
@@ -203,11 +268,13 @@ pub fn wake_first(woken: &mut Marked, dues: &mut Wakes, count: usize, now: u64)
         → slice_index dues.new j ≡ slice_index dues.old j }
 {
     woken.clear();
+    stirred.clear();
     if now == 0 {
         mark_all(woken, count);
+        mark_all(stirred, count);
         return;
     }
-    wake_due(woken, dues, now);
+    wake_due(woken, stirred, dues, now);
 }
 
 // Marks all numbers below this.
@@ -221,12 +288,16 @@ fn mark_all(woken: &mut Marked, count: usize)
     }
 }
 
-// Marks the numbers that are due, and gives them the key of what is never due.
-fn wake_due(woken: &mut Marked, dues: &mut Wakes, now: u64)
+// Marks the numbers that are due in both sets, and gives them the key of what is never due.
+fn wake_due(woken: &mut Marked, stirred: &mut Marked, dues: &mut Wakes, now: u64)
     requires room { length dues.old ≤ room woken.old }
+    requires stirred_room { length dues.old ≤ room stirred.old }
     requires none { (j : ℕ) → is_marked woken.old j ≡ false }
+    requires same { (j : ℕ) → is_marked stirred.old j ≡ is_marked woken.old j }
     requires now { now < 2 ^ 63 }
     ensures room { room woken.new ≡ room woken.old }
+    ensures stirred_room { room stirred.new ≡ room stirred.old }
+    ensures same { (j : ℕ) → is_marked stirred.new j ≡ is_marked woken.new j }
     ensures len { length dues.new ≡ length dues.old }
     ensures marks { (j : ℕ) → j < length dues.old
         → is_marked woken.new j ≡ nat_le (slice_index dues.old j) now }
@@ -235,6 +306,7 @@ fn wake_due(woken: &mut Marked, dues: &mut Wakes, now: u64)
 {
     while let Some(term) = dues.first(now) {
         woken.mark(term);
+        stirred.mark(term);
         dues.set(term, u64::MAX);
     }
 }

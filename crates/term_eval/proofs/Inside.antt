@@ -1,18 +1,15 @@
--- A node apart from its children: its own step, slot, state and mark, and what stands of those right below it.
+-- A node apart from its children: its own step and slot, and what stands of those right below it.
 use Rattle.std.proofs.Common.{◌≡◌, ℕ, ◌+◌, List, ◌∷◌, ◌++◌, refl, sym, ap, arith, append-nil}
 use Rattle.ecam_spec.specs.Past.{previous}
-use Rattle.ecam_spec.specs.Book.{Tree, constant, discrete, valid, compared, in_phase, alert, press, computer, negation, all, any, at_least, confirmed, held, risen, latched, none, more}
+use Rattle.ecam_spec.specs.Book.{Tree, constant, discrete, valid, compared, in_phase, alert, press, computer, negation, all, any, at_least, confirmed, held, risen, latched}
 use Rattle.ecam_spec.specs.Term.{World, holds, latch}
 use Rattle.ecam_spec.specs.TermSize.{slots, slots_of, nodes, nodes_of, children}
 use Rattle.term_eval.specs.declared.memory.Cell.{Cell}
-use Rattle.term_eval.specs.declared.nodes.NodeState.{NodeState}
 use Rattle.term_eval.specs.declared.code.Node.{Node}
 use Rattle.term_eval.specs.declared.code.Node.TheVariants.{Const, Disc, Valid, Cmp, InPhase, Alert, Press, Fwc, Not, All, Any, AtLeast, Conf, Hold, Rise, Latch}
 use Rattle.term_eval.specs.CellWords.{cell_at, on_if, stretch, lasted}
 use Rattle.term_eval.specs.CellState.{Stand, StandAll}
 use Rattle.term_eval.specs.Code.{code, codes, step, many}
-use Rattle.term_eval.specs.NodeState.{state_at, held_before, IsKept, NodesStand, AllNodesStand}
-use Rattle.term_eval.specs.Noted.{IsNoted, Noted, AllNoted}
 
 -- what a node's own step says, where its slots start, and where those of its children do
 abbrev pub node_at : ℕ → Tree → Node
@@ -51,7 +48,7 @@ inside at (held c n) = at + 1
 inside at (risen c) = at + 1
 inside at (latched s r) = at + 1
 
--- what a node's own slot, count and mark stand for
+-- what a node's own slot stands for
 abbrev pub OwnCell : World → ℕ → Tree → Cell → Type 0
 OwnCell w k (constant b) cell = Unit {0}
 OwnCell w k (discrete x) cell = Unit {0}
@@ -69,42 +66,6 @@ OwnCell w k (confirmed c n) cell = cell ≡ stretch (holds w c) k
 OwnCell w k (held c n) cell = cell ≡ lasted (holds w c) k
 OwnCell w k (risen c) cell = cell ≡ on_if (previous (holds w c) k)
 OwnCell w k (latched s r) cell = cell ≡ on_if (previous (latch (holds w s) (holds w r)) k)
-
-abbrev pub OwnCount : World → ℕ → Tree → ℕ → Type 0
-OwnCount w k (constant b) count = Unit {0}
-OwnCount w k (discrete x) count = Unit {0}
-OwnCount w k (valid x) count = Unit {0}
-OwnCount w k (compared x op n) count = Unit {0}
-OwnCount w k (in_phase set) count = Unit {0}
-OwnCount w k (alert a) count = Unit {0}
-OwnCount w k (press key) count = Unit {0}
-OwnCount w k (computer n) count = Unit {0}
-OwnCount w k (negation c) count = count ≡ held_before w k (more c none)
-OwnCount w k (all cs) count = count ≡ held_before w k cs
-OwnCount w k (any cs) count = count ≡ held_before w k cs
-OwnCount w k (at_least n cs) count = count ≡ held_before w k cs
-OwnCount w k (confirmed c n) count = count ≡ held_before w k (more c none)
-OwnCount w k (held c n) count = count ≡ held_before w k (more c none)
-OwnCount w k (risen c) count = count ≡ held_before w k (more c none)
-OwnCount w k (latched s r) count = count ≡ held_before w k (more s (more r none))
-
-abbrev pub OwnNote : World → ℕ → Tree → NodeState → Type 0
-OwnNote w k (constant b) s = IsNoted w k (constant b) s
-OwnNote w k (discrete x) s = IsNoted w k (discrete x) s
-OwnNote w k (valid x) s = IsNoted w k (valid x) s
-OwnNote w k (compared x op n) s = IsNoted w k (compared x op n) s
-OwnNote w k (in_phase set) s = IsNoted w k (in_phase set) s
-OwnNote w k (alert a) s = IsNoted w k (alert a) s
-OwnNote w k (press key) s = IsNoted w k (press key) s
-OwnNote w k (computer n) s = IsNoted w k (computer n) s
-OwnNote w k (negation c) s = Unit {0}
-OwnNote w k (all cs) s = Unit {0}
-OwnNote w k (any cs) s = Unit {0}
-OwnNote w k (at_least n cs) s = Unit {0}
-OwnNote w k (confirmed c n) s = Unit {0}
-OwnNote w k (held c n) s = Unit {0}
-OwnNote w k (risen c) s = Unit {0}
-OwnNote w k (latched a b) s = Unit {0}
 
 -- code is a node's own step, and the code of its children
 pub code-is : (at up : ℕ) (c : Tree) → code at up c ≡ step (node_at at c) up ∷ codes (inside at c) 1 (children c)
@@ -202,62 +163,3 @@ module _ (w : World) (k : ℕ) where
   close-cells (held c n) at cells own h = (own, h.0)
   close-cells (risen c) at cells own h = (own, h.0)
   close-cells (latched s r) at cells own h = (own, h.0, h.1.0)
-
-  pub open-nodes : (c : Tree) (p : ℕ) (states : List NodeState) → NodesStand w k c p states →
-      IsKept w k c (state_at states p) × OwnCount w k c (state_at states p).count × AllNodesStand w k (children c) (p + 1) states
-  unfolding NodesStand children held_before
-  open-nodes (constant b) p states h = (h, tt, tt)
-  open-nodes (discrete x) p states h = (h, tt, tt)
-  open-nodes (valid x) p states h = (h, tt, tt)
-  open-nodes (compared x op n) p states h = (h, tt, tt)
-  open-nodes (in_phase set) p states h = (h, tt, tt)
-  open-nodes (alert a) p states h = (h, tt, tt)
-  open-nodes (press key) p states h = (h, tt, tt)
-  open-nodes (computer n) p states h = (h, tt, tt)
-  open-nodes (negation c) p states h = (h.0, omega (arith, h.1), (h.2, tt))
-  open-nodes (all cs) p states h = h
-  open-nodes (any cs) p states h = h
-  open-nodes (at_least n cs) p states h = h
-  open-nodes (confirmed c n) p states h = (h.0, omega (arith, h.1), (h.2, tt))
-  open-nodes (held c n) p states h = (h.0, omega (arith, h.1), (h.2, tt))
-  open-nodes (risen c) p states h = (h.0, omega (arith, h.1), (h.2, tt))
-  open-nodes (latched s r) p states h = (h.0, omega (arith, h.1), (h.2, (h.3, tt)))
-
-  pub close-nodes : (c : Tree) (p : ℕ) (states : List NodeState) → IsKept w k c (state_at states p) → OwnCount w k c (state_at states p).count →
-      AllNodesStand w k (children c) (p + 1) states → NodesStand w k c p states
-  unfolding NodesStand children held_before
-  close-nodes (constant b) p states own count h = own
-  close-nodes (discrete x) p states own count h = own
-  close-nodes (valid x) p states own count h = own
-  close-nodes (compared x op n) p states own count h = own
-  close-nodes (in_phase set) p states own count h = own
-  close-nodes (alert a) p states own count h = own
-  close-nodes (press key) p states own count h = own
-  close-nodes (computer n) p states own count h = own
-  close-nodes (negation c) p states own count h = (own, omega (arith, count), h.0)
-  close-nodes (all cs) p states own count h = (own, count, h)
-  close-nodes (any cs) p states own count h = (own, count, h)
-  close-nodes (at_least n cs) p states own count h = (own, count, h)
-  close-nodes (confirmed c n) p states own count h = (own, omega (arith, count), h.0)
-  close-nodes (held c n) p states own count h = (own, omega (arith, count), h.0)
-  close-nodes (risen c) p states own count h = (own, omega (arith, count), h.0)
-  close-nodes (latched s r) p states own count h = (own, omega (arith, count), h.0, h.1.0)
-
-  pub open-notes : (c : Tree) (p : ℕ) (states : List NodeState) → Noted w k c p states → OwnNote w k c (state_at states p) × AllNoted w k (children c) (p + 1) states
-  unfolding Noted children
-  open-notes (constant b) p states h = (h, tt)
-  open-notes (discrete x) p states h = (h, tt)
-  open-notes (valid x) p states h = (h, tt)
-  open-notes (compared x op n) p states h = (h, tt)
-  open-notes (in_phase set) p states h = (h, tt)
-  open-notes (alert a) p states h = (h, tt)
-  open-notes (press key) p states h = (h, tt)
-  open-notes (computer n) p states h = (h, tt)
-  open-notes (negation c) p states h = (tt, (h, tt))
-  open-notes (all cs) p states h = (tt, h)
-  open-notes (any cs) p states h = (tt, h)
-  open-notes (at_least n cs) p states h = (tt, h)
-  open-notes (confirmed c n) p states h = (tt, (h, tt))
-  open-notes (held c n) p states h = (tt, (h, tt))
-  open-notes (risen c) p states h = (tt, (h, tt))
-  open-notes (latched s r) p states h = (tt, (h.0, (h.1, tt)))

@@ -98,20 +98,6 @@ unfolding holds many
 length-many w none k = refl
 length-many w (more c cs) k = ap suc (length-many w cs k)
 
-pub steps-all_of : (env : Env) (k : ℕ) (cs : Trees) (at : ℕ) (old new : List Cell) (count due : ℕ) → StepsAll env k cs at old new count due →
-    Steps env k (all cs) at old new (eqb count (many cs)) due
-unfolding Stand holds slots
-steps-all_of env k cs at old new count due inner =
-    record {
-      truth = λ w shows h.
-          ap (λ n. eqb n (many cs)) (inner.truth w shows h) ∙ ap (λ n. eqb (how_many (truths w cs k)) n) (sym (length-many w cs k))
-          ∙ all_hold (truths w cs k);
-      stands = inner.stands;
-      settles = λ w shows still h. settles-all w cs k due (inner.settles w shows still h);
-      before = inner.before;
-      behind = inner.behind;
-    }
-
 pub steps-any : (env : Env) (k : ℕ) (cs : Trees) (at : ℕ) (old new : List Cell) (count due : ℕ) → StepsAll env k cs at old new count due →
     Steps env k (any cs) at old new (ltb 0 count) due
 unfolding Stand holds slots

@@ -16,7 +16,7 @@ use Rattle.ecam_spec.proofs.PastMoments.{since-rest}
 use Rattle.term_eval.proofs.Stays.{Stays}
 use Rattle.term_eval.proofs.Alone.{Alone}
 
-differ-same : (a b : Bool) → a ≡ b → differ a b ≡ false
+pub differ-same : (a b : Bool) → a ≡ b → differ a b ≡ false
 differ-same true true e = refl
 differ-same true false e = e
 differ-same false b e = sym e

@@ -1,14 +1,12 @@
--- A node in one moment more, where what stands right below it keeps its truth and the node isn't due: it is as it was, and so
+-- A temporal node in one moment more, where what stands right below it keeps its truth and the node isn't due: it is as it was, and so
 -- is its cell.
 use Rattle.std.proofs.Common.{◌≡◌, ℕ, suc, ◌+◌, ◌<◌, ◌^◌, min, Bool, true, false, not, ◌&&◌, Some, inl, inr, cond, leb, ltb, refl, sym, ◌∙◌, ap, arith}
 use Rattle.std.proofs.lemmas.Bool.{cases_lt, lt-ltb, le-ltb, lt-leb, le-leb}
-use Rattle.std.specs.Prelude.{count_by, nat_le}
-use Rattle.std.specs.List.{list_any, list_all}
 use Rattle.ecam_spec.specs.Past.{Signal, last, start_of, rise, previous}
 use Rattle.ecam_spec.proofs.PastSteps.{start_of-on, last-suc, rise-suc}
 use Rattle.ecam_spec.proofs.PastMoments.{since-rest}
-use Rattle.ecam_spec.specs.Book.{Tree, Trees, negation, all, any, at_least, confirmed, held, risen, latched}
-use Rattle.ecam_spec.specs.Term.{World, holds, truths, latch}
+use Rattle.ecam_spec.specs.Book.{Tree, confirmed, held, risen, latched}
+use Rattle.ecam_spec.specs.Term.{World, holds, latch}
 use Rattle.term_eval.specs.declared.memory.Cell.TheVariants.{Off, On, At}
 use Rattle.term_eval.specs.CellWords.{never, end_of, stretch, lasted, on_if, at_last}
 use Rattle.term_eval.specs.OwnDue.{own_due, confirmed_due, held_due, risen_due}
@@ -19,24 +17,6 @@ use Rattle.term_eval.proofs.Alone.{no-rise, alone-confirmed, alone-held, alone-r
 pub record Unturned (w : World) (h : ℕ) (c : Tree) : Type 0 where
   pub truth : holds w c (suc h) ≡ holds w c h
   pub due : own_due w c (suc h) ≡ own_due w c h
-
--- ---- gates
-
-pub unturned-negation : (w : World) (h : ℕ) (c : Tree) → holds w c (suc h) ≡ holds w c h → Unturned w h (negation c)
-unfolding holds own_due
-unturned-negation w h c same = record { truth = ap not same; due = refl }
-
-pub unturned-all : (w : World) (h : ℕ) (cs : Trees) → truths w cs (suc h) ≡ truths w cs h → Unturned w h (all cs)
-unfolding holds own_due
-unturned-all w h cs same = record { truth = ap (list_all (λ b. b)) same; due = refl }
-
-pub unturned-any : (w : World) (h : ℕ) (cs : Trees) → truths w cs (suc h) ≡ truths w cs h → Unturned w h (any cs)
-unfolding holds own_due
-unturned-any w h cs same = record { truth = ap (list_any (λ b. b)) same; due = refl }
-
-pub unturned-at_least : (w : World) (h n : ℕ) (cs : Trees) → truths w cs (suc h) ≡ truths w cs h → Unturned w h (at_least n cs)
-unfolding holds own_due
-unturned-at_least w h n cs same = record { truth = ap (λ bs. nat_le n (count_by (λ b. b) bs)) same; due = refl }
 
 -- ---- signals that stay for one moment more
 

@@ -1,5 +1,6 @@
 -- What the nodes of a condition ask for, one by one in the order of its code: each before those that stand in it.
-use Rattle.std.specs.Prelude.{◌≡◌, ℕ, List, [], ◌∷◌, ◌++◌, Option, Some, None, slice_get}
+use Rattle.std.specs.Prelude.{◌≡◌, ℕ, Bool, true, false, List, [], ◌∷◌, ◌++◌, Option, Some, None, slice_get}
+use Rattle.std.specs.Option.{option_map_or}
 use Rattle.ecam_spec.specs.Book.{Tree, Trees, constant, discrete, valid, compared, in_phase, alert, press, computer, negation, all, any, at_least, confirmed, held, risen, latched, none, more}
 use Rattle.term_eval.specs.Woken.{Operand}
 use Rattle.term_eval.specs.Woken.Operand.{value, phase, activity, key, health}
@@ -33,6 +34,14 @@ unfoldable mutual
 -- node i of the condition is an atom, which asks for the operand
 abbrev pub Asks : Tree → ℕ → Operand → Type 0
 Asks c i x = slice_get (asked c) i ≡ Some (Some x)
+
+-- each of these nodes is an atom of the condition, which asks for an operand
+abbrev pub AreAtoms : Tree → (ℕ → Bool) → Type 0
+AreAtoms c asked = (i : ℕ) → asked i ≡ true → (x : Operand) × Asks c i x
+
+-- the nodes that ask for an operand which passes a test
+abbrev pub heard : (Operand → Bool) → Tree → ℕ → Bool
+heard hit c i = option_map_or (λ (asks : Option Operand). option_map_or hit asks false) (slice_get (asked c) i) false
 
 -- what a node of code asks for, if it is an atom with an operand
 abbrev pub node_asks : Node → Option Operand

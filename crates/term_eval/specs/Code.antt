@@ -1,14 +1,11 @@
 -- The code of a condition: its nodes one behind another, each before its children, with how far before it its parent stands.
-use Rattle.std.specs.Prelude.{◌≡◌, ℕ, suc, ◌+◌, ◌<◌, ◌≤◌, ◌^◌, List, [], ◌∷◌, ◌++◌, length}
+use Rattle.std.specs.Prelude.{◌≡◌, ℕ, suc, ◌+◌, ◌<◌, ◌≤◌, ◌^◌, Bool, true, false, if◌then◌else◌, List, [], ◌∷◌, ◌++◌, length}
 use Rattle.ecam_spec.specs.Book.{Tree, Trees, constant, discrete, valid, compared, in_phase, alert, press, computer, negation, all, any, at_least, confirmed, held, risen, latched, none, more}
 use Rattle.ecam_spec.specs.TermSize.{slots, nodes}
-use Rattle.ecam_spec.specs.TermNames.{IsWithin}
-use Rattle.term_eval.specs.declared.env.Env.{Env}
-use Rattle.term_eval.specs.declared.memory.Cell.{Cell}
 use Rattle.term_eval.specs.declared.code.Step.{Step}
 use Rattle.term_eval.specs.declared.code.Node.{Node}
 use Rattle.term_eval.specs.declared.code.Node.TheVariants.{Const, Disc, Valid, Cmp, InPhase, Alert, Press, Fwc, Not, All, Any, AtLeast, Conf, Hold, Rise, Latch}
-use Rattle.term_eval.specs.declared.nodes.NodeState.{NodeState}
+use Rattle.term_eval.specs.Memory.{Memory, NodeMemory}
 
 -- how many conditions there are
 unfoldable pub many : Trees → ℕ
@@ -60,14 +57,31 @@ unfoldable mutual
   AreShort none = Unit {0}
   AreShort (more c cs) = IsShort c × AreShort cs
 
+-- a step's node has a slot: it goes by moments before
+abbrev pub has_slot : Node → Bool
+has_slot (Conf n slot) = true
+has_slot (Hold n slot) = true
+has_slot (Rise slot) = true
+has_slot (Latch slot) = true
+has_slot _ = false
+
+-- the numbers of the temporal nodes of code, of which the first node has this number: slot by slot
+unfoldable pub owners : ℕ → List Step → List ℕ
+owners p [] = []
+owners p (s ∷ steps) = if has_slot s.node then p ∷ owners (p + 1) steps else owners (p + 1) steps
+
 -- the steps are the code of the condition
 pub record IsCode (c : Tree) (at : ℕ) (steps : List Step) : Type 0 where
   pub is : steps ≡ code at 0 c
   pub short : IsShort c
 
--- the steps are the code of a condition that can be stepped in these cells and states and this environment
-pub record IsReady (env : Env) (steps : List Step) (cells : List Cell) (states : List NodeState) (c : Tree) (at first : ℕ) : Type 0 where
+-- the steps are the code of the condition, and what is kept has room for its nodes and slots
+pub record IsHeld (steps : List Step) (n : NodeMemory) (c : Tree) (at first : ℕ) : Type 0 where
   pub code : IsCode c at steps
-  pub range : at + slots c ≤ length cells
-  pub room : first + nodes c ≤ length states
-  pub names : IsWithin (length env.values.now) (length env.active.now) c
+  pub nodes : first + nodes c ≤ length n.states
+  pub slots : at + slots c ≤ length n.wakes
+
+-- and so have the cells
+pub record IsReady (steps : List Step) (m : Memory) (n : NodeMemory) (c : Tree) (at first : ℕ) : Type 0 where
+  pub held : IsHeld steps n c at first
+  pub range : at + slots c ≤ length m.slots

@@ -7,8 +7,11 @@ pub mod Due
 pub mod Settles
 pub mod Steps
 pub mod Code
+pub mod Climb
 pub mod Run
 pub mod Asked
 pub mod OwnDue
 pub mod NodeState
-pub mod Noted
+pub mod Parts
+pub mod Reading
+pub mod Begin

@@ -1,81 +1,102 @@
--- What is kept of the nodes of a condition after some moments, node by node.
-use Rattle.std.specs.Prelude.{◌≡◌, ◌⊎◌, ℕ, zero, suc, ◌+◌, ◌≤◌, Bool, false, List, length, slice_index_or, if◌then◌else◌}
-use Rattle.ecam_spec.specs.Past.{previous}
+-- What is kept of the nodes of a condition, node by node: between moments, and while a moment is told to them one by one.
+use Rattle.std.specs.Prelude.{◌≡◌, ◌⊎◌, ℕ, zero, suc, ◌+◌, ◌==◌, ◌||◌, ◌<◌, ◌≤◌, min, nat_le, nat_lt, Bool, true, false, List, length, slice_index, slice_index_or, if◌then◌else◌}
+use Rattle.std.specs.Option.{option_map_or}
+use Rattle.std.specs.List.{slice_get}
 use Rattle.ecam_spec.specs.Book.{Tree, Trees, constant, discrete, valid, compared, in_phase, alert, press, computer, negation, all, any, at_least, confirmed, held, risen, latched, none, more}
 use Rattle.ecam_spec.specs.Term.{World, holds}
-use Rattle.ecam_spec.specs.TermSize.{nodes}
+use Rattle.ecam_spec.specs.TermSize.{nodes, slots, children}
 use Rattle.term_eval.specs.declared.nodes.NodeState.{NodeState}
+use Rattle.term_eval.specs.Memory.{NodeMemory}
+use Rattle.term_eval.specs.CellWords.{never}
+use Rattle.term_eval.specs.Code.{many}
 use Rattle.term_eval.specs.OwnDue.{own_due}
+use Rattle.term_eval.specs.Parts.{Part, Heads, is_temporal}
 
 -- the state of node i, as if all behind the last were new
 abbrev pub state_at : List NodeState → ℕ → NodeState
-state_at states i = slice_index_or states i (record { wake = 0; count = 0; told = false })
+state_at states i = slice_index_or states i (record { count = 0; told = false })
 
 abbrev pub one_if : Bool → ℕ
 one_if b = if b then 1 else 0
 
--- how many of the conditions held in the moment before k
-unfoldable pub held_before : World → ℕ → Trees → ℕ
-held_before w k none = 0
-held_before w k (more c cs) = one_if (previous (holds w c) k) + held_before w k cs
+-- ---- what nodes say
 
--- a node is to be looked at in the next moment, or when it turns by itself. Before the first moment each is to be looked at
-abbrev pub WakesAt : World → ℕ → Tree → ℕ → Type 0
-WakesAt w zero c wake = wake ≡ 0
-WakesAt w (suc h) c wake = (wake ≡ 0) ⊎ (wake ≡ own_due w c h)
+-- an atom or a temporal node says what it said in moment h until it is asked in the next
+abbrev pub own_says : World → ℕ → Bool → Tree → Bool
+own_says w h was_asked c = if was_asked then holds w c (suc h) else holds w c h
 
--- after k moments it is told whether the node held in the last of them, and when to look at it again
-pub record IsKept (w : World) (k : ℕ) (c : Tree) (s : NodeState) : Type 0 where
-  pub told : s.told ≡ previous (holds w c) k
-  pub wake : WakesAt w k c s.wake
-
--- The states from a place on stand for the first k moments of a world: each node of the condition is kept, and counts how
--- many of those right below it held in the last moment.
 unfoldable mutual
-  pub NodesStand : World → ℕ → Tree → ℕ → List NodeState → Type 0
-  NodesStand w k (constant b) p states = IsKept w k (constant b) (state_at states p)
-  NodesStand w k (discrete x) p states = IsKept w k (discrete x) (state_at states p)
-  NodesStand w k (valid x) p states = IsKept w k (valid x) (state_at states p)
-  NodesStand w k (compared x op n) p states = IsKept w k (compared x op n) (state_at states p)
-  NodesStand w k (in_phase set) p states = IsKept w k (in_phase set) (state_at states p)
-  NodesStand w k (alert a) p states = IsKept w k (alert a) (state_at states p)
-  NodesStand w k (press key) p states = IsKept w k (press key) (state_at states p)
-  NodesStand w k (computer n) p states = IsKept w k (computer n) (state_at states p)
-  NodesStand w k (negation c) p states =
-      IsKept w k (negation c) (state_at states p) × ((state_at states p).count ≡ one_if (previous (holds w c) k))
-      × NodesStand w k c (p + 1) states
-  NodesStand w k (all cs) p states =
-      IsKept w k (all cs) (state_at states p) × ((state_at states p).count ≡ held_before w k cs)
-      × AllNodesStand w k cs (p + 1) states
-  NodesStand w k (any cs) p states =
-      IsKept w k (any cs) (state_at states p) × ((state_at states p).count ≡ held_before w k cs)
-      × AllNodesStand w k cs (p + 1) states
-  NodesStand w k (at_least n cs) p states =
-      IsKept w k (at_least n cs) (state_at states p) × ((state_at states p).count ≡ held_before w k cs)
-      × AllNodesStand w k cs (p + 1) states
-  NodesStand w k (confirmed c n) p states =
-      IsKept w k (confirmed c n) (state_at states p) × ((state_at states p).count ≡ one_if (previous (holds w c) k))
-      × NodesStand w k c (p + 1) states
-  NodesStand w k (held c n) p states =
-      IsKept w k (held c n) (state_at states p) × ((state_at states p).count ≡ one_if (previous (holds w c) k))
-      × NodesStand w k c (p + 1) states
-  NodesStand w k (risen c) p states =
-      IsKept w k (risen c) (state_at states p) × ((state_at states p).count ≡ one_if (previous (holds w c) k))
-      × NodesStand w k c (p + 1) states
-  NodesStand w k (latched s r) p states =
-      IsKept w k (latched s r) (state_at states p)
-      × ((state_at states p).count ≡ one_if (previous (holds w s) k) + one_if (previous (holds w r) k))
-      × NodesStand w k s (p + 1) states × NodesStand w k r (p + 1 + nodes s) states
+  -- what the first node of a condition says, of which some nodes have been asked in moment h + 1, by their numbers. A gate goes
+  -- at once by what its children say
+  pub says : World → ℕ → (ℕ → Bool) → Tree → ℕ → Bool
+  says w h asked (constant b) p = own_says w h (asked p) (constant b)
+  says w h asked (discrete x) p = own_says w h (asked p) (discrete x)
+  says w h asked (valid x) p = own_says w h (asked p) (valid x)
+  says w h asked (compared x op n) p = own_says w h (asked p) (compared x op n)
+  says w h asked (in_phase set) p = own_says w h (asked p) (in_phase set)
+  says w h asked (alert a) p = own_says w h (asked p) (alert a)
+  says w h asked (press key) p = own_says w h (asked p) (press key)
+  says w h asked (computer n) p = own_says w h (asked p) (computer n)
+  says w h asked (negation c) p = one_if (says w h asked c (p + 1)) == 0
+  says w h asked (all cs) p = said w h asked cs (p + 1) == many cs
+  says w h asked (any cs) p = nat_lt 0 (said w h asked cs (p + 1))
+  says w h asked (at_least n cs) p = nat_le n (said w h asked cs (p + 1))
+  says w h asked (confirmed c n) p = own_says w h (asked p) (confirmed c n)
+  says w h asked (held c n) p = own_says w h (asked p) (held c n)
+  says w h asked (risen c) p = own_says w h (asked p) (risen c)
+  says w h asked (latched s r) p = own_says w h (asked p) (latched s r)
 
-  pub AllNodesStand : World → ℕ → Trees → ℕ → List NodeState → Type 0
-  AllNodesStand w k none p states = Unit {0}
-  AllNodesStand w k (more c cs) p states = NodesStand w k c p states × AllNodesStand w k cs (p + nodes c) states
+  -- how many of some conditions say that they hold
+  pub said : World → ℕ → (ℕ → Bool) → Trees → ℕ → ℕ
+  said w h asked none p = 0
+  said w h asked (more c cs) p = one_if (says w h asked c p) + said w h asked cs (p + nodes c)
 
--- the states stand for no moment, of whichever conditions and world
-abbrev pub NodesStandForNone : List NodeState → Type 0
-NodesStandForNone states = (w : World) (c : Tree) (p : ℕ) → p + nodes c ≤ length states → NodesStand w 0 c p states
+-- each of some conditions says what it said in moment h
+unfoldable pub SayTheSame : World → ℕ → (ℕ → Bool) → Trees → ℕ → Type 0
+SayTheSame w h asked none p = Unit {0}
+SayTheSame w h asked (more c cs) p = (says w h asked c p ≡ holds w c h) × SayTheSame w h asked cs (p + nodes c)
 
--- some nodes are to be looked at in the next moment, and nothing else changed
-pub record AreMarked (old new : List NodeState) : Type 0 where
-  pub len : length new ≡ length old
-  pub each : (i : ℕ) → (state_at new i ≡ state_at old i) ⊎ (state_at new i ≡ record (state_at old i) { wake = 0 })
+-- ---- what is kept of them
+
+-- a temporal node that wasn't asked yet is to be looked at, or turns by itself in its own due moment, and then what it stands over
+-- says what it said
+pub record Rests (w : World) (h : ℕ) (asked : ℕ → Bool) (c : Tree) (p wake : ℕ) : Type 0 where
+  pub due : wake ≡ own_due w c h
+  pub same : SayTheSame w h asked (children c) (p + 1)
+
+abbrev pub Wakes : World → ℕ → (ℕ → Bool) → Tree → ℕ → ℕ → Bool → Type 0
+Wakes w h asked c p wake true = wake ≡ own_due w c (suc h)
+Wakes w h asked c p wake false = (wake ≡ 0) ⊎ Rests w h asked c p wake
+
+-- node i of a condition whose nodes start at a place, which heads this part, tells what it says, counts how many of its children say
+-- that they hold, and is looked at again in time
+pub record IsKept (w : World) (h : ℕ) (asked : ℕ → Bool) (x : Part) (first i : ℕ) (n : NodeMemory) : Type 0 where
+  pub told : (state_at n.states (first + i)).told ≡ says w h asked x.tree i
+  pub count : (state_at n.states (first + i)).count ≡ said w h asked (children x.tree) (i + 1)
+  pub wake : is_temporal x.tree ≡ true → Wakes w h asked x.tree i (slice_index n.wakes x.at) (asked i)
+
+-- each node of the condition is kept, while some of them have been asked in moment h + 1
+abbrev pub NodesWait : World → ℕ → (ℕ → Bool) → Tree → ℕ → ℕ → NodeMemory → Type 0
+NodesWait w h asked c at first n = (i : ℕ) (x : Part) → Heads c at i x → IsKept w h asked x first i n
+
+-- each node of the condition is kept after moment h: none has been asked in the next
+abbrev pub NodesStand : World → ℕ → Tree → ℕ → ℕ → NodeMemory → Type 0
+NodesStand w h c at first n = NodesWait w h (λ i. false) c at first n
+
+-- one node more has been asked
+abbrev pub also : ℕ → (ℕ → Bool) → ℕ → Bool
+also i asked j = (j == i) || asked j
+
+-- the first moment in which one of n temporal nodes is to be looked at, whose slots start at a place
+unfoldable pub first_wake : List ℕ → ℕ → ℕ → ℕ
+first_wake wakes at zero = never
+first_wake wakes at (suc n) = min (slice_index wakes at) (first_wake wakes (at + 1) n)
+
+-- nothing of it changed but the nodes from one place up to another, and the slots from one up to another
+pub record Within (first last at end : ℕ) (old new : NodeMemory) : Type 0 where
+  pub nodes : length new.states ≡ length old.states
+  pub slots : length new.wakes ≡ length old.wakes
+  pub before : (i : ℕ) → i < first → state_at new.states i ≡ state_at old.states i
+  pub behind : (i : ℕ) → last ≤ i → state_at new.states i ≡ state_at old.states i
+  pub slots_before : (s : ℕ) → s < at → slice_index new.wakes s ≡ slice_index old.wakes s
+  pub slots_behind : (s : ℕ) → end ≤ s → slice_index new.wakes s ≡ slice_index old.wakes s

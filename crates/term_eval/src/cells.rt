@@ -9,10 +9,12 @@ ghost use Rattle.term_eval.specs.CellWords.{cell_at};
 ghost use Rattle.term_eval.specs.CellState.{Stand, StandForNone};
 ghost use Rattle.term_eval.specs.Due.{staying, IsDue};
 ghost use Rattle.term_eval.specs.Shown.{Shows};
-ghost use Rattle.term_eval.specs.Code.{IsReady};
-ghost use Rattle.term_eval.specs.NodeState.{state_at, NodesStand};
-ghost use Rattle.term_eval.specs.Noted.{WillNote};
+ghost use Rattle.term_eval.specs.Code.{IsReady, owners};
+ghost use Rattle.term_eval.specs.NodeState.{NodesWait, NodesStand, Within, first_wake};
+ghost use Rattle.term_eval.specs.Asked.{heard};
+ghost use Rattle.term_eval.specs.Woken.{moved};
 
+use crate::begin::ask_all;
 use crate::code::Step;
 use crate::env::Env;
 use crate::memory::Cell;
@@ -111,61 +113,124 @@ impl Cells {
         step(cond, &mut self.cells, &mut next, &mut self.visits, env, now)
     }
 
-    /// Steps a condition by its code, as `refresh` steps it by its tree, with the states of its nodes, which start at `first`.
-    /// A node is looked at again only where it is marked, where it turns by itself, and where a node right below it has
-    /// another truth than in the moment before; the others say what they said. The cost is a look at each step, and a few
-    /// more at each of these nodes.
+    /// Steps a condition, whose slots start at `at`, by moment 0: by its code, as `refresh` steps it by its tree, with what is
+    /// kept of its nodes, which start at `first`. The cost is one visit of each node.
+    pub fn begin(&mut self, states: &mut Nodes, steps: &[Step], first: usize, env: &Env<'_>) -> Turn
+        requires ready { (c : Tree) × (at : ℕ) × IsReady steps.now self.old states.old c at first
+            × IsWithin (length env.now.values.now) (length env.now.active.now) c }
+        requires phase { 1 ≤ env.now.phase.number }
+        requires last { env.now.phase.number ≤ 10 }
+        ensures truth { (c : Tree) (at : ℕ) → IsReady steps.now self.old states.old c at first
+            → (w : World) → Shows env.now w 0 → Stand w 0 c at self.old.slots
+            → result.holds ≡ holds w c 0 }
+        ensures due { (c : Tree) (at : ℕ) → IsReady steps.now self.old states.old c at first
+            → (w : World) → Shows env.now w 0 → Stand w 0 c at self.old.slots
+            → IsDue (staying w 0) c 0 result.due }
+        ensures wake { (c : Tree) (at : ℕ) → IsReady steps.now self.old states.old c at first
+            → result.due ≡ first_wake states.new.wakes at (slots c) }
+        ensures stands { (c : Tree) (at : ℕ) → IsReady steps.now self.old states.old c at first
+            → (w : World) → Shows env.now w 0 → Stand w 0 c at self.old.slots
+            → Stand w 1 c at self.new.slots }
+        ensures nodes { (c : Tree) (at : ℕ) → IsReady steps.now self.old states.old c at first
+            → (w : World) → Shows env.now w 0 → Stand w 0 c at self.old.slots
+            → NodesStand w 0 c at first states.new }
+        ensures within { (c : Tree) (at : ℕ) → IsReady steps.now self.old states.old c at first
+            → Within first (first + nodes c) at (at + slots c) states.old states.new }
+        ensures before { (c : Tree) (at : ℕ) → IsReady steps.now self.old states.old c at first
+            → (i : ℕ) → i < at → cell_at self.new.slots i ≡ cell_at self.old.slots i }
+        ensures behind { (c : Tree) (at : ℕ) → IsReady steps.now self.old states.old c at first
+            → (i : ℕ) → at + slots c ≤ i → cell_at self.new.slots i ≡ cell_at self.old.slots i }
+        ensures len { length self.new.slots ≡ length self.old.slots }
+        ensures visits { self.new.visits ≡ self.old.visits }
+    {
+        let due = ask_all(
+            steps,
+            first,
+            &mut states.states,
+            &mut states.wakes,
+            &mut self.cells,
+            env,
+        );
+        Turn {
+            holds: states.states[first].told,
+            due,
+        }
+    }
+
+    /// Steps a condition, whose slots start at `at`, by a later moment, once each of its atoms that ask for an operand which reads
+    /// otherwise has been turned. Of its temporal nodes, which these are, only those are looked at that turn by themselves or
+    /// stand over one that turned. The cost is a look at each temporal node, and one at each node that turns and at those
+    /// right above.
     pub fn run(
         &mut self,
         states: &mut Nodes,
         steps: &[Step],
         first: usize,
-        env: &Env,
+        temporals: &[usize],
+        at: usize,
         now: u64,
     ) -> Turn
-        requires code { (c : Tree) × (at : ℕ)
-            × IsReady env.now steps.now self.old.slots states.old c at first }
-        requires phase { 1 ≤ env.now.phase.number }
-        requires last { env.now.phase.number ≤ 10 }
+        requires ready { (c : Tree) × IsReady steps.now self.old states.old c at first
+            × (temporals.now ≡ owners 0 steps.now) }
         requires now { now < 2 ^ 63 }
-        ensures truth { (c : Tree) (at : ℕ)
-            → IsReady env.now steps.now self.old.slots states.old c at first
-            → (w : World) → Shows env.now w now → Stand w now c at self.old.slots
-            → NodesStand w now c first states.old → WillNote w now c first states.old
+        ensures truth { (c : Tree) → IsReady steps.now self.old states.old c at first
+            → temporals.now ≡ owners 0 steps.now → (w : World) (h : ℕ) → now ≡ suc h
+            → Stand w now c at self.old.slots
+            → NodesWait w h (heard (moved w now) c) c at first states.old
             → result.holds ≡ holds w c now }
-        ensures due { (c : Tree) (at : ℕ)
-            → IsReady env.now steps.now self.old.slots states.old c at first
-            → (w : World) → Shows env.now w now → Stand w now c at self.old.slots
-            → NodesStand w now c first states.old → WillNote w now c first states.old
+        ensures due { (c : Tree) → IsReady steps.now self.old states.old c at first
+            → temporals.now ≡ owners 0 steps.now → (w : World) (h : ℕ) → now ≡ suc h
+            → Stand w now c at self.old.slots
+            → NodesWait w h (heard (moved w now) c) c at first states.old
             → IsDue (staying w now) c now result.due }
-        ensures stands { (c : Tree) (at : ℕ)
-            → IsReady env.now steps.now self.old.slots states.old c at first
-            → (w : World) → Shows env.now w now → Stand w now c at self.old.slots
-            → NodesStand w now c first states.old → WillNote w now c first states.old
-            → Stand w (suc now) c at self.new.slots × NodesStand w (suc now) c first states.new }
-        ensures before { (c : Tree) (at : ℕ)
-            → IsReady env.now steps.now self.old.slots states.old c at first
+        ensures wake { (c : Tree) → IsReady steps.now self.old states.old c at first
+            → temporals.now ≡ owners 0 steps.now → (w : World) (h : ℕ) → now ≡ suc h
+            → Stand w now c at self.old.slots
+            → NodesWait w h (heard (moved w now) c) c at first states.old
+            → result.due ≡ first_wake states.new.wakes at (slots c) }
+        ensures stands { (c : Tree) → IsReady steps.now self.old states.old c at first
+            → temporals.now ≡ owners 0 steps.now → (w : World) (h : ℕ) → now ≡ suc h
+            → Stand w now c at self.old.slots
+            → NodesWait w h (heard (moved w now) c) c at first states.old
+            → Stand w (suc now) c at self.new.slots }
+        ensures nodes { (c : Tree) → IsReady steps.now self.old states.old c at first
+            → temporals.now ≡ owners 0 steps.now → (w : World) (h : ℕ) → now ≡ suc h
+            → Stand w now c at self.old.slots
+            → NodesWait w h (heard (moved w now) c) c at first states.old
+            → NodesStand w now c at first states.new }
+        ensures within { (c : Tree) → IsReady steps.now self.old states.old c at first
+            → temporals.now ≡ owners 0 steps.now
+            → Within first (first + nodes c) at (at + slots c) states.old states.new }
+        ensures before { (c : Tree) → IsReady steps.now self.old states.old c at first
+            → temporals.now ≡ owners 0 steps.now
             → (i : ℕ) → i < at → cell_at self.new.slots i ≡ cell_at self.old.slots i }
-        ensures behind { (c : Tree) (at : ℕ)
-            → IsReady env.now steps.now self.old.slots states.old c at first
+        ensures behind { (c : Tree) → IsReady steps.now self.old states.old c at first
+            → temporals.now ≡ owners 0 steps.now
             → (i : ℕ) → at + slots c ≤ i → cell_at self.new.slots i ≡ cell_at self.old.slots i }
-        ensures before_first { (c : Tree) (at : ℕ)
-            → IsReady env.now steps.now self.old.slots states.old c at first
-            → (i : ℕ) → i < first → state_at states.new i ≡ state_at states.old i }
-        ensures behind_last { (c : Tree) (at : ℕ)
-            → IsReady env.now steps.now self.old.slots states.old c at first
-            → (i : ℕ) → first + nodes c ≤ i → state_at states.new i ≡ state_at states.old i }
         ensures len { length self.new.slots ≡ length self.old.slots }
-        ensures room { length states.new ≡ length states.old }
-        ensures visits { (c : Tree) (at : ℕ)
-            → IsReady env.now steps.now self.old.slots states.old c at first
-            → self.new.visits ≡ min (self.old.visits + nodes c) (2 ^ 64 - 1) }
+        ensures visits { self.new.visits ≡ self.old.visits }
     {
-        self.visits = self.visits.saturating_add(steps.len() as u64);
-        let due = pass(steps, first, &mut states.states, &mut self.cells, env, now);
+        let due = pass(
+            steps,
+            first,
+            temporals,
+            at,
+            &mut states.states,
+            &mut states.wakes,
+            &mut self.cells,
+            now,
+        );
         Turn {
             holds: states.states[first].told,
             due,
         }
+    }
+
+    /// Counts so many visits of nodes.
+    pub fn count(&mut self, visits: usize)
+        ensures slots { self.new.slots ≡ self.old.slots }
+        ensures visits { self.new.visits ≡ min (self.old.visits + visits) (2 ^ 64 - 1) }
+    {
+        self.visits = self.visits.saturating_add(visits as u64);
     }
 }

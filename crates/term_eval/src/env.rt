@@ -75,7 +75,7 @@ impl Env<'_> {
 }
 
 // The first number stands so to the second.
-fn stands(op: Op, value: i64, number: i64) -> bool
+pub(crate) fn stands(op: Op, value: i64, number: i64) -> bool
     ensures { result ≡ stands op value number }
 {
     match op {

@@ -1,19 +1,18 @@
 // What the truth of a condition rests on, and what wakes it: theorems, each the contract of a function that does nothing.
-ghost use Rattle.std.specs.Prelude.{◌≡◌, ℕ, suc, ◌+◌, ◌≤◌, ◌<◌, ◌^◌, true, false, ◌||◌, ◌==◌, List, map};
+ghost use Rattle.std.specs.Prelude.{◌≡◌, ℕ, suc, ◌+◌, ◌≤◌, ◌<◌, ◌^◌, Bool, false, ◌||◌, ◌==◌, List, map, slice_index};
 ghost use Rattle.std.specs.List.{list_any};
 ghost use Rattle.ecam_spec.specs.Book.{Tree};
 ghost use Rattle.ecam_spec.specs.Term.{World, holds};
 ghost use Rattle.ecam_spec.specs.TermNames.{AgreeOn};
 ghost use Rattle.term_eval.specs.declared.memory.Cell.{Cell};
 ghost use Rattle.term_eval.specs.CellState.{Stand};
-ghost use Rattle.ecam_spec.specs.TermSize.{nodes};
+ghost use Rattle.ecam_spec.specs.TermSize.{nodes, slots};
 ghost use Rattle.term_eval.specs.Code.{code, IsShort};
 ghost use Rattle.term_eval.specs.declared.code.Step.{Step};
-ghost use Rattle.term_eval.specs.declared.nodes.NodeState.{NodeState};
-ghost use Rattle.term_eval.specs.NodeState.{state_at, NodesStand, AreMarked};
-ghost use Rattle.term_eval.specs.Noted.{Noted};
-ghost use Rattle.term_eval.specs.Asked.{asked, Asks, node_asks};
-ghost use Rattle.term_eval.specs.Woken.{Operand, moved, operands, woken};
+ghost use Rattle.term_eval.specs.Memory.{NodeMemory};
+ghost use Rattle.term_eval.specs.NodeState.{state_at, NodesWait, NodesStand, first_wake};
+ghost use Rattle.term_eval.specs.Asked.{asked, node_asks, heard};
+ghost use Rattle.term_eval.specs.Woken.{moved, operands, woken};
 ghost use Rattle.term_eval.specs.Due.{staying, IsDue};
 
 /// Two worlds that agree, in each moment up to now, on the operands that a condition names give it equal truth:
@@ -44,35 +43,46 @@ pub fn operands_and_the_due_moment_wake()
 
 /// The code of a condition asks for what the condition asks for, step by step.
 pub fn code_asks_for_what_the_condition_asks_for()
-    ensures { (c : Tree) (at up : ℕ) → map (λ (s : Step). node_asks s.node) (code at up c) ≡ asked c }
+    ensures { (c : Tree) (at up : ℕ)
+        → map (λ (s : Step). node_asks s.node) (code at up c) ≡ asked c }
 {}
 
-/// What is kept of the nodes of a condition that nothing wakes in a moment stands for one moment more as it is.
-pub fn a_condition_at_rest_keeps_its_nodes()
-    ensures { (w : World) (c : Tree) (k p : ℕ) (states : List NodeState) → suc k < 2 ^ 63 → IsShort c
-        → woken w c (suc k) ≡ false
-        → NodesStand w (suc k) c p states → NodesStand w (suc (suc k)) c p states }
+/// Where no temporal node of a condition is to be looked at in a moment, once each atom was asked whose operand moves, all stands
+/// for one moment more as it is: its first node tells its truth, and it is due when the first of its temporal nodes is.
+pub fn a_condition_that_is_not_stirred_stands()
+    ensures truth { (w : World) (h : ℕ) (c : Tree) (at first : ℕ) (n : NodeMemory)
+        → suc h < 2 ^ 63 → IsShort c → NodesWait w h (heard (moved w (suc h)) c) c at first n
+        → suc h < first_wake n.wakes at (slots c)
+        → holds w c (suc h) ≡ (state_at n.states first).told }
+    ensures nodes { (w : World) (h : ℕ) (c : Tree) (at first : ℕ) (n : NodeMemory)
+        → suc h < 2 ^ 63 → IsShort c → NodesWait w h (heard (moved w (suc h)) c) c at first n
+        → suc h < first_wake n.wakes at (slots c)
+        → NodesStand w (suc h) c at first n }
+    ensures cells { (w : World) (h : ℕ) (c : Tree) (at first : ℕ) (n : NodeMemory)
+        (cells : List Cell)
+        → suc h < 2 ^ 63 → IsShort c → NodesWait w h (heard (moved w (suc h)) c) c at first n
+        → suc h < first_wake n.wakes at (slots c)
+        → Stand w (suc h) c at cells → Stand w (suc (suc h)) c at cells }
+    ensures due { (w : World) (h : ℕ) (c : Tree) (at first : ℕ) (n : NodeMemory)
+        → suc h < 2 ^ 63 → IsShort c → NodesWait w h (heard (moved w (suc h)) c) c at first n
+        → suc h < first_wake n.wakes at (slots c)
+        → IsDue (staying w (suc h)) c (suc h) (first_wake n.wakes at (slots c)) }
 {}
 
-/// What is kept of the nodes of a condition rests on their own states alone.
-pub fn nodes_stand_by_their_own_states()
-    ensures { (w : World) (k : ℕ) (c : Tree) (p : ℕ) (old new : List NodeState)
-        → ((i : ℕ) → p ≤ i → i < p + nodes c → state_at new i ≡ state_at old i)
-        → NodesStand w k c p old → NodesStand w k c p new }
+/// What is kept of the nodes of a condition rests on their own states and slots alone.
+pub fn nodes_wait_by_their_own_states()
+    ensures { (w : World) (h : ℕ) (asked : ℕ → Bool) (c : Tree) (at first : ℕ)
+        (old new : NodeMemory)
+        → ((i : ℕ) → first ≤ i → i < first + nodes c
+        → state_at new.states i ≡ state_at old.states i)
+        → ((s : ℕ) → at ≤ s → s < at + slots c
+        → slice_index new.wakes s ≡ slice_index old.wakes s)
+        → NodesWait w h asked c at first old → NodesWait w h asked c at first new }
 {}
 
-/// Any node may be marked to be looked at: what is kept stands, and no mark goes.
-pub fn any_node_may_be_marked()
-    ensures stands { (w : World) (k : ℕ) (c : Tree) (p : ℕ) (old new : List NodeState)
-        → AreMarked old new → NodesStand w k c p old → NodesStand w k c p new }
-    ensures marks { (old new : List NodeState) (i : ℕ) → AreMarked old new
-        → (state_at old i).wake ≡ 0 → (state_at new i).wake ≡ 0 }
-{}
-
-/// Where each atom is marked whose operand moves, all atoms are noted that may have another truth.
-pub fn atoms_whose_operands_move_are_noted()
-    ensures { (w : World) (k : ℕ) (c : Tree) (p : ℕ) (states : List NodeState)
-        → ((i : ℕ) (x : Operand) → Asks c i x → moved w (suc k) x ≡ true
-        → (state_at states (p + i)).wake ≡ 0)
-        → Noted w (suc k) c p states }
+/// And it rests on which of its own nodes have been asked.
+pub fn nodes_wait_by_whom_was_asked()
+    ensures { (w : World) (h : ℕ) (old new : ℕ → Bool) (c : Tree) (at first : ℕ) (n : NodeMemory)
+        → ((i : ℕ) → i < nodes c → new i ≡ old i)
+        → NodesWait w h old c at first n → NodesWait w h new c at first n }
 {}

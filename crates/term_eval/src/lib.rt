@@ -2,27 +2,30 @@
 //! stepped by its tree, or by its code, which is its nodes in one list: that costs less.
 #![tactic(auto)]
 
+mod begin;
 mod cells;
+mod climb;
 mod code;
 mod env;
 mod laws;
 mod leaf;
 mod memory;
 mod nodes;
+mod reading;
 mod run;
 mod turn;
 mod walk;
 
 pub use cells::Cells;
-pub use code::{Node, Step, add_code};
+pub use code::{Node, Step, add_code, add_owners};
 pub use env::Env;
 pub use laws::{
-    a_condition_at_rest_keeps_its_nodes, a_condition_at_rest_keeps_its_truth,
-    any_node_may_be_marked, atoms_whose_operands_move_are_noted,
-    code_asks_for_what_the_condition_asks_for, nodes_stand_by_their_own_states,
-    operands_and_the_due_moment_wake, what_is_named_decides,
+    a_condition_at_rest_keeps_its_truth, a_condition_that_is_not_stirred_stands,
+    code_asks_for_what_the_condition_asks_for, nodes_wait_by_their_own_states,
+    nodes_wait_by_whom_was_asked, operands_and_the_due_moment_wake, what_is_named_decides,
 };
 pub use nodes::{NodeState, Nodes};
+pub use reading::Reading;
 pub use turn::Turn;
 
 #[cfg(test)]

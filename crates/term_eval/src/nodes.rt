@@ -1,7 +1,17 @@
 // What is kept of the nodes of conditions, so that a moment looks again at those alone that may turn.
-ghost use Rattle.std.specs.Prelude.{◌≡◌, ℕ, ◌<◌, false, length, IfOk};
-ghost use Rattle.term_eval.specs.NodeState.{NodesStandForNone, AreMarked, state_at};
+ghost use Rattle.std.specs.Prelude.{◌≡◌, ℕ, suc, ◌<◌, ◌+◌, Bool, false, length, slice_index, IfOk};
+ghost use Rattle.ecam_spec.specs.Book.{Tree};
+ghost use Rattle.ecam_spec.specs.Term.{World};
+ghost use Rattle.ecam_spec.specs.TermSize.{slots, nodes};
+ghost use Rattle.term_eval.specs.Asked.{Asks, AreAtoms};
+ghost use Rattle.term_eval.specs.Code.{IsHeld};
+ghost use Rattle.term_eval.specs.NodeState.{state_at, NodesWait, also, Within};
+ghost use Rattle.term_eval.specs.Reading.{IsReading, Reads};
+ghost use Rattle.term_eval.specs.Woken.{Operand};
 
+use crate::climb::climb;
+use crate::code::Step;
+use crate::reading::{Reading, atom_says};
 use std::alloc::{AllocError, Global};
 use std::boxed::BoxedSlice;
 use std::marker::Model;
@@ -9,75 +19,85 @@ use std::marker::Model;
 /// What is kept of one node.
 #[derive(Clone, Copy, Debug, PartialEq, Eq)]
 pub struct NodeState {
-    /// The number of the moment in which it is to be looked at again: that in which it turns by itself, or 0 for the next.
-    pub wake: u64,
-    /// How many of the nodes right below it held in the last moment.
+    /// How many of the nodes right below it hold.
     pub count: usize,
-    /// It held in the last moment.
+    /// It holds.
     pub told: bool,
 }
 
-/// The states of all nodes of some conditions, one behind another in the order of their codes. They can't grow after they
-/// were made.
+/// The states of all nodes of some conditions, one behind another in the order of their codes, and for each slot when its
+/// temporal node is to be looked at: in the moment in which it turns by itself, or, as 0, in the next. They can't grow after
+/// they were made.
 #[derive(Drop)]
 pub struct Nodes {
     pub(crate) states: BoxedSlice<NodeState>,
+    pub(crate) wakes: BoxedSlice<u64>,
 }
 
 impl Model for Nodes {
-    ghost use Rattle.std.specs.Prelude.{List};
     ghost use Rattle.std.specs.Box.{boxed_slice_items};
-    ghost use Rattle.term_eval.specs.declared.nodes.NodeState.{NodeState};
+    ghost use Rattle.term_eval.specs.Memory.{NodeMemory};
 
-    ghost Value = { List NodeState };
+    ghost Value = { NodeMemory };
 
-    ghost view = { λ n. boxed_slice_items n.states };
+    ghost view = { λ n. record {
+      states = boxed_slice_items n.states;
+      wakes = boxed_slice_items n.wakes;
+    } };
 }
 
-// A node before the first moment: it is to be looked at in it.
-fn unasked() -> NodeState
-    ensures { result ≡ record { wake = 0; count = 0; told = false } }
+// A node before the first moment.
+pub(crate) fn unasked() -> NodeState
+    ensures { result ≡ record { count = 0; told = false } }
 {
     NodeState {
-        wake: 0,
         count: 0,
         told: false,
     }
 }
 
 impl Nodes {
-    /// States for so many nodes, which stand for no moment. An error is want of memory.
-    pub fn new(alloc: Global, count: usize) -> Result<Nodes, AllocError>
-        ensures len { IfOk result (λ n. length n ≡ count) }
-        ensures stands { IfOk result (λ n. NodesStandForNone n) }
+    /// States for so many nodes and slots, of which nothing is said before the first moment. An error is want of memory.
+    pub fn new(alloc: Global, count: usize, slots: usize) -> Result<Nodes, AllocError>
+        ensures nodes { IfOk result (λ n. length n.states ≡ count) }
+        ensures slots { IfOk result (λ n. length n.wakes ≡ slots) }
     {
         Ok(Nodes {
             states: vec![in alloc; unasked(); count]?.into_boxed_slice(),
+            wakes: vec![in alloc; 0; slots]?.into_boxed_slice(),
         })
     }
 
-    /// Forgets all moments. Its cost is that of one write a node.
-    pub fn clear(&mut self)
-        ensures len { length self.new ≡ length self.old }
-        ensures stands { NodesStandForNone self.new }
-    {
-        self.states.as_mut_slice().fill(unasked());
-    }
-
-    /// Takes over what is kept of as many other nodes.
+    /// Takes over what is kept of as many other nodes and slots.
     pub fn copy_from(&mut self, other: &Nodes)
-        requires { length self.old ≡ length other.now }
+        requires nodes { length self.old.states ≡ length other.now.states }
+        requires slots { length self.old.wakes ≡ length other.now.wakes }
         ensures { self.new ≡ other.now }
     {
         self.states.copy_from_slice(&other.states);
+        self.wakes.copy_from_slice(&other.wakes);
     }
 
-    /// A node is to be looked at in the next moment. Its cost is one write.
-    pub fn mark(&mut self, node: usize)
-        requires { node < length self.old }
-        ensures own { (state_at self.new node).wake ≡ 0 }
-        ensures marks { AreMarked self.old self.new }
+    /// The operand of node `node` of a condition, whose nodes start at `first`, reads otherwise than in the moment before: the
+    /// node is told, and with it each node right above one that turned, up to a temporal one, which is then to be looked at.
+    /// Answers whether there is such a one, or the condition itself turned. Its cost is a look at each of these nodes.
+    #[inline(always)]
+    pub fn turn(&mut self, steps: &[Step], first: usize, node: usize, reading: Reading) -> bool
+        requires held { (c : Tree) × (at : ℕ) × IsHeld steps.now self.old c at first
+            × (node < nodes c) }
+        requires reading { IsReading reading }
+        ensures waits { (c : Tree) (at : ℕ) → IsHeld steps.now self.old c at first
+            → (w : World) (h : ℕ) (asked : ℕ → Bool) (x : Operand) → AreAtoms c asked
+            → Asks c node x → Reads w (suc h) x reading
+            → NodesWait w h asked c at first self.old
+            → NodesWait w h (also node asked) c at first self.new }
+        ensures within { (c : Tree) (at : ℕ) → IsHeld steps.now self.old c at first
+            → Within first (first + nodes c) at (at + slots c) self.old self.new }
+        ensures wakes { result ≡ false → self.new.wakes ≡ self.old.wakes }
+        ensures told { result ≡ false
+            → (state_at self.new.states first).told ≡ (state_at self.old.states first).told }
     {
-        self.states[node].wake = 0;
+        let holds = atom_says(&steps[node].node, reading);
+        climb(&mut self.states, &mut self.wakes, steps, first, node, holds)
     }
 }

@@ -2,12 +2,13 @@
 #![tactic(auto, unfolding(ecam_spec::specs::TermSize::slots, ecam_spec::specs::TermNames::IsWithin))]
 
 ghost use Rattle.std.specs.Prelude.{◌≡◌, ◌≤◌, length, IfOk};
+ghost use Rattle.ecam_spec.specs.Book.{Tree};
 ghost use Rattle.ecam_spec.specs.TermSize.{slots};
 ghost use Rattle.ecam_spec.specs.TermNames.{IsWithin};
 ghost use Rattle.term_tree.specs.View.{tree_of};
-ghost use Rattle.term_eval.specs.Code.{IsCode};
+ghost use Rattle.term_eval.specs.Code.{IsCode, IsHeld};
 
-use crate::{Cells, Env, Nodes, Step, add_code};
+use crate::{Cells, Env, Node, Nodes, Reading, Step, add_code, add_owners};
 use ecam_kinds::{Keys, Phase};
 use std::alloc::{AllocError, Global};
 use std::test::Fail;
@@ -57,46 +58,74 @@ fn code_of(alloc: Global, cond: &Cond) -> Result<Vec<Step>, AllocError>
     Ok(steps)
 }
 
-// Marks so many nodes.
-fn mark_all(nodes: &mut Nodes, count: usize)
-    requires { count ≤ length nodes.old }
-    ensures { length nodes.new ≡ length nodes.old }
+// The values of a, b and d in a moment, with a in this one moment alone and b in that one.
+fn values_in(moment: usize, a: usize, b: usize) -> [Option<i64>; 3]
+    ensures { length result ≡ 3 }
 {
-    for node in 0..count {
-        nodes.mark(node);
+    [truth(moment == a), truth(moment == b), truth(true)]
+}
+
+fn value_at(values: &[Option<i64>], param: u32) -> Option<i64> {
+    match values.get(param as usize) {
+        Some(value) => *value,
+        None => None,
     }
 }
 
-// The same answers, by the condition's code. All of its nodes are marked where `marks` says so.
+// Tells each discrete that reads otherwise than it did.
+fn hear(nodes: &mut Nodes, steps: &[Step], was: &[Option<i64>], values: &[Option<i64>])
+    requires { (c : Tree) × IsHeld steps.now nodes.old c 0 0 }
+    ensures states { length nodes.new.states ≡ length nodes.old.states }
+    ensures wakes { length nodes.new.wakes ≡ length nodes.old.wakes }
+{
+    for (node, step) in steps.iter().enumerate() {
+        if let Node::Disc(param) = step.node {
+            let value = value_at(values, param);
+            if value != value_at(was, param) {
+                nodes.turn(steps, 0, node, Reading::Value(value));
+            }
+        }
+    }
+}
+
+// The same answers, by the condition's code, and when it is due. What reads otherwise is told in the moments that are heard.
 fn answers_by_code(
     alloc: Global,
     cond: &Cond,
     a: usize,
     b: usize,
-    marks: [bool; 5],
+    heard: [bool; 5],
 ) -> Result<([bool; 5], [u64; 5]), AllocError>
     requires few { slots (tree_of cond.now) ≤ 2 }
     requires names { IsWithin 3 0 (tree_of cond.now) }
 {
     let steps = code_of(alloc, cond)?;
-    let mut nodes = Nodes::new(alloc, steps.len())?;
+    let mut temporals = Vec::new(alloc);
+    add_owners(&mut temporals, &steps)?;
+    let mut nodes = Nodes::new(alloc, steps.len(), 2)?;
     let mut cells = Cells::new(alloc, 2)?;
     let keys = Keys::new();
-    let mut found = [false; 5];
-    let mut dues = [0; 5];
-    for moment in 0..5usize {
-        let values = [truth(moment == a), truth(moment == b), truth(true)];
-        let env = Env {
-            values: &values,
-            phase: Phase { number: 6 },
-            active: &[],
-            keys: &keys,
-            one_up: true,
-            two_up: true,
+    let mut values = values_in(0, a, b);
+    let env = Env {
+        values: &values,
+        phase: Phase { number: 6 },
+        active: &[],
+        keys: &keys,
+        one_up: true,
+        two_up: true,
+    };
+    let first = cells.begin(&mut nodes, &steps, 0, &env);
+    let mut found = [first.holds; 5];
+    let mut dues = [first.due; 5];
+    for moment in 1..5usize {
+        let next = if heard[moment] {
+            values_in(moment, a, b)
+        } else {
+            values
         };
-        let count = if marks[moment] { steps.len() } else { 0 };
-        mark_all(&mut nodes, count);
-        let turn = cells.run(&mut nodes, &steps, 0, &env, moment as u64);
+        hear(&mut nodes, &steps, &values, &next);
+        values = next;
+        let turn = cells.run(&mut nodes, &steps, 0, &temporals, 0, moment as u64);
         found[moment] = turn.holds;
         dues[moment] = turn.due;
     }
@@ -120,10 +149,10 @@ fn code_tells_what_the_tree_tells(rt: HostRuntime) -> Result<(), Fail> {
     Ok(())
 }
 
-// A node that isn't marked is left alone: a that holds in moment 1 alone is never seen where only the first moment marks it,
-// and is seen to go where moment 2 marks it.
+// A node that isn't told is left alone: a that holds in moment 1 alone is never seen where only the first moment is heard, and is
+// seen to go where moment 3 is heard.
 #[test]
-fn leaves_what_is_not_marked(rt: HostRuntime) -> Result<(), Fail> {
+fn leaves_what_is_not_told(rt: HostRuntime) -> Result<(), Fail> {
     let alloc = rt.alloc();
     let cond = Cond::Not(Box::new(alloc, Cond::Disc(A))?);
     assert_eq!(rt;
@@ -141,14 +170,14 @@ fn leaves_what_is_not_marked(rt: HostRuntime) -> Result<(), Fail> {
     Ok(())
 }
 
-// Each kind of temporal node turns by itself in its due moment, with no mark but those of the first two moments.
+// Each kind of temporal node turns by itself in its due moment, where no moment but the first two is heard.
 #[test]
-fn is_due_without_a_mark(rt: HostRuntime) -> Result<(), Fail> {
+fn is_due_where_nothing_is_told(rt: HostRuntime) -> Result<(), Fail> {
     let alloc = rt.alloc();
-    let marks = [true, true, false, false, false];
+    let heard = [true, true, false, false, false];
     let confirmed = Cond::Conf(Box::new(alloc, Cond::Disc(D))?, 2);
     assert_eq!(rt;
-        answers_by_code(alloc, &confirmed, 4, 4, marks)?,
+        answers_by_code(alloc, &confirmed, 4, 4, heard)?,
         (
             [false, false, true, true, true],
             [2, 2, u64::MAX, u64::MAX, u64::MAX]
@@ -156,7 +185,7 @@ fn is_due_without_a_mark(rt: HostRuntime) -> Result<(), Fail> {
     );
     let lately = Cond::Hold(Box::new(alloc, Cond::Disc(A))?, 2);
     assert_eq!(rt;
-        answers_by_code(alloc, &lately, 0, 4, marks)?,
+        answers_by_code(alloc, &lately, 0, 4, heard)?,
         (
             [true, true, true, false, false],
             [u64::MAX, 3, 3, u64::MAX, u64::MAX]
@@ -164,7 +193,7 @@ fn is_due_without_a_mark(rt: HostRuntime) -> Result<(), Fail> {
     );
     let risen = Cond::Rise(Box::new(alloc, Cond::Disc(D))?);
     assert_eq!(rt;
-        answers_by_code(alloc, &risen, 4, 4, marks)?,
+        answers_by_code(alloc, &risen, 4, 4, heard)?,
         (
             [true, false, false, false, false],
             [1, u64::MAX, u64::MAX, u64::MAX, u64::MAX]
@@ -174,7 +203,7 @@ fn is_due_without_a_mark(rt: HostRuntime) -> Result<(), Fail> {
     let reset = Cond::Not(Box::new(alloc, lately)?);
     let cond = Cond::Latch(Box::new(alloc, Cond::Disc(A))?, Box::new(alloc, reset)?);
     assert_eq!(rt;
-        answers_by_code(alloc, &cond, 0, 4, marks)?,
+        answers_by_code(alloc, &cond, 0, 4, heard)?,
         (
             [true, true, false, false, false],
             [u64::MAX, 2, u64::MAX, u64::MAX, u64::MAX]

@@ -1,37 +1,125 @@
-use Rattle.std.proofs.Common.{◌<◌, length, refl, ap, ◌∙◌, arith}
-use Rattle.std.proofs.lemmas.List.{length-set}
+use Rattle.std.proofs.Common.{◌≡◌, ◌<◌, ℕ, zero, suc, length, refl, sym, ap, subst, ◌∙◌, arith}
 use Rattle.std.proofs.lemmas.Option.{slice_get_within}
 use Rattle.book_model.specs.Conditions.{places}
+use Rattle.term_eval.specs.Code.{owners, IsReady}
+use Rattle.term_eval.specs.CellState.{Stand}
+use Rattle.term_eval.specs.Shown.{Shows}
 use Rattle.condition_codes.specs.Places.{nodes_before}
-use Rattle.fwc_lane.proofs.Stepping.{is-ready, half-step, will-note}
+use Rattle.fwc_lane.specs.Conditions.{StepsTerm}
+use Rattle.fwc_lane.proofs.Stepping.{is-ready, moved-asked}
+use Rattle.fwc_lane.proofs.Running.{IsRun, noted, noted-run, run-fits, run-steps}
 use Rattle.fwc_lane.proofs.conditions.run_term.Goals as goal
+
+-- a moment that isn't the first has one before it
+before-it : (k : ℕ) → (k ≡ 0 → ⊥) → (h : ℕ) × (k ≡ suc h)
+before-it zero later = absurd (later refl)
+before-it (suc h) later = (h, refl)
 
 pub start-start-requires : goal.start-start-requires
 start-start-requires c =
     let (b, p, fits, here, names) = c.requires.place in
     let inside : c.args.number < length (places b) = slice_get_within (places b) c.args.number p here in
-    (b, fits.codes, omega (arith, inside))
+    (b, fits.codes, inside)
 
-pub code-requires : goal.code-requires
-code-requires c =
+pub code-steps-requires : goal.code-steps-requires
+code-steps-requires c =
     let (b, p, fits, here, names) = c.requires.place in
     let inside : c.args.number < length (places b) = slice_get_within (places b) c.args.number p here in
-    (b, fits.codes, omega (arith, inside))
+    (b, fits.codes, inside)
 
-pub run-turn-requires-clause-code : goal.run-turn-requires-clause-code
-run-turn-requires-clause-code c =
+pub begin-turn-requires-clause-ready : goal.begin-turn-requires-clause-ready
+begin-turn-requires-clause-ready c =
     let (b, p, fits, here, names) = c.requires.place in
     let inside : c.args.number < length (places b) = slice_get_within (places b) c.args.number p here in
-    (p.tree, p.at, is-ready b c.args.terms.now c.args.number p c.args.env.now c.code.result.now c.start-start.result fits here names (c.code.ensures b fits.codes p here) (c.start-start.ensures b fits.codes inside))
+    (p.tree, p.at, is-ready b c.args.terms.now c.args.number p c.code-steps.result.now c.start-start.result fits here (c.code-steps.ensures b fits.codes p here) (c.start-start.ensures b fits.codes inside), names)
 
-pub index_mut-requires : goal.index_mut-requires
-index_mut-requires c =
+pub note-requires-clause-codes : goal.note-requires-clause-codes
+note-requires-clause-codes c =
     let (b, p, fits, here, names) = c.requires.place in
     let inside : c.args.number < length (places b) = slice_get_within (places b) c.args.number p here in
-    omega (arith, inside, fits.truths, c.args.terms.now.truths.ok.0)
+    (b, fits.codes, inside)
 
-pub set-requires : goal.set-requires
-set-requires c =
+pub note-requires-clause-truths : goal.note-requires-clause-truths
+note-requires-clause-truths c =
+    let (b, p, fits, here, names) = c.requires.place in
+    let inside : c.args.number < length (places b) = slice_get_within (places b) c.args.number p here in
+    omega (arith, inside, fits.truths)
+
+pub note-requires-clause-dues : goal.note-requires-clause-dues
+note-requires-clause-dues c =
+    let (b, p, fits, here, names) = c.requires.place in
+    let inside : c.args.number < length (places b) = slice_get_within (places b) c.args.number p here in
+    omega (arith, inside, fits.dues)
+
+pub returns-then-now-eq0-clause-fits : goal.returns-then-now-eq0-clause-fits
+returns-then-now-eq0-clause-fits c b fits =
+    let (b', p, own, here, names) = c.requires.place in
+    let inside : c.args.number < length (places b') = slice_get_within (places b') c.args.number p here in
+    let first = c.start-start.result in
+    let ready = is-ready b' c.args.terms.now c.args.number p c.code-steps.result.now first own here (c.code-steps.ensures b' own.codes p here) (c.start-start.ensures b' own.codes inside) in
+    let begun = c.begin-turn.ensures in
+    run-fits b c.args.number first p c.begin-turn.result.holds c.begin-turn.result.due c.args.terms.now c.note.new.terms
+    (noted c.args.number first p c.begin-turn.result.holds c.begin-turn.result.due c.args.terms.now c.note.new.terms c.begin-turn.new.states c.begin-turn.new.self c.note.ensures.rest c.note.ensures.slots
+    (begun.within p.tree p.at ready) (begun.before p.tree p.at ready) (begun.behind p.tree p.at ready) begun.len begun.visits (c.note.ensures.visits b' p own.codes here) c.note.ensures.truths c.note.ensures.dues)
+    fits
+
+pub returns-then-now-eq0-clause-steps : goal.returns-then-now-eq0-clause-steps
+returns-then-now-eq0-clause-steps c b p fits here names =
+    let inside : c.args.number < length (places b) = slice_get_within (places b) c.args.number p here in
+    let start = nodes_before (places b) c.args.number in
+    let at = c.start-start.ensures b fits.codes inside in
+    let ready = is-ready b c.args.terms.now c.args.number p c.code-steps.result.now start fits here (c.code-steps.ensures b fits.codes p here) refl in
+    let begun = rw at at c.begin-turn.ensures in
+    subst (StepsTerm (places b) c.args.env.now c.args.now c.args.number p c.args.terms.now c.note.new.terms) (sym c.note.ensures.holds)
+    (run-steps b c.args.env.now c.args.now c.args.number p c.begin-turn.result.holds c.begin-turn.result.due c.args.terms.now c.note.new.terms c.requires.now here fits c.requires.woken
+    (noted c.args.number start p c.begin-turn.result.holds c.begin-turn.result.due c.args.terms.now c.note.new.terms c.begin-turn.new.states c.begin-turn.new.self c.note.ensures.rest c.note.ensures.slots
+    (begun.within p.tree p.at ready) (begun.before p.tree p.at ready) (begun.behind p.tree p.at ready) begun.len begun.visits (c.note.ensures.visits b p fits.codes here) c.note.ensures.truths c.note.ensures.dues)
+    (λ w hit shows tells left.
+    let zero_is = c.if-now-eq0.true in
+    let shown = subst (Shows c.args.env.now w) zero_is shows in
+    let stood = subst (λ k. Stand w k p.tree p.at c.args.terms.now.cells.slots) zero_is left.stands in
+    subst (λ k. IsRun w k start p c.note.new.terms c.begin-turn.result.holds c.begin-turn.result.due) (sym zero_is)
+    (noted-run c.args.number start p c.begin-turn.result.holds c.begin-turn.result.due c.args.terms.now c.note.new.terms c.begin-turn.new.states c.begin-turn.new.self c.note.ensures.rest c.note.ensures.slots w 0
+    (begun.truth p.tree p.at ready w shown stood) (begun.due p.tree p.at ready w shown stood) (begun.wake p.tree p.at ready)
+    (begun.stands p.tree p.at ready w shown stood) (begun.nodes p.tree p.at ready w shown stood))))
+
+pub at-at-requires : goal.at-at-requires
+at-at-requires c =
+    let (b, p, fits, here, names) = c.requires.place in
+    let inside : c.args.number < length (places b) = slice_get_within (places b) c.args.number p here in
+    (b, fits.codes, inside)
+
+pub owners-owners-requires : goal.owners-owners-requires
+owners-owners-requires c =
+    let (b, p, fits, here, names) = c.requires.place in
+    let inside : c.args.number < length (places b) = slice_get_within (places b) c.args.number p here in
+    (b, fits.codes, inside)
+
+pub run-turn-requires-clause-ready : goal.run-turn-requires-clause-ready
+run-turn-requires-clause-ready c =
+    let (b, p, fits, here, names) = c.requires.place in
+    let inside : c.args.number < length (places b) = slice_get_within (places b) c.args.number p here in
+    let code = c.code-steps.ensures b fits.codes p here in
+    let ready = is-ready b c.args.terms.now c.args.number p c.code-steps.result.now c.start-start.result fits here code (c.start-start.ensures b fits.codes inside) in (
+      p.tree,
+      subst (λ at. IsReady c.code-steps.result.now c.args.terms.now.cells c.args.terms.now.nodes p.tree at c.start-start.result) (sym (c.at-at.ensures b fits.codes p here)) ready,
+      c.owners-owners.ensures b fits.codes p here ∙ ap (owners 0) (sym code.is),
+    )
+
+pub note-requires-2-clause-codes : goal.note-requires-2-clause-codes
+note-requires-2-clause-codes c =
+    let (b, p, fits, here, names) = c.requires.place in
+    let inside : c.args.number < length (places b) = slice_get_within (places b) c.args.number p here in
+    (b, fits.codes, inside)
+
+pub note-requires-2-clause-truths : goal.note-requires-2-clause-truths
+note-requires-2-clause-truths c =
+    let (b, p, fits, here, names) = c.requires.place in
+    let inside : c.args.number < length (places b) = slice_get_within (places b) c.args.number p here in
+    omega (arith, inside, fits.truths)
+
+pub note-requires-2-clause-dues : goal.note-requires-2-clause-dues
+note-requires-2-clause-dues c =
     let (b, p, fits, here, names) = c.requires.place in
     let inside : c.args.number < length (places b) = slice_get_within (places b) c.args.number p here in
     omega (arith, inside, fits.dues)
@@ -40,36 +128,34 @@ pub returns-clause-fits : goal.returns-clause-fits
 returns-clause-fits c b fits =
     let (b', p, own, here, names) = c.requires.place in
     let inside : c.args.number < length (places b') = slice_get_within (places b') c.args.number p here in
-    let ready = is-ready b' c.args.terms.now c.args.number p c.args.env.now c.code.result.now c.start-start.result own here names (c.code.ensures b' own.codes p here) (c.start-start.ensures b' own.codes inside) in
-    record {
-      codes = fits.codes;
-      nodes = c.run-turn.ensures.room ∙ fits.nodes;
-      askers = fits.askers;
-      slots = c.run-turn.ensures.len ∙ fits.slots;
-      visits = omega (arith, c.run-turn.ensures.visits p.tree p.at ready);
-      truths = length-set c.args.terms.now.truths.items c.args.number c.run-turn.result.holds ∙ fits.truths;
-      dues = ap length c.set.ensures ∙ length-set c.args.terms.now.dues c.args.number c.run-turn.result.due ∙ fits.dues;
-      room = fits.room;
-      watch = fits.watch;
-    }
+    let first = c.start-start.result in
+    let code = c.code-steps.ensures b' own.codes p here in
+    let ready = is-ready b' c.args.terms.now c.args.number p c.code-steps.result.now first own here code (c.start-start.ensures b' own.codes inside) in
+    let own_nodes = c.owners-owners.ensures b' own.codes p here ∙ ap (owners 0) (sym code.is) in
+    let run = rw (c.at-at.ensures b' own.codes p here) at c.run-turn.ensures in
+    run-fits b c.args.number first p c.run-turn.result.holds c.run-turn.result.due c.args.terms.now c.note-2.new.terms
+    (noted c.args.number first p c.run-turn.result.holds c.run-turn.result.due c.args.terms.now c.note-2.new.terms c.run-turn.new.states c.run-turn.new.self c.note-2.ensures.rest c.note-2.ensures.slots
+    (run.within p.tree ready own_nodes) (run.before p.tree ready own_nodes) (run.behind p.tree ready own_nodes) run.len run.visits (c.note-2.ensures.visits b' p own.codes here) c.note-2.ensures.truths c.note-2.ensures.dues)
+    fits
 
 pub returns-clause-steps : goal.returns-clause-steps
 returns-clause-steps c b p fits here names =
     let inside : c.args.number < length (places b) = slice_get_within (places b) c.args.number p here in
+    let start = nodes_before (places b) c.args.number in
     let first = c.start-start.ensures b fits.codes inside in
-    let ready = is-ready b c.args.terms.now c.args.number p c.args.env.now c.code.result.now (nodes_before (places b) c.args.number) fits here names (c.code.ensures b fits.codes p here) refl in
-    let run = rw first at c.run-turn.ensures in
-    record {
-      truth = λ worlds hit visited at shows tells half.
-          let left = half.left c.args.number p (omega arith) at in
-          run.truth p.tree p.at ready (worlds c.args.number) shows left.stands left.nodes (will-note (worlds c.args.number) hit c.args.now c.args.number _ p c.args.terms.now tells left);
-      stands = λ worlds hit visited at apart shows tells half.
-          let left = half.left c.args.number p (omega arith) at in
-          let notes = will-note (worlds c.args.number) hit c.args.now c.args.number _ p c.args.terms.now tells left in
-          half-step (places b) worlds c.args.now c.args.number p at apart c.args.terms.now _ c.run-turn.result.holds c.run-turn.result.due
-          (run.before p.tree p.at ready) (run.behind p.tree p.at ready) (run.before_first p.tree p.at ready) (run.behind_last p.tree p.at ready)
-          refl c.set.ensures refl (run.visits p.tree p.at ready) hit visited c.requires.now tells c.requires.woken
-          (omega (arith, inside, fits.truths)) (omega (arith, inside, fits.dues))
-          (run.stands p.tree p.at ready (worlds c.args.number) shows left.stands left.nodes notes) (run.truth p.tree p.at ready (worlds c.args.number) shows left.stands left.nodes notes)
-          (run.due p.tree p.at ready (worlds c.args.number) shows left.stands left.nodes notes) half;
-    }
+    let code = c.code-steps.ensures b fits.codes p here in
+    let ready = is-ready b c.args.terms.now c.args.number p c.code-steps.result.now start fits here code refl in
+    let own_nodes = c.owners-owners.ensures b fits.codes p here ∙ ap (owners 0) (sym code.is) in
+    let run = rw (first, c.at-at.ensures b fits.codes p here) at c.run-turn.ensures in
+    subst (StepsTerm (places b) c.args.env.now c.args.now c.args.number p c.args.terms.now c.note-2.new.terms) (sym c.note-2.ensures.holds)
+    (run-steps b c.args.env.now c.args.now c.args.number p c.run-turn.result.holds c.run-turn.result.due c.args.terms.now c.note-2.new.terms c.requires.now here fits c.requires.woken
+    (noted c.args.number start p c.run-turn.result.holds c.run-turn.result.due c.args.terms.now c.note-2.new.terms c.run-turn.new.states c.run-turn.new.self c.note-2.ensures.rest c.note-2.ensures.slots
+    (run.within p.tree ready own_nodes) (run.before p.tree ready own_nodes) (run.behind p.tree ready own_nodes) run.len run.visits (c.note-2.ensures.visits b p fits.codes here) c.note-2.ensures.truths c.note-2.ensures.dues)
+    (λ w hit shows tells left.
+    let later = before-it c.args.now c.if-now-eq0.false in
+    let h = later.0 in
+    let is = later.1 in
+    let waits = moved-asked w hit c.args.now h c.args.number start p c.args.terms.now tells (left.later h is) in
+    noted-run c.args.number start p c.run-turn.result.holds c.run-turn.result.due c.args.terms.now c.note-2.new.terms c.run-turn.new.states c.run-turn.new.self c.note-2.ensures.rest c.note-2.ensures.slots w c.args.now
+    (run.truth p.tree ready own_nodes w h is left.stands waits) (run.due p.tree ready own_nodes w h is left.stands waits) (run.wake p.tree ready own_nodes w h is left.stands waits)
+    (run.stands p.tree ready own_nodes w h is left.stands waits) (run.nodes p.tree ready own_nodes w h is left.stands waits)))

@@ -1,7 +1,7 @@
 use Rattle.std.proofs.Common.{◌≡◌, ◌≢◌, ◌<◌, ◌≤◌, ◌&&◌, ◌||◌, ℕ, length, get_or, set, None, IfSome, refl, ◌∙◌, ap, subst, sym, arith, eqb, not, inl, inr}
 use Rattle.std.specs.Prelude.{unwrap_or}
 use Rattle.std.specs.Option.{option_eq}
-use Rattle.std.proofs.lemmas.Bool.{cases_eq}
+use Rattle.std.proofs.lemmas.Bool.{cases_eq, eqb-true}
 use Rattle.std.proofs.lemmas.List.{get_or-set_other, length-set}
 use Rattle.std.proofs.lemmas.List.Elements.{All-set}
 use Rattle.std.specs.Ordering.{int_eq}
@@ -12,9 +12,11 @@ use Rattle.ecam_spec.specs.Situation.{parameter_at}
 use Rattle.system_display.specs.Pages.{IsShort, AreShort}
 use Rattle.fwc_lane.specs.Waking.{ranged, value_turned}
 use Rattle.fwc_lane.proofs.FlagSteps.{set-own, set-behind, set-length, left-false, right-false}
+use Rattle.term_eval.specs.declared.reading.Reading.TheVariants.{Value}
+use Rattle.fwc_lane.proofs.Listing.{right-true}
 use Rattle.fwc_lane.proofs.Awake.{awake-then, awake-none}
 use Rattle.fwc_lane.proofs.TurnedFlags.{many-flags, turned-then}
-use Rattle.fwc_lane.proofs.ValueSteps.{is-short, none-turned, one-turned, found-there, read-over}
+use Rattle.fwc_lane.proofs.ValueSteps.{is-short, none-turned, one-turned, read-before, found-there, read-over}
 use Rattle.fwc_lane.proofs.values.read_values.Goals as goal
 
 pub loop-param-init : goal.loop-param-init
@@ -26,7 +28,7 @@ loop-param-init c =
       read = λ words k stands before p lt. absurd (omega arith);
       short = c.requires.short;
       terms = c.requires.terms;
-      wakes = awake-none b (ranged 0 (length b.parameters) (value_turned values values)) c.args.terms.now (none-turned (length b.parameters) values);
+      wakes = awake-none b (ranged 0 (length b.parameters) (value_turned values values)) (λ o. Value (get_or values o None)) c.args.terms.now (none-turned (length b.parameters) values);
       later = λ p le. refl;
       kept = λ e. refl;
       flags = refl;
@@ -89,8 +91,10 @@ loop-param-preserved c =
       ];
       short = subst AreShort (sym set-is) (All-set (λ v. IfSome v IsShort) before p _ (is-short _ _ c.value-value.ensures.bound) is.short);
       terms = c.wake.ensures.fits;
-      wakes = awake-then b (ranged 0 n (value_turned was before)) (λ o. c.set_value-other.result && eqb o p) (ranged 0 n (value_turned was after)) c.args.terms.now c.loop-param.terms c.wake.new.terms
+      wakes = awake-then b (ranged 0 n (value_turned was before)) (λ o. c.set_value-other.result && eqb o p) (ranged 0 n (value_turned was after)) (λ o. Value (get_or before o None)) (λ o. Value c.value-value.result) (λ o. Value (get_or after o None)) c.args.terms.now c.loop-param.terms c.wake.new.terms
           (λ o. one-turned n p was before after at.1 (is.later p at.0) others o ∙ ap (λ x. ranged 0 n (value_turned was before) o || (x && eqb o p)) (sym flag))
+          (read-before n p was before after at.1 (is.later p at.0) others)
+          (λ o on. ap (λ x. Value (get_or after x None)) (eqb-true o p (right-true c.set_value-other.result (eqb o p) on)) ∙ ap Value own)
           is.wakes c.wake.ensures.wakes;
       later = λ j le. set-behind before after p _ None set-is j (omega arith) ∙ is.later j (omega (arith, le, at.0));
       kept = λ off.

@@ -4,6 +4,7 @@ use Rattle.ecam_spec.specs.Situation.{parameter_at}
 use Rattle.book_model.specs.Sealed.{the_book}
 use Rattle.param_table.specs.TableState.{ParamsStand}
 use Rattle.system_display.specs.Pages.{AreShort}
+use Rattle.term_eval.specs.declared.reading.Reading.TheVariants.{Value}
 use Rattle.fwc_lane.specs.Given.{AreBefore}
 use Rattle.fwc_lane.specs.TermsFit.{TermsFit}
 use Rattle.fwc_lane.specs.Waking.{HasWoken, ranged, value_turned}
@@ -16,7 +17,7 @@ invariant-loop-param l = record {
       → (p : ℕ) → p < l.from → p < length (the_book l.book).parameters → get_or l.values.items p None ≡ value (parameter_at (the_book l.book) p) words k;
   short : AreShort l.values.items;
   terms : TermsFit (the_book l.book) l.terms;
-  wakes : HasWoken (the_book l.book) (ranged 0 (length (the_book l.book).parameters) (value_turned l.initial.values.items l.values.items)) l.initial.terms l.terms;
+  wakes : HasWoken (the_book l.book) (ranged 0 (length (the_book l.book).parameters) (value_turned l.initial.values.items l.values.items)) (λ o. Value (get_or l.values.items o None)) l.initial.terms l.terms;
   later : (p : ℕ) → l.from ≤ p → get_or l.values.items p None ≡ get_or l.initial.values.items p None;
   kept : l.any ≡ false → l.values.items ≡ l.initial.values.items;
   flags : length l.turned.items ≡ length l.initial.turned.items;

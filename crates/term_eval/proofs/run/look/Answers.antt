@@ -1,15 +1,26 @@
-use Rattle.std.proofs.Common.{◌∙◌, ap}
-use Rattle.std.specs.Prelude.{slice_set}
+use Rattle.std.proofs.Common.{◌≡◌, ◌+◌, ℕ, suc, min, Bool, List, ◌∙◌, ap, add-one, slice_set}
+use Rattle.term_eval.specs.declared.memory.Cell.{Cell}
+use Rattle.term_eval.specs.Climb.{climb, Climbed, node_of}
 use Rattle.term_eval.specs.NodeState.{state_at}
-use Rattle.term_eval.specs.Run.{tell_up}
-use Rattle.term_eval.proofs.Passing.{looks}
+use Rattle.term_eval.specs.Run.{Run, says, due_after, cells_after, look}
 use Rattle.term_eval.proofs.run.look.Goals as goal
 
+abbrev all_of : Climbed → List Cell → ℕ → Run
+all_of d cells due = record { states = d.states; wakes = d.wakes; cells = cells; due = due }
+
 pub returns : goal.returns
+unfolding look
 returns c =
-    let states = c.args.states.now in
-    let told = c.tell_up.ensures
-    ∙ ap (λ n. tell_up c.args.i c.args.step.now.up (state_at states c.args.i).told c.tell-turn.result.holds (slice_set states c.args.i n)) c.keep.ensures in
-    looks c.args.env.now c.args.now c.args.i c.args.step.now (record { states = states; cells = c.args.cells.now; due = c.args.due.now })
-    c.tell-turn.result.holds c.tell-turn.result.due c.tell_up.new.states c.tell-turn.new.cells c.earlier.new.due
-    c.tell-turn.ensures.holds c.tell-turn.ensures.due told c.tell-turn.ensures.cells c.earlier.ensures
+    let a = c.args in
+    let t = c.tell-turn in
+    let own = state_at a.states.now (a.first + a.node) in
+    let node = (node_of a.steps.now a.node).node in
+    let holds : Bool = says a.now a.cells.now own.count (state_at a.states.now (a.first + a.node + 1)).told node in
+    let wake : ℕ = due_after a.now a.cells.now own.count node in
+    let to : ℕ → Bool → ℕ → Climbed = λ n b d. climb n a.steps.now a.first a.node b a.states.now (slice_set a.wakes.now a.slot d) in
+    let climbed : record { states = c.climb.new.states; wakes = c.climb.new.wakes; stirs = c.climb.result } ≡ to (suc a.node) holds wake =
+    c.climb.ensures ∙ ap (λ n. to n t.result.holds t.result.due) (add-one a.node) ∙ ap (λ b. to (suc a.node) b t.result.due) t.ensures.holds
+    ∙ ap (λ d. to (suc a.node) holds d) t.ensures.due in
+    ap (λ d. all_of d t.new.cells c.earlier.new.due) climbed
+    ∙ ap (λ cells. all_of (to (suc a.node) holds wake) cells c.earlier.new.due) t.ensures.cells
+    ∙ ap (λ due. all_of (to (suc a.node) holds wake) (cells_after a.now a.cells.now own.count (state_at a.states.now (a.first + a.node + 1)).told node) due) (c.earlier.ensures ∙ ap (min a.due.now) t.ensures.due)

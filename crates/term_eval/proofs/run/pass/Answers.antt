@@ -1,59 +1,60 @@
-use Rattle.std.proofs.Common.{rules, ◌≡◌, ◌+◌, ◌-◌, ◌<◌, length, false, get_or, drop, refl, ◌∙◌, subst, sym, arith}
-use Rattle.term_eval.specs.CellWords.{never}
+use Rattle.std.proofs.Common.{◌≡◌, ◌+◌, ◌-◌, ◌<◌, ℕ, suc, List, [], length, drop, refl, sym, ◌∙◌, ap, arith, drop_of_length-le, drop-cons, slice_index_or}
+use Rattle.std.proofs.lemmas.Option.{slice_get-get_or}
 use Rattle.term_eval.specs.declared.code.Step.{Step}
-use Rattle.term_eval.specs.declared.code.Node.TheVariants.{Const}
-use Rattle.term_eval.specs.Run.{State, pass_over}
-use Rattle.term_eval.proofs.Passing.{can-at, pass-next, pass-end}
-use Rattle.term_eval.proofs.DueLater.{visit-later, pass-left}
+use Rattle.term_eval.specs.CellWords.{never}
+use Rattle.term_eval.specs.Run.{Run, look_or_leave, pass_over}
 use Rattle.term_eval.proofs.run.pass.Goals as goal
 
-pub loop-i-init : goal.loop-i-init
-loop-i-init c = record {
-  within = omega arith;
-  nodes = refl;
-  slots = refl;
-  later = omega (arith, c.requires.now);
-  over = pass-end c.args.env.now c.args.now c.args.first c.args.steps.now (record { states = c.args.states.now; cells = c.args.cells.now; due = never });
-}
+pub loop-slot-init : goal.loop-slot-init
+unfolding pass_over
+loop-slot-init c =
+    let xs = c.args.temporals.now in
+    let none : drop (length xs) xs ≡ [] = drop_of_length-le xs (omega arith) in
+    record { range = omega arith; is = rw none refl }
 
-pub overflow_add-first : goal.overflow_add-first
-overflow_add-first c =
-    let inside : c.loop-i.i - 1 < length c.args.steps.now = omega (arith, c.loop-i.invariant.within, c.loop-i-test.true) in
-    let can = can-at c.args.env.now _ _ c.args.first c.args.steps.now (c.loop-i.i - 1) (record { node = Const false; up = 0 }) inside c.requires.can in
-    let within : c.args.first + (c.loop-i.i - 1) < length c.loop-i.states = omega (arith, can.within, c.loop-i.invariant.nodes) in
-    search rules
+pub overflow_add-at : goal.overflow_add-at
+overflow_add-at c =
+    let j = c.loop-slot.slot - 1 in
+    let can = c.requires j (slice_index_or c.args.temporals.now j 0) (slice_get-get_or c.args.temporals.now j 0 (omega (arith, c.loop-slot.invariant.range))) in
+    omega (arith, can.room)
 
-pub look_or_leave-requires-clause-can : goal.look_or_leave-requires-clause-can
-look_or_leave-requires-clause-can c =
-    let inside : c.loop-i.i - 1 < length c.args.steps.now = omega (arith, c.loop-i.invariant.within, c.loop-i-test.true) in
-    let can = can-at c.args.env.now _ _ c.args.first c.args.steps.now (c.loop-i.i - 1) (record { node = Const false; up = 0 }) inside c.requires.can in
-    rw c.loop-i.invariant.nodes (rw c.loop-i.invariant.slots can)
+pub look_or_leave-requires : goal.look_or_leave-requires
+look_or_leave-requires c =
+    let j = c.loop-slot.slot - 1 in
+    let can = c.requires j (slice_index_or c.args.temporals.now j 0) (slice_get-get_or c.args.temporals.now j 0 (omega (arith, c.loop-slot.invariant.range))) in
+    rw (c.loop-slot.auto.states) (rw (c.loop-slot.auto.wakes) (rw (c.loop-slot.auto.cells) can))
 
-pub leave-i-requires : goal.leave-i-requires
-leave-i-requires c =
-    let inside : c.loop-i.i - 1 < length c.args.steps.now = omega (arith, c.loop-i.invariant.within, c.loop-i-test.true) in
-    let can = can-at c.args.env.now _ _ c.args.first c.args.steps.now (c.loop-i.i - 1) (record { node = Const false; up = 0 }) inside c.requires.can in
-    omega (arith, can.within, c.loop-i.invariant.nodes, c.look_or_leave.auto.states)
+-- the first of some nodes is gone through behind all the others
+first-last : (k first at j : ℕ) (steps : List Step) (xs : List ℕ) (s : Run) → j < length xs →
+    look_or_leave k steps first (slice_index_or xs j 0) (at + j) (pass_over k steps first (drop (suc j) xs) (at + suc j) s) ≡ pass_over k steps first (drop j xs) (at + j) s
+unfolding pass_over
+first-last k first at j steps xs s within =
+    let next : at + suc j ≡ suc (at + j) = omega arith in
+    ap (λ n. look_or_leave k steps first (slice_index_or xs j 0) (at + j) (pass_over k steps first (drop (suc j) xs) n s)) next
+    ∙ ap (λ l. pass_over k steps first l (at + j) s) (sym (drop-cons xs j 0 within))
 
-pub loop-i-preserved : goal.loop-i-preserved
-loop-i-preserved c =
-    let inside : c.loop-i.i - 1 < length c.args.steps.now = omega (arith, c.loop-i.invariant.within, c.loop-i-test.true) in
-    let place : c.loop-i.i ≡ c.loop-i.i - 1 + 1 = omega (arith, c.loop-i-test.true) in
-    let start : State = record { states = c.args.states.now; cells = c.args.cells.now; due = never } in
-    let t : State = record { states = c.loop-i.states; cells = c.loop-i.cells; due = c.loop-i.due } in
-    let next : State = record { states = c.look_or_leave.new.states; cells = c.look_or_leave.new.cells; due = c.look_or_leave.new.due } in
-    let at = c.args.first + (c.loop-i.i - 1) in
-    let d : Step = record { node = Const false; up = 0 } in
-    let here = subst (λ n. t ≡ pass_over c.args.env.now c.args.now (c.args.first + n) (drop n c.args.steps.now) start) place c.loop-i.invariant.over in
-    let later : c.args.now < next.due
-    = subst (λ (s : State). c.args.now < s.due) (sym c.look_or_leave.ensures)
-    (visit-later c.args.env.now c.args.now at (get_or c.args.steps.now (c.loop-i.i - 1) d) t (omega (arith, c.requires.now)) c.loop-i.invariant.later) in
-    let one = c.look_or_leave.ensures ∙ pass-next c.args.env.now c.args.now c.args.first c.args.steps.now (c.loop-i.i - 1) d start t inside here in
+pub loop-slot-preserved : goal.loop-slot-preserved
+loop-slot-preserved c =
+    let a = c.args in
+    let j = c.loop-slot.slot - 1 in
+    let xs : List ℕ = a.temporals.now in
+    let start : Run = record { states = a.states.now; wakes = a.wakes.now; cells = a.cells.now; due = never } in
+    let back : c.loop-slot.slot ≡ suc j = omega arith in
     record {
-      within = omega (arith, inside, c.leave-i.ensures.fewer);
-      nodes = c.look_or_leave.auto.states ∙ c.loop-i.invariant.nodes;
-      slots = c.look_or_leave.auto.cells ∙ c.loop-i.invariant.slots;
-      later = later;
-      over = pass-left c.args.env.now c.args.now c.args.first c.args.steps.now d start next c.leave-i.result (c.loop-i.i - 1)
-          c.leave-i.ensures.fewer (omega (arith, inside)) later c.leave-i.ensures.left one;
+      range = omega (arith, c.loop-slot.invariant.range);
+      is =
+          c.look_or_leave.ensures
+          ∙ ap (look_or_leave a.now a.steps.now a.first (slice_index_or xs j 0) (a.at + j))
+          (c.loop-slot.invariant.is ∙ ap (λ n. pass_over a.now a.steps.now a.first (drop n xs) (a.at + n) start) back)
+          ∙ first-last a.now a.first a.at j a.steps.now xs start (omega (arith, c.loop-slot.invariant.range));
     }
+
+pub returns : goal.returns
+returns c =
+    let a = c.args in
+    let start : Run = record { states = a.states.now; wakes = a.wakes.now; cells = a.cells.now; due = never } in
+    let none : c.loop-slot.slot ≡ 0 = omega arith in
+    let place : a.at + c.loop-slot.slot ≡ a.at = omega arith in
+    c.loop-slot.invariant.is
+    ∙ ap (λ n. pass_over a.now a.steps.now a.first (drop c.loop-slot.slot a.temporals.now) n start) place
+    ∙ ap (λ n. pass_over a.now a.steps.now a.first (drop n a.temporals.now) a.at start) none

@@ -1,18 +1,16 @@
-use Rattle.std.proofs.Common.{◌≡◌, ◌<◌, ◌≤◌, ◌+◌, length, drop}
+use Rattle.std.proofs.Common.{◌≡◌, ◌≤◌, ◌+◌, ℕ, List, length, drop}
+use Rattle.term_eval.specs.declared.code.Step.{Step}
 use Rattle.term_eval.specs.CellWords.{never}
-use Rattle.term_eval.specs.Run.{pass_over}
+use Rattle.term_eval.specs.Run.{Run, pass_over}
 use Rattle.term_eval.proofs.run.pass.Given as goal
 
--- the steps from here on were gone through
-abbrev pub invariant-loop-i : goal.invariant-loop-i
-invariant-loop-i l = record {
-  within : l.i ≤ length l.steps;
-  nodes : length l.states ≡ length l.fn.states;
-  slots : length l.cells ≡ length l.fn.cells;
-  later : l.now < l.due;
-  over : record { states = l.states; cells = l.cells; due = l.due }
-      ≡ pass_over l.env l.now (l.first + l.i) (drop l.i l.steps) (record { states = l.fn.states; cells = l.fn.cells; due = never });
-}
+-- the last of the nodes have been gone through
+pub record Passed (steps : List Step) (first : ℕ) (temporals : List ℕ) (at now slot : ℕ) (old new : Run) : Type 0 where
+  pub range : slot ≤ length temporals
+  pub is : new ≡ pass_over now steps first (drop slot temporals) (at + slot) old
 
-abbrev pub decreases-loop-i : goal.decreases-loop-i
-decreases-loop-i l = l.i
+abbrev pub invariant-loop-slot : goal.invariant-loop-slot
+invariant-loop-slot l = Passed l.steps l.first l.temporals l.at l.now l.slot (record { states = l.fn.states; wakes = l.fn.wakes; cells = l.fn.cells; due = never }) (record { states = l.states; wakes = l.wakes; cells = l.cells; due = l.due })
+
+abbrev pub decreases-loop-slot : goal.decreases-loop-slot
+decreases-loop-slot l = l.slot

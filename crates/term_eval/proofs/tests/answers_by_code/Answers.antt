@@ -1,22 +1,66 @@
-use Rattle.std.proofs.Common.{length, ap, subst, sym, ◌∙◌, arith}
+use Rattle.std.proofs.Common.{rules, ◌≡◌, ◌≤◌, ◌+◌, ◌++◌, List, length, ap, subst, sym, ◌∙◌, arith}
+use Rattle.ecam_spec.specs.Book.{Tree}
+use Rattle.ecam_spec.specs.TermSize.{nodes, slots}
 use Rattle.term_tree.specs.View.{tree_of}
-use Rattle.term_eval.specs.Code.{IsCode}
+use Rattle.term_eval.specs.declared.code.Step.{Step}
+use Rattle.term_eval.specs.Memory.{Memory, NodeMemory}
+use Rattle.term_eval.specs.Code.{IsCode, IsReady, owners}
 use Rattle.term_eval.proofs.Codes.{length-code}
 use Rattle.term_eval.proofs.tests.answers_by_code.Goals as goal
 
-pub run-turn-requires-clause-code : goal.run-turn-requires-clause-code
-run-turn-requires-clause-code c =
-    let is = c.in_ok-steps.ensures in
-    let len = ap length is.is ∙ length-code (tree_of c.args.cond.now) 0 0 in
-    let marked = c.mark_all.ensures in
-    let held = c.loop-moment.invariant.room in
-    let cells = c.loop-moment.invariant.cells in (
+-- a condition of no more than two slots has room
+has-room : (c : Tree) (steps now : List Step) (m : Memory) (n : NodeMemory) → IsCode c 0 steps → now ≡ steps → slots c ≤ 2 → length m.slots ≡ 2 → length n.states ≡ length steps → length n.wakes ≡ 2 →
+    IsReady now m n c 0 0
+has-room c steps now m n code same few cells states wakes =
+    let len = ap length code.is ∙ length-code c 0 0 in
+    record {
+      held = record { code = subst (IsCode c 0) (sym same) code; nodes = omega (arith, len, states); slots = omega (arith, few, wakes) };
+      range = omega (arith, few, cells);
+    }
+
+pub begin-first-requires-clause-ready : goal.begin-first-requires-clause-ready
+begin-first-requires-clause-ready c =
+    let states : length c.in_ok-nodes.nodes.states ≡ length c.in_ok-steps.steps.items = search rules in (
       tree_of c.args.cond.now,
       0,
-      record {
-        code = subst (IsCode (tree_of c.args.cond.now) 0) (sym c.deref.ensures.value) is;
-        range = omega (arith, c.requires.few, cells);
-        room = omega (arith, len, marked, held);
-        names = c.requires.names;
-      },
+      has-room (tree_of c.args.cond.now) c.in_ok-steps.steps.items c.deref-2.result.now c.in_ok-cells.cells c.in_ok-nodes.nodes c.in_ok-steps.ensures c.deref-2.ensures.value c.requires.few
+          c.in_ok-cells.ensures.len states c.in_ok-nodes.ensures.slots,
+      rw c.values_in-values.ensures c.requires.names,
     )
+
+pub loop-moment-init : goal.loop-moment-init
+loop-moment-init c =
+    let states : length c.in_ok-nodes.nodes.states ≡ length c.in_ok-steps.steps.items = search rules in
+    let ready = has-room (tree_of c.args.cond.now) c.in_ok-steps.steps.items c.deref-2.result.now c.in_ok-cells.cells c.in_ok-nodes.nodes c.in_ok-steps.ensures c.deref-2.ensures.value c.requires.few
+    c.in_ok-cells.ensures.len states c.in_ok-nodes.ensures.slots in
+    let within = c.begin-first.ensures.within (tree_of c.args.cond.now) 0 ready in
+    record { cells = c.begin-first.ensures.len ∙ c.in_ok-cells.ensures.len; states = within.nodes ∙ states; wakes = within.slots ∙ c.in_ok-nodes.ensures.slots }
+
+pub hear-requires : goal.hear-requires
+hear-requires c =
+    let i = c.loop-moment.invariant in (
+      tree_of c.args.cond.now,
+      (has-room (tree_of c.args.cond.now) c.in_ok-steps.steps.items c.deref-in-loop-moment.result.now c.loop-moment.cells c.loop-moment.nodes c.in_ok-steps.ensures c.deref-in-loop-moment.ensures.value
+          c.requires.few i.cells i.states i.wakes).held,
+    )
+
+pub run-turn-requires-clause-ready : goal.run-turn-requires-clause-ready
+run-turn-requires-clause-ready c =
+    let i = c.loop-moment.invariant in
+    let temporals = c.deref-in-loop-moment-3.ensures.value ∙ c.in_ok-add_owners.ensures ∙ ap (λ l. l ++ owners 0 c.deref.result.now) c.new-temporals.ensures.items
+    ∙ ap (owners 0) (c.deref.ensures.value ∙ sym c.deref-in-loop-moment-2.ensures.value) in (
+      tree_of c.args.cond.now,
+      has-room (tree_of c.args.cond.now) c.in_ok-steps.steps.items c.deref-in-loop-moment-2.result.now c.loop-moment.cells c.hear.new.nodes c.in_ok-steps.ensures c.deref-in-loop-moment-2.ensures.value
+          c.requires.few i.cells (c.hear.ensures.states ∙ i.states) (c.hear.ensures.wakes ∙ i.wakes),
+      temporals,
+    )
+
+pub loop-moment-preserved : goal.loop-moment-preserved
+loop-moment-preserved c =
+    let i = c.loop-moment.invariant in
+    let ready = has-room (tree_of c.args.cond.now) c.in_ok-steps.steps.items c.deref-in-loop-moment-2.result.now c.loop-moment.cells c.hear.new.nodes c.in_ok-steps.ensures
+    c.deref-in-loop-moment-2.ensures.value c.requires.few i.cells (c.hear.ensures.states ∙ i.states) (c.hear.ensures.wakes ∙ i.wakes) in
+    let temporals = c.deref-in-loop-moment-3.ensures.value ∙ c.in_ok-add_owners.ensures ∙ ap (λ l. l ++ owners 0 c.deref.result.now) c.new-temporals.ensures.items
+    ∙ ap (owners 0) (c.deref.ensures.value ∙ sym c.deref-in-loop-moment-2.ensures.value) in
+    let within = c.run-turn.ensures.within (tree_of c.args.cond.now) ready temporals in
+    record { cells = c.run-turn.ensures.len ∙ i.cells; states = within.nodes ∙ c.hear.ensures.states ∙ i.states; wakes = within.slots ∙ c.hear.ensures.wakes ∙ i.wakes }

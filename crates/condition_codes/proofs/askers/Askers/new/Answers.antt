@@ -1,4 +1,4 @@
-use Rattle.std.proofs.Common.{◌≡◌, All, map, length, sym, ap, subst, ◌∙◌}
+use Rattle.std.proofs.Common.{◌≡◌, All, map, length, slice_index, sym, ap, subst, ◌∙◌}
 use Rattle.std.proofs.lemmas.List.{length-map}
 use Rattle.ecam_spec.specs.TermSize.{Placed}
 use Rattle.ecam_spec.specs.TermNames.{IsWithin}
@@ -10,11 +10,11 @@ use Rattle.watch_lists.specs.declared.number.Sizes.{Sizes}
 use Rattle.watch_lists.specs.Naming.{sizes_of, operand_count}
 use Rattle.watch_lists.proofs.Naming.{few-operands}
 use Rattle.watch_lists.proofs.Lines.{sizes-are}
-use Rattle.condition_codes.specs.Chains.{IsAsked, wanted, AreChains, AreAskers}
+use Rattle.condition_codes.specs.Chains.{IsAsked, wanted, AreChains, AreAskers, AreNodes}
 use Rattle.condition_codes.specs.IsAskers.{sizes_in}
 use Rattle.condition_codes.proofs.NamesWithin.{all-names}
 use Rattle.condition_codes.proofs.Asked.{steps-within}
-use Rattle.condition_codes.proofs.Asking.{sizes-read, askers-of}
+use Rattle.condition_codes.proofs.Asking.{sizes-read, first-start, askers-of}
 use Rattle.condition_codes.proofs.askers.Askers.new.Goals as goal
 
 pub chains_of-requires-clause-few : goal.chains_of-requires-clause-few
@@ -32,6 +32,9 @@ chains_of-requires-clause-own c =
     subst (All (λ (s : Step). IsAsked n (node_asks s.node))) (sym (c.steps.ensures ∙ c.requires.codes.whole))
     (steps-within n c.code_asks_for_what_the_condition_asks_for.ensures ps names)
 
+pub nodes_of-requires-clause-first : goal.nodes_of-requires-clause-first
+nodes_of-requires-clause-first c = ap (λ l. slice_index l 0) c.starts.ensures ∙ first-start (the_book c.args.book.now) c.args.codes.now c.requires
+
 pub returns : goal.returns
 returns c =
     let d = c.args.book.now in
@@ -39,17 +42,21 @@ returns c =
     let n : Sizes = record { params = length c.params.result.now; alerts = length c.alerts.result.now } in
     let same : n ≡ sizes_in b = sizes-read d _ _ (ap length c.params.ensures.value) (ap length c.alerts.ensures.value) in
     let starts = c.in_ok-starts.starts.items.items in
-    let nodes = c.in_ok-starts.nodes.items.items in
+    let askers = c.in_ok-starts.askers.items.items in
     let steps = c.args.codes.now.steps.items.items in
     let ws = map (wanted n) steps in
     let read : map (wanted n) c.steps.result.now ≡ ws = ap (map (wanted n)) c.steps.ensures in
     let firsts = c.in_ok-firsts.firsts.items in
     let nexts = c.in_ok-firsts.nexts.items in
+    let nodes = c.in_ok-nodes.nodes.items in
     let long : length ws ≡ length c.deref-2.result.now =
     ap length (sym read) ∙ length-map c.steps.result.now (wanted n) ∙ sym c.in_ok-firsts.ensures.nodes ∙ ap length (sym c.deref-2.ensures.value) in
     let chains : AreChains ws 0 c.deref.result.now c.deref-2.result.now =
     rw (c.deref.ensures.value, c.deref-2.ensures.value) (subst (λ l. AreChains l 0 firsts nexts) read c.in_ok-firsts.ensures.chains) in
-    let all : AreAskers ws (length c.deref.result.now) starts nodes = c.in_ok-starts.ensures ws long chains in
-    let counted : AreAskers ws (operand_count n) starts nodes = subst (λ m. AreAskers ws m starts nodes) (ap length c.deref.ensures.value ∙ c.in_ok-firsts.ensures.operands) all in
-    askers-of b c.args.codes.now c.requires c.code_asks_for_what_the_condition_asks_for.ensures (record { starts = c.in_ok-starts.starts; nodes = c.in_ok-starts.nodes })
-    (subst (λ (m : Sizes). AreAskers (map (wanted m) steps) (operand_count m) starts nodes) same counted)
+    let all : AreAskers ws c.deref-3.result.now (length c.deref.result.now) starts askers = c.in_ok-starts.ensures ws long chains in
+    let own : AreAskers ws nodes (length c.deref.result.now) starts askers = subst (λ l. AreAskers ws l (length c.deref.result.now) starts askers) c.deref-3.ensures.value all in
+    let counted : AreAskers ws nodes (operand_count n) starts askers = subst (λ m. AreAskers ws nodes m starts askers) (ap length c.deref.ensures.value ∙ c.in_ok-firsts.ensures.operands) own in
+    let numbered : AreNodes c.args.codes.now.starts.items.items nodes = subst (λ l. AreNodes l nodes) c.starts.ensures c.in_ok-nodes.ensures.nodes in
+    askers-of b c.args.codes.now c.requires c.code_asks_for_what_the_condition_asks_for.ensures nodes numbered
+    (record { starts = c.in_ok-starts.starts; askers = c.in_ok-starts.askers })
+    (subst (λ (m : Sizes). AreAskers (map (wanted m) steps) nodes (operand_count m) starts askers) same counted)

@@ -1,7 +1,9 @@
-use Rattle.std.proofs.Common.{◌≡◌, [], ◌∷◌, ◌++◌, length, refl, ap, ◌∙◌}
+use Rattle.std.proofs.Common.{◌≡◌, ◌-◌, [], ◌∷◌, ◌++◌, length, take, drop, refl, ap, ◌∙◌}
 use Rattle.book_model.specs.View.{tree_in, placed_of}
-use Rattle.term_eval.specs.Code.{code}
+use Rattle.term_eval.specs.Code.{code, owners}
 use Rattle.condition_codes.proofs.Appending.{codes-next}
+use Rattle.condition_codes.proofs.Flat.{rest-is}
+use Rattle.condition_codes.proofs.Owning.{owners-next}
 use Rattle.condition_codes.proofs.pieces.Pieces.add.Goals as goal
 
 pub returns : goal.returns
@@ -12,4 +14,13 @@ returns c ps has =
     let steps : c.add_code.new.steps.items ≡ old.steps.items ++ own = c.in_ok-add_code.ensures.code in
     let end : c.len.result ≡ length (old.steps.items ++ own) = c.len.ensures ∙ c.add_code.new.steps.ok.0 ∙ ap length steps in
     let starts : c.push.new.self.items ≡ old.starts.items ++ length (old.steps.items ++ own) ∷ [] = c.in_ok-push.ensures.items ∙ ap (λ n. old.starts.items ++ n ∷ []) end in
-    rw (starts, steps) (codes-next ps old.starts.items old.steps.items own has (placed_of term) (record { is = refl; short = c.in_ok-add_code.ensures.short }))
+    let first : c.len-first.result ≡ length old.steps.items = c.len-first.ensures ∙ old.steps.ok.0 in
+    let rest : take (length c.deref.result.now - c.len-first.result) (drop c.len-first.result c.deref.result.now) ≡ own = rw (c.deref.ensures.value, steps, first) (rest-is old.steps.items own) in
+    let temporal : c.add_owners.new.temporals.items ≡ old.owners.items ++ owners 0 own = c.in_ok-add_owners.ensures ∙ ap (λ l. old.owners.items ++ owners 0 l) rest in
+    let end-2 : c.len-2.result ≡ length (old.owners.items ++ owners 0 own) = c.len-2.ensures ∙ c.add_owners.new.temporals.ok.0 ∙ ap length temporal in
+    let owner_starts : c.push-2.new.self.items ≡ old.owner_starts.items ++ length (old.owners.items ++ owners 0 own) ∷ [] =
+    c.in_ok-push-2.ensures.items ∙ ap (λ n. old.owner_starts.items ++ n ∷ []) end-2 in
+    record {
+      codes = rw (starts, steps) (codes-next ps old.starts.items old.steps.items own has.codes (placed_of term) (record { is = refl; short = c.in_ok-add_code.ensures.short }));
+      owners = rw (owner_starts, temporal, c.in_ok-push-3.ensures.items) (owners-next ps old.owner_starts.items old.owners.items old.ats.items (owners 0 own) has.owners (placed_of term) refl);
+    }

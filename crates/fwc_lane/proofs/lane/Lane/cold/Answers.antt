@@ -40,7 +40,6 @@ returns-clause-stands c = λ f.
       values = λ p. ap (λ vs. get_or vs p None) (c.fill.ensures.items (λ y same. search rules)) ∙ none-each _ p;
       keys = c.new-self-3.ensures;
       cells = c.clear-2.ensures.stands;
-      nodes = c.clear-2.ensures.nodes;
       phases = c.new-self.ensures;
       truths = λ conditions phases. c.clear-3.ensures.stands b conditions phases c.requires.truths;
       marks = λ p. c.clear-4.ensures.stands b p c.requires.marks;

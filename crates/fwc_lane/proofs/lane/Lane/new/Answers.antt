@@ -37,7 +37,6 @@ returns-clause-stands c = λ f.
       values = λ p. ap (λ vs. get_or vs p None) (c.in_ok-values.ensures.items_if_clones_equal (λ y same. search rules)) ∙ none-each _ p;
       keys = c.new-8.ensures;
       cells = c.in_ok-terms.ensures.stands;
-      nodes = c.in_ok-terms.ensures.nodes;
       phases = c.new-6.ensures;
       truths = c.in_ok-truths.ensures.stands;
       marks = c.in_ok-marks.ensures.stands;

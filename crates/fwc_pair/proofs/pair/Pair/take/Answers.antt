@@ -10,6 +10,12 @@ use Rattle.fwc_pair.specs.PairVisits.{Visits, tick_visits}
 use Rattle.fwc_pair.proofs.VisitSteps.{is-tick, visits-are}
 use Rattle.fwc_pair.proofs.pair.Pair.take.Goals as goal
 
+pub show-requires-clause-one : goal.show-requires-clause-one
+show-requires-clause-one c = λ calm. (c.step.ensures.fits.calm calm).changed
+
+pub show-requires-clause-two : goal.show-requires-clause-two
+show-requires-clause-two c = λ calm. (c.step-2.ensures.fits.calm calm).changed
+
 pub returns-clause-fits : goal.returns-clause-fits
 returns-clause-fits c =
     let x = c.args.event.now in

@@ -1,104 +1,134 @@
-use Rattle.std.proofs.Common.{rules, ◌+◌, ◌<◌, ◌≤◌, min, false, length, refl, sym, ap, ◌∙◌, arith}
-use Rattle.std.proofs.lemmas.List.{with_items_is, get_or_default}
+use Rattle.std.proofs.Common.{◌≡◌, ℕ, suc, ◌+◌, ◌≤◌, false, length, inl, inr, refl, sym, subst, ap, ◌∙◌, arith, rules}
 use Rattle.std.specs.Vec.{with_items}
+use Rattle.std.proofs.lemmas.List.{with_items_is, get_or_default}
+use Rattle.ecam_spec.specs.Book.{Tree}
+use Rattle.ecam_spec.specs.Term.{World}
+use Rattle.ecam_spec.specs.TermSize.{nodes, slots}
 use Rattle.term_eval.specs.declared.nodes.NodeState.{NodeState}
-use Rattle.ecam_spec.specs.TermSize.{nodes}
-use Rattle.term_eval.specs.Memory.{Memory}
 use Rattle.term_eval.specs.CellWords.{never}
+use Rattle.term_eval.specs.CellState.{Stand}
+use Rattle.term_eval.specs.Asked.{heard}
+use Rattle.term_eval.specs.Woken.{moved}
+use Rattle.term_eval.specs.Memory.{Memory, NodeMemory}
+use Rattle.term_eval.specs.Code.{IsReady, owners}
+use Rattle.term_eval.specs.NodeState.{NodesWait}
+use Rattle.term_eval.specs.Run.{Run, pass_over, CanPass}
 use Rattle.term_eval.proofs.Codes.{nodes-some}
-use Rattle.term_eval.proofs.Whole.{whole, told, due, left, can-ready, length-ready}
+use Rattle.term_eval.proofs.PassFrame.{Framed}
+use Rattle.term_eval.proofs.CanPass.{can-pass}
+use Rattle.term_eval.proofs.Ran.{fresh, ran, ran-frame, Done, done}
 use Rattle.term_eval.proofs.cells.Cells.run.Goals as goal
 
-pub pass-due-requires-clause-can : goal.pass-due-requires-clause-can
-pass-due-requires-clause-can c =
-    let (tree, at, ready) = c.requires.code in
-    let slots = c.deref_mut-2.ensures.value ∙ ap (λ (m : Memory). m.slots) c.self.view_is in
-    let kept = c.deref_mut.ensures.value ∙ c.states.view_is in
-    can-ready c.args.env.now c.args.steps.now _ _ _ _ tree at c.args.first slots kept ready
+pub pass-due-requires : goal.pass-due-requires
+pass-due-requires c =
+    let (tree, ready, listed) = c.requires.ready in
+    let states = ap length (c.deref_mut.ensures.value ∙ ap (λ (n : NodeMemory). n.states) c.states.view_is) in
+    let wakes = ap length (c.deref_mut-2.ensures.value ∙ ap (λ (n : NodeMemory). n.wakes) c.states.view_is) in
+    let cells = ap length (c.deref_mut-3.ensures.value ∙ ap (λ (m : Memory). m.slots) c.self.view_is) in
+    let can : CanPass c.args.steps.now c.args.first (length c.args.states.now.states) (length c.args.states.now.wakes) (length c.args.self.now.slots) c.args.temporals.now c.args.at =
+    subst (λ l. CanPass c.args.steps.now c.args.first (length c.args.states.now.states) (length c.args.states.now.wakes) (length c.args.self.now.slots) l c.args.at) (sym listed)
+    (can-pass c.args.steps.now c.args.self.now c.args.states.now tree c.args.at c.args.first ready) in
+    rw states (rw wakes (rw cells can))
 
 pub index-requires : goal.index-requires
 index-requires c =
-    let (tree, at, ready) = c.requires.code in
-    let len = ap length c.states.view_is in
+    let (tree, ready, listed) = c.requires.ready in
+    let len = ap (λ (n : NodeMemory). length n.states) c.states.view_is in
     let own = c.states.inside.states.items.ok.0 in
-    omega (arith, ready.room, nodes-some tree, len, own)
+    omega (arith, ready.held.nodes, nodes-some tree, len, own)
+
+same-run : (s t : Run) → s.states ≡ t.states → s.wakes ≡ t.wakes → s.cells ≡ t.cells → s.due ≡ t.due → s ≡ t
+same-run s t states wakes cells due =
+    ap (λ l. record { states = l; wakes = s.wakes; cells = s.cells; due = s.due }) states
+    ∙ ap (λ l. record { states = t.states; wakes = l; cells = s.cells; due = s.due }) wakes
+    ∙ ap (λ l. record { states = t.states; wakes = t.wakes; cells = l; due = s.due }) cells
+    ∙ ap (λ n. record { states = t.states; wakes = t.wakes; cells = t.cells; due = n }) due
+
+-- what is kept when the temporal nodes were gone through
+last : goal.After-index → Run
+last c = record {
+  states = (with_items c.states.inside.states.items c.pass-due.new.states).items;
+  wakes = (with_items c.states.inside.wakes.items c.pass-due.new.wakes).items;
+  cells = (with_items c.self.inside.cells.items c.pass-due.new.cells).items;
+  due = c.pass-due.result;
+}
+
+-- and what the pass gave
+passed : goal.After-index → Run
+passed c = record { states = c.pass-due.new.states; wakes = c.pass-due.new.wakes; cells = c.pass-due.new.cells; due = c.pass-due.result }
+
+after : (c : goal.After-index) (tree : Tree) (ready : IsReady c.args.steps.now c.args.self.now c.args.states.now tree c.args.at c.args.first) →
+    c.args.temporals.now ≡ owners 0 c.args.steps.now → ran c.args.now c.args.steps.now c.args.self.now c.args.states.now tree c.args.at c.args.first ready ≡ last c
+unfolding last passed
+after c tree ready listed =
+    let states = c.deref_mut.ensures.value ∙ ap (λ (n : NodeMemory). n.states) c.states.view_is in
+    let wakes = c.deref_mut-2.ensures.value ∙ ap (λ (n : NodeMemory). n.wakes) c.states.view_is in
+    let cells = c.deref_mut-3.ensures.value ∙ ap (λ (m : Memory). m.slots) c.self.view_is in
+    let new-states = with_items_is c.states.inside.states.items c.pass-due.new.states (c.pass-due.auto.states ∙ ap length c.deref_mut.ensures.value ∙ sym c.states.inside.states.items.ok.0) in
+    let new-wakes = with_items_is c.states.inside.wakes.items c.pass-due.new.wakes (c.pass-due.auto.wakes ∙ ap length c.deref_mut-2.ensures.value ∙ sym c.states.inside.wakes.items.ok.0) in
+    let new-cells = with_items_is c.self.inside.cells.items c.pass-due.new.cells (c.pass-due.auto.cells ∙ ap length c.deref_mut-3.ensures.value ∙ sym c.self.inside.cells.items.ok.0) in
+    let was : Run = record { states = c.deref_mut.result.now; wakes = c.deref_mut-2.result.now; cells = c.deref_mut-3.result.now; due = never } in
+    ap (pass_over c.args.now c.args.steps.now c.args.first (owners 0 c.args.steps.now) c.args.at) (sym (same-run was (fresh c.args.self.now c.args.states.now) states wakes cells refl))
+    ∙ ap (λ l. pass_over c.args.now c.args.steps.now c.args.first l c.args.at was) (sym listed)
+    ∙ sym {a = passed c} c.pass-due.ensures
+    ∙ sym {a = last c} (same-run (last c) (passed c) new-states new-wakes new-cells refl)
+
+frame : (c : goal.After-index) (tree : Tree) (ready : IsReady c.args.steps.now c.args.self.now c.args.states.now tree c.args.at c.args.first) →
+    c.args.temporals.now ≡ owners 0 c.args.steps.now →
+    Framed c.args.first (c.args.first + nodes tree) c.args.at (c.args.at + slots tree) c.args.at (slots tree) (fresh c.args.self.now c.args.states.now) (last c)
+frame c tree ready listed =
+    subst (Framed c.args.first (c.args.first + nodes tree) c.args.at (c.args.at + slots tree) c.args.at (slots tree) (fresh c.args.self.now c.args.states.now)) (after c tree ready listed)
+    (ran-frame c.args.now c.args.steps.now c.args.self.now c.args.states.now tree c.args.at c.args.first ready)
+
+all-done : (c : goal.After-index) (tree : Tree) → IsReady c.args.steps.now c.args.self.now c.args.states.now tree c.args.at c.args.first →
+    c.args.temporals.now ≡ owners 0 c.args.steps.now → (w : World) (h : ℕ) → c.args.now ≡ suc h → Stand w c.args.now tree c.args.at c.args.self.now.slots →
+    NodesWait w h (heard (moved w c.args.now) tree) tree c.args.at c.args.first c.args.states.now → Done w c.args.now tree c.args.at c.args.first (last c)
+all-done c tree ready listed w h is stand waits =
+    let most : length c.args.states.now.states ≤ never = search rules in
+    subst (Done w c.args.now tree c.args.at c.args.first) (after c tree ready listed)
+    (done c.args.steps.now c.args.self.now c.args.states.now tree c.args.at c.args.first ready (omega (arith, most)) w h c.args.now is c.requires.now stand waits)
 
 pub returns-clause-truth : goal.returns-clause-truth
-returns-clause-truth c tree at ready w shows stands states notes =
-    let slots = c.deref_mut-2.ensures.value ∙ ap (λ (m : Memory). m.slots) c.self.view_is in
-    let kept = c.deref_mut.ensures.value ∙ c.states.view_is in
-    let final = with_items_is c.self.inside.cells.items c.pass-due.new.cells (c.pass-due.auto.cells ∙ ap length c.deref_mut-2.ensures.value ∙ sym c.self.inside.cells.items.ok.0) in
-    let last = with_items_is c.states.inside.states.items c.pass-due.new.states (c.pass-due.auto.states ∙ ap length c.deref_mut.ensures.value ∙ sym c.states.inside.states.items.ok.0) in
-    let most : length c.args.states.now ≤ never = search rules in
-    let a = whole c.args.env.now c.args.now c.requires.now c.args.steps.now tree at c.args.first _ _ _ _ _ _ _ _ _ slots final kept last ready most c.pass-due.ensures in
-    let whole-len = ap length last in
-    let new-len = c.pass-due.auto.states in
-    let old-len = ap length kept in
-    let within : c.args.first < length (with_items c.states.inside.states.items c.pass-due.new.states).items = omega (arith, whole-len, new-len, old-len, ready.room, nodes-some tree) in
-    ap (λ (n : NodeState). n.told) (c.index.ensures ∙ get_or_default _ c.args.first c.index.result.now (record { wake = 0; count = 0; told = false }) within)
-    ∙ told _ _ _ _ _ _ _ a refl w shows stands states notes
+unfolding last
+returns-clause-truth c tree ready listed w h is stand waits =
+    let d = all-done c tree ready listed w h is stand waits in
+    let f = frame c tree ready listed in
+    ap (λ (n : NodeState). n.told) (c.index.ensures ∙ get_or_default _ c.args.first c.index.result.now (record { count = 0; told = false }) (omega (arith, f.nodes, ready.held.nodes, nodes-some tree)))
+    ∙ d.told
 
 pub returns-clause-due : goal.returns-clause-due
-returns-clause-due c tree at ready w shows stands states notes =
-    let slots = c.deref_mut-2.ensures.value ∙ ap (λ (m : Memory). m.slots) c.self.view_is in
-    let kept = c.deref_mut.ensures.value ∙ c.states.view_is in
-    let final = with_items_is c.self.inside.cells.items c.pass-due.new.cells (c.pass-due.auto.cells ∙ ap length c.deref_mut-2.ensures.value ∙ sym c.self.inside.cells.items.ok.0) in
-    let last = with_items_is c.states.inside.states.items c.pass-due.new.states (c.pass-due.auto.states ∙ ap length c.deref_mut.ensures.value ∙ sym c.states.inside.states.items.ok.0) in
-    let most : length c.args.states.now ≤ never = search rules in
-    let a = whole c.args.env.now c.args.now c.requires.now c.args.steps.now tree at c.args.first _ _ _ _ _ _ _ _ _ slots final kept last ready most c.pass-due.ensures in
-    due _ _ _ _ _ _ _ a refl w shows stands states notes
+unfolding last
+returns-clause-due c tree ready listed w h is stand waits = (all-done c tree ready listed w h is stand waits).due
+
+pub returns-clause-wake : goal.returns-clause-wake
+unfolding last
+returns-clause-wake c tree ready listed w h is stand waits = (frame c tree ready listed).due
 
 pub returns-clause-stands : goal.returns-clause-stands
-returns-clause-stands c tree at ready w shows stands states notes =
-    let slots = c.deref_mut-2.ensures.value ∙ ap (λ (m : Memory). m.slots) c.self.view_is in
-    let kept = c.deref_mut.ensures.value ∙ c.states.view_is in
-    let final = with_items_is c.self.inside.cells.items c.pass-due.new.cells (c.pass-due.auto.cells ∙ ap length c.deref_mut-2.ensures.value ∙ sym c.self.inside.cells.items.ok.0) in
-    let last = with_items_is c.states.inside.states.items c.pass-due.new.states (c.pass-due.auto.states ∙ ap length c.deref_mut.ensures.value ∙ sym c.states.inside.states.items.ok.0) in
-    let most : length c.args.states.now ≤ never = search rules in
-    let a = whole c.args.env.now c.args.now c.requires.now c.args.steps.now tree at c.args.first _ _ _ _ _ _ _ _ _ slots final kept last ready most c.pass-due.ensures in
-    let d = left _ _ _ _ _ _ _ a refl w shows stands states notes in (d.cells, d.nodes)
+unfolding last
+returns-clause-stands c tree ready listed w h is stand waits = (all-done c tree ready listed w h is stand waits).stands
+
+pub returns-clause-nodes : goal.returns-clause-nodes
+unfolding last
+returns-clause-nodes c tree ready listed w h is stand waits = (all-done c tree ready listed w h is stand waits).nodes
+
+pub returns-clause-within : goal.returns-clause-within
+unfolding last
+returns-clause-within c tree ready listed =
+    let f = frame c tree ready listed in
+    record {
+      nodes = f.nodes;
+      slots = f.slots;
+      before = λ i less. f.states i (inl less);
+      behind = λ i from. f.states i (inr from);
+      slots_before = λ s less. f.wakes s (inl less);
+      slots_behind = λ s from. f.wakes s (inr from);
+    }
 
 pub returns-clause-before : goal.returns-clause-before
-returns-clause-before c tree at ready i low =
-    let slots = c.deref_mut-2.ensures.value ∙ ap (λ (m : Memory). m.slots) c.self.view_is in
-    let kept = c.deref_mut.ensures.value ∙ c.states.view_is in
-    let final = with_items_is c.self.inside.cells.items c.pass-due.new.cells (c.pass-due.auto.cells ∙ ap length c.deref_mut-2.ensures.value ∙ sym c.self.inside.cells.items.ok.0) in
-    let last = with_items_is c.states.inside.states.items c.pass-due.new.states (c.pass-due.auto.states ∙ ap length c.deref_mut.ensures.value ∙ sym c.states.inside.states.items.ok.0) in
-    let most : length c.args.states.now ≤ never = search rules in
-    let a = whole c.args.env.now c.args.now c.requires.now c.args.steps.now tree at c.args.first _ _ _ _ _ _ _ _ _ slots final kept last ready most c.pass-due.ensures in
-    a.frame.cells_before i low
+unfolding last
+returns-clause-before c tree ready listed i less = (frame c tree ready listed).cells i (inl less)
 
 pub returns-clause-behind : goal.returns-clause-behind
-returns-clause-behind c tree at ready i high =
-    let slots = c.deref_mut-2.ensures.value ∙ ap (λ (m : Memory). m.slots) c.self.view_is in
-    let kept = c.deref_mut.ensures.value ∙ c.states.view_is in
-    let final = with_items_is c.self.inside.cells.items c.pass-due.new.cells (c.pass-due.auto.cells ∙ ap length c.deref_mut-2.ensures.value ∙ sym c.self.inside.cells.items.ok.0) in
-    let last = with_items_is c.states.inside.states.items c.pass-due.new.states (c.pass-due.auto.states ∙ ap length c.deref_mut.ensures.value ∙ sym c.states.inside.states.items.ok.0) in
-    let most : length c.args.states.now ≤ never = search rules in
-    let a = whole c.args.env.now c.args.now c.requires.now c.args.steps.now tree at c.args.first _ _ _ _ _ _ _ _ _ slots final kept last ready most c.pass-due.ensures in
-    a.frame.cells_behind i high
-
-pub returns-clause-before_first : goal.returns-clause-before_first
-returns-clause-before_first c tree at ready i low =
-    let slots = c.deref_mut-2.ensures.value ∙ ap (λ (m : Memory). m.slots) c.self.view_is in
-    let kept = c.deref_mut.ensures.value ∙ c.states.view_is in
-    let final = with_items_is c.self.inside.cells.items c.pass-due.new.cells (c.pass-due.auto.cells ∙ ap length c.deref_mut-2.ensures.value ∙ sym c.self.inside.cells.items.ok.0) in
-    let last = with_items_is c.states.inside.states.items c.pass-due.new.states (c.pass-due.auto.states ∙ ap length c.deref_mut.ensures.value ∙ sym c.states.inside.states.items.ok.0) in
-    let most : length c.args.states.now ≤ never = search rules in
-    let a = whole c.args.env.now c.args.now c.requires.now c.args.steps.now tree at c.args.first _ _ _ _ _ _ _ _ _ slots final kept last ready most c.pass-due.ensures in
-    a.frame.before i low (λ e. absurd (let w : ⊥ = omega (arith, e, low) in w))
-
-pub returns-clause-behind_last : goal.returns-clause-behind_last
-returns-clause-behind_last c tree at ready i high =
-    let slots = c.deref_mut-2.ensures.value ∙ ap (λ (m : Memory). m.slots) c.self.view_is in
-    let kept = c.deref_mut.ensures.value ∙ c.states.view_is in
-    let final = with_items_is c.self.inside.cells.items c.pass-due.new.cells (c.pass-due.auto.cells ∙ ap length c.deref_mut-2.ensures.value ∙ sym c.self.inside.cells.items.ok.0) in
-    let last = with_items_is c.states.inside.states.items c.pass-due.new.states (c.pass-due.auto.states ∙ ap length c.deref_mut.ensures.value ∙ sym c.states.inside.states.items.ok.0) in
-    let most : length c.args.states.now ≤ never = search rules in
-    let a = whole c.args.env.now c.args.now c.requires.now c.args.steps.now tree at c.args.first _ _ _ _ _ _ _ _ _ slots final kept last ready most c.pass-due.ensures in
-    a.frame.behind i high
-
-pub returns-clause-visits : goal.returns-clause-visits
-returns-clause-visits c tree at ready =
-    c.saturating_add-self-inside.ensures ∙ ap (λ n. min (c.self.inside.visits + n) never) (length-ready _ _ _ _ tree at _ ready)
-    ∙ ap (λ (m : Memory). min (m.visits + nodes tree) never) c.self.view_is
+unfolding last
+returns-clause-behind c tree ready listed i from = (frame c tree ready listed).cells i (inr from)

@@ -1,0 +1,15 @@
+use Rattle.std.proofs.Common.{◌≡◌, ◌+◌, length, slice_index}
+use Rattle.condition_codes.proofs.Numbering.{AreNumbered}
+use Rattle.condition_codes.proofs.askers.nodes_of.Given as goal
+
+abbrev pub invariant-loop-term : goal.invariant-loop-term
+invariant-loop-term l = record {
+  many : length l.nodes.items ≡ slice_index l.starts l.term;
+  numbered : AreNumbered l.starts l.nodes.items;
+}
+
+abbrev pub invariant-loop-node : goal.invariant-loop-node
+invariant-loop-node l = record {
+  many : length l.nodes.items ≡ slice_index l.starts l.term + l.node;
+  numbered : AreNumbered l.starts l.nodes.items;
+}

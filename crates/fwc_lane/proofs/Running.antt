@@ -1,0 +1,105 @@
+-- One condition is run: what it leaves, and that it is stepped by that.
+use Rattle.std.proofs.Common.{◌≡◌, ℕ, suc, ◌+◌, ◌-◌, ◌^◌, ◌<◌, ◌≤◌, min, Bool, true, length, slice_get, set, Some, sym, ap, subst, ◌∙◌, arith}
+use Rattle.std.proofs.lemmas.List.{length-set}
+use Rattle.std.proofs.lemmas.Option.{slice_get_within}
+use Rattle.ecam_spec.specs.Book.{Book}
+use Rattle.ecam_spec.specs.Term.{World, holds}
+use Rattle.ecam_spec.specs.TermSize.{Placed, slots, nodes}
+use Rattle.book_model.specs.Conditions.{places}
+use Rattle.term_eval.specs.declared.env.Env.{Env}
+use Rattle.term_eval.specs.CellWords.{cell_at}
+use Rattle.term_eval.specs.CellState.{Stand}
+use Rattle.term_eval.specs.Memory.{Memory, NodeMemory}
+use Rattle.term_eval.specs.NodeState.{NodesStand, Within, first_wake}
+use Rattle.term_eval.specs.Due.{staying, IsDue}
+use Rattle.term_eval.specs.Woken.{Operand}
+use Rattle.term_eval.specs.Shown.{Shows}
+use Rattle.wakes.specs.Marks.{is_marked}
+use Rattle.condition_codes.specs.Places.{nodes_before}
+use Rattle.fwc_lane.specs.declared.terms.Terms.{Terms}
+use Rattle.fwc_lane.specs.TermsFit.{TermsFit}
+use Rattle.fwc_lane.specs.Conditions.{IsLeft, TellsMoved, StepsTerm}
+use Rattle.fwc_lane.proofs.Stepping.{half-step}
+
+-- what it says, and what is kept of it
+pub record IsRun (w : World) (k start : ℕ) (p : Placed) (t : Terms) (truth : Bool) (due : ℕ) : Type 0 where
+  pub truth_is : truth ≡ holds w p.tree k
+  pub next : IsDue (staying w k) p.tree k due
+  pub wakes : due ≡ first_wake t.nodes.wakes p.at (slots p.tree)
+  pub stands : Stand w (suc k) p.tree p.at t.cells.slots
+  pub kept : NodesStand w k p.tree p.at start t.nodes
+
+-- what changes by that
+pub record RunsOne (i start : ℕ) (p : Placed) (truth : Bool) (due : ℕ) (old new : Terms) : Type 0 where
+  pub rest : new ≡ record old { nodes = new.nodes; cells = new.cells; truths = new.truths; dues = new.dues }
+  pub within : Within start (start + nodes p.tree) p.at (p.at + slots p.tree) old.nodes new.nodes
+  pub before : (j : ℕ) → j < p.at → cell_at new.cells.slots j ≡ cell_at old.cells.slots j
+  pub behind : (j : ℕ) → p.at + slots p.tree ≤ j → cell_at new.cells.slots j ≡ cell_at old.cells.slots j
+  pub len : length new.cells.slots ≡ length old.cells.slots
+  pub visits : new.cells.visits ≡ min (old.cells.visits + nodes p.tree) (2 ^ 64 - 1)
+  pub truths : new.truths.items ≡ set old.truths.items i truth
+  pub dues : new.dues ≡ set old.dues i due
+
+-- once it was run with some cells and nodes, and then noted
+module _ (i start : ℕ) (p : Placed) (truth : Bool) (due : ℕ) (old new : Terms) (n : NodeMemory) (m : Memory)
+    (rest : new ≡ record old { nodes = n; cells = new.cells; truths = new.truths; dues = new.dues }) (slots_same : new.cells.slots ≡ m.slots) where
+  same-nodes : new.nodes ≡ n
+  same-nodes = ap (λ (t : Terms). t.nodes) rest
+
+  pub noted : Within start (start + nodes p.tree) p.at (p.at + slots p.tree) old.nodes n
+      → ((j : ℕ) → j < p.at → cell_at m.slots j ≡ cell_at old.cells.slots j)
+      → ((j : ℕ) → p.at + slots p.tree ≤ j → cell_at m.slots j ≡ cell_at old.cells.slots j)
+      → length m.slots ≡ length old.cells.slots → m.visits ≡ old.cells.visits → new.cells.visits ≡ min (m.visits + nodes p.tree) (2 ^ 64 - 1)
+      → new.truths.items ≡ set old.truths.items i truth → new.dues ≡ set old.dues i due → RunsOne i start p truth due old new
+  noted within before behind len visits counted truths dues = record {
+    rest = subst (λ own. new ≡ record old { nodes = own; cells = new.cells; truths = new.truths; dues = new.dues }) (sym same-nodes) rest;
+    within = subst (Within start (start + nodes p.tree) p.at (p.at + slots p.tree) old.nodes) (sym same-nodes) within;
+    before = λ j lt. ap (λ cs. cell_at cs j) slots_same ∙ before j lt;
+    behind = λ j le. ap (λ cs. cell_at cs j) slots_same ∙ behind j le;
+    len = ap length slots_same ∙ len;
+    visits = counted ∙ ap (λ v. min (v + nodes p.tree) (2 ^ 64 - 1)) visits;
+    truths = truths;
+    dues = dues;
+  }
+
+  pub noted-run : (w : World) (k : ℕ) → truth ≡ holds w p.tree k → IsDue (staying w k) p.tree k due → due ≡ first_wake n.wakes p.at (slots p.tree)
+      → Stand w (suc k) p.tree p.at m.slots → NodesStand w k p.tree p.at start n → IsRun w k start p new truth due
+  noted-run w k told next wakes stands kept = record {
+    truth_is = told;
+    next = next;
+    wakes = wakes ∙ ap (λ (q : NodeMemory). first_wake q.wakes p.at (slots p.tree)) (sym same-nodes);
+    stands = subst (Stand w (suc k) p.tree p.at) (sym slots_same) stands;
+    kept = subst (NodesStand w k p.tree p.at start) (sym same-nodes) kept;
+  }
+
+pub run-fits : (b : Book) (i start : ℕ) (p : Placed) (truth : Bool) (due : ℕ) (old new : Terms) → RunsOne i start p truth due old new → TermsFit b old → TermsFit b new
+run-fits b i start p truth due old new runs fits = subst (TermsFit b) (sym runs.rest) record {
+  codes = fits.codes;
+  states = runs.within.nodes ∙ fits.states;
+  wakes = runs.within.slots ∙ fits.wakes;
+  askers = fits.askers;
+  slots = runs.len ∙ fits.slots;
+  visits = omega (arith, runs.visits);
+  truths = ap length runs.truths ∙ length-set old.truths.items i truth ∙ fits.truths;
+  dues = ap length runs.dues ∙ length-set old.dues i due ∙ fits.dues;
+  woken_room = fits.woken_room;
+  stirred_room = fits.stirred_room;
+  watch = fits.watch;
+}
+
+pub run-steps : (b : Book) (env : Env) (k i : ℕ) (p : Placed) (truth : Bool) (due : ℕ) (old new : Terms) → k < 2 ^ 63 → slice_get (places b) i ≡ Some p → TermsFit b old → is_marked old.woken i ≡ true
+    → RunsOne i (nodes_before (places b) i) p truth due old new
+    → ((w : World) (hit : Operand → Bool) → Shows env w k → TellsMoved hit w k p → IsLeft w hit k i (nodes_before (places b) i) p old
+    → IsRun w k (nodes_before (places b) i) p new truth due)
+    → StepsTerm (places b) env k i p old new truth
+run-steps b env k i p truth due old new small here fits woken runs told =
+    let inside : i < length (places b) = slice_get_within (places b) i p here in
+    record {
+      truth = λ worlds hit visited at shows tells half. (told (worlds i) hit shows tells (half.left i p (omega arith) at)).truth_is;
+      stands = λ worlds hit visited at apart shows tells half.
+          let is = told (worlds i) hit shows tells (half.left i p (omega arith) at) in
+          half-step (places b) worlds k i p at apart old new truth due runs.before runs.behind runs.within runs.truths runs.dues
+          (ap (λ (t : Terms). t.woken) runs.rest) (ap (λ (t : Terms). t.stirred) runs.rest) runs.visits hit visited small tells woken
+          (omega (arith, inside, fits.truths)) (omega (arith, inside, fits.dues))
+          is.stands is.kept is.wakes is.truth_is is.next half;
+    }

@@ -1,0 +1,62 @@
+-- One step of a climb, by what it comes to.
+use Rattle.std.proofs.Common.{◌≡◌, ℕ, suc, ◌+◌, ◌-◌, ◌<◌, ◌^◌, Bool, true, false, not, List, eqb, refl, arith}
+use Rattle.std.proofs.Math.Bool.{beq}
+use Rattle.std.specs.Prelude.{slice_set}
+use Rattle.std.proofs.lemmas.Bool.Decides.{nat_tests}
+use Rattle.term_eval.specs.declared.nodes.NodeState.{NodeState}
+use Rattle.term_eval.specs.declared.code.Step.{Step}
+use Rattle.term_eval.specs.Climb.{climb, count_with, gate_says, go_on, node_of, told_as, counted}
+use Rattle.term_eval.specs.NodeState.{state_at, one_if}
+use Rattle.term_eval.specs.Woken.{differ}
+
+-- the states once node i said so, and once the node above counted it
+abbrev pub told_in : ℕ → ℕ → Bool → List NodeState → List NodeState
+told_in first i holds states = slice_set states (first + i) (told_as holds (state_at states (first + i)))
+
+abbrev pub counted_in : ℕ → ℕ → ℕ → Bool → List NodeState → List NodeState
+counted_in first i above holds states =
+    let own = told_in first i holds states in
+    slice_set own (first + above) (counted (count_with (state_at own (first + above)).count holds) (state_at own (first + above)))
+
+pub climb-same : (n : ℕ) (steps : List Step) (first i : ℕ) (holds : Bool) (states : List NodeState) (wakes : List ℕ) →
+    differ (state_at states (first + i)).told holds ≡ false →
+    climb (suc n) steps first i holds states wakes ≡ record { states = states; wakes = wakes; stirs = false }
+unfolding climb
+climb-same n steps first i holds states wakes same = rw same refl
+
+pub climb-first : (n : ℕ) (steps : List Step) (first i : ℕ) (holds : Bool) (states : List NodeState) (wakes : List ℕ) →
+    differ (state_at states (first + i)).told holds ≡ true → (node_of steps i).up ≡ 0 →
+    climb (suc n) steps first i holds states wakes ≡ record { states = told_in first i holds states; wakes = wakes; stirs = true }
+unfolding climb
+climb-first n steps first i holds states wakes turns top = rw turns (rw top refl)
+
+pub climb-above : (n : ℕ) (steps : List Step) (first i above : ℕ) (holds : Bool) (states : List NodeState) (wakes : List ℕ) →
+    differ (state_at states (first + i)).told holds ≡ true → (node_of steps i).up + above ≡ i → above < i →
+    climb (suc n) steps first i holds states wakes
+    ≡ go_on (gate_says (node_of steps above).node (count_with (state_at (told_in first i holds states) (first + above)).count holds))
+    (λ says. climb n steps first above says (counted_in first i above holds states) wakes)
+    (λ slot. record { states = counted_in first i above holds states; wakes = slice_set wakes slot 0; stirs = true })
+unfolding climb
+climb-above n steps first i above holds states wakes turns up before =
+    let below : eqb (node_of steps i).up 0 ≡ false = grind (arith, nat_tests) in
+    let is : i - (node_of steps i).up ≡ above = omega arith in
+    rw turns (rw below (rw is refl))
+
+-- one child more or less is counted, while there are few
+pub counts-one : (before now : Bool) (old new : ℕ) → differ before now ≡ true → new + one_if before ≡ old + one_if now → new < 2 ^ 64 → count_with old now ≡ new
+counts-one true true old new turns is few = absurd (let e : ⊥ = cc in e)
+counts-one false false old new turns is few = absurd (let e : ⊥ = cc in e)
+counts-one true false old new turns is few = omega arith
+counts-one false true old new turns is few = omega arith
+
+pub same-truth : (before now : Bool) → differ before now ≡ false → before ≡ now
+same-truth true true same = refl
+same-truth false false same = refl
+same-truth true false same = absurd (let e : ⊥ = cc in e)
+same-truth false true same = absurd (let e : ⊥ = cc in e)
+
+pub turns-by : (told holds turns : Bool) → not (beq told holds) ≡ turns → differ told holds ≡ turns
+turns-by true true turns is = is
+turns-by true false turns is = is
+turns-by false true turns is = is
+turns-by false false turns is = is

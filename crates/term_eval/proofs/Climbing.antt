@@ -1,0 +1,66 @@
+-- A node that was asked is told, and with it those above it that turn: each node of the condition is kept then.
+use Rattle.std.proofs.Common.{◌≡◌, ◌≢◌, ℕ, suc, ◌+◌, ◌<◌, ◌^◌, Bool, true, false, List, length, refl, sym, ◌∙◌, ap, subst, arith}
+use Rattle.std.specs.Prelude.{slice_index}
+use Rattle.std.specs.List.{slice_get}
+use Rattle.std.proofs.lemmas.Option.{same_Some}
+use Rattle.ecam_spec.specs.Book.{Tree}
+use Rattle.ecam_spec.specs.Term.{World, holds}
+use Rattle.ecam_spec.specs.TermSize.{children}
+use Rattle.term_eval.specs.declared.code.Step.{Step}
+use Rattle.term_eval.specs.Memory.{NodeMemory}
+use Rattle.term_eval.specs.Code.{IsHeld}
+use Rattle.term_eval.specs.Climb.{Climbed, climb}
+use Rattle.term_eval.specs.OwnDue.{own_due}
+use Rattle.term_eval.specs.Parts.{Part, parts, Heads, is_temporal}
+use Rattle.term_eval.specs.NodeState.{state_at, says, said, IsKept, NodesWait, also}
+use Rattle.term_eval.proofs.PartLaws.{parts-ends, slots-within}
+use Rattle.term_eval.proofs.NodeKinds.{is_gate, own-slot}
+use Rattle.term_eval.proofs.CodeParts.{heads-within, heads-node}
+use Rattle.term_eval.proofs.Telling.{ToTell, Given, told}
+
+-- what is kept of nodes after a climb
+abbrev pub kept_by : Climbed → NodeMemory
+kept_by done = record { states = done.states; wakes = done.wakes }
+
+-- node i, which heads x, is about to be told: each other is kept, and so is this one, but that it is looked at again when it has to
+-- be once it was told
+pub record IsToBeTold (w : World) (h : ℕ) (asked : ℕ → Bool) (c : Tree) (at first i : ℕ) (x : Part) (n : NodeMemory) : Type 0 where
+  pub others : (j : ℕ) (y : Part) → Heads c at j y → j ≢ i → IsKept w h asked y first j n
+  pub told : (state_at n.states (first + i)).told ≡ says w h asked x.tree i
+  pub count : (state_at n.states (first + i)).count ≡ said w h asked (children x.tree) (i + 1)
+  pub wake : is_temporal x.tree ≡ true → slice_index n.wakes x.at ≡ own_due w x.tree (suc h)
+
+-- once an atom or a temporal node, before which no temporal one has been asked, was told whether it holds in moment h + 1, all wait
+pub climbed : (w : World) (h : ℕ) (asked : ℕ → Bool) (c : Tree) (at first i : ℕ) (x : Part) (n : NodeMemory) (steps : List Step) (now : Bool) →
+    IsHeld steps n c at first → length n.states < 2 ^ 64 → Heads c at i x → is_gate x.tree ≡ false → now ≡ holds w x.tree (suc h) →
+    ((j : ℕ) (y : Part) → j < i → Heads c at j y → is_temporal y.tree ≡ true → asked j ≡ false) →
+    IsToBeTold w h asked c at first i x n →
+    NodesWait w h (also i asked) c at first (kept_by (climb (suc i) steps first i now n.states n.wakes))
+climbed w h asked c at first i x n steps now ready few heads own is free before j y there =
+    let start = climb (suc i) steps first i now n.states n.wakes in
+    let mine : ToTell w h asked steps first i x.at n start few x = record {
+      told = before.told;
+      count = before.count;
+      wake = before.wake;
+      own = own;
+      ends = refl;
+      starts = ap (λ b. climb (suc i) steps first i b n.states n.wakes) is;
+    } in
+    let given : (k : ℕ) (z : Part) → Heads c at k z → Given w h asked steps first i x.at n start few k z = λ k z of_it.
+    (record {
+      step = heads-node c at steps ready.code k z of_it;
+      room = (let ends = parts-ends at 0 c k z of_it in let room = ready.nodes in omega arith);
+      slot = λ temporal.
+          let high = slots-within at 0 c k z of_it in
+          let some = own-slot z.tree temporal in
+          let room = ready.slots in
+          omega (arith, high.1);
+      free = λ above. free k z above of_it;
+      kept = before.others k z of_it;
+      own = λ here.
+          subst (ToTell w h asked steps first i x.at n start few)
+          (same_Some x z (sym heads ∙ ap (slice_get (parts at 0 c)) (sym here) ∙ of_it)) mine;
+    }) in
+    subst (λ k. IsKept w h (also i asked) y first k (kept_by start)) (let e : 0 + j ≡ j = omega arith in e)
+    (told w h asked steps first i x.at n start few c at (heads-within c at i x heads)
+    (λ k z of_it. subst (λ m. Given w h asked steps first i x.at n start few m z) (let e : k ≡ 0 + k = omega arith in e) (given k z of_it)) j y there)

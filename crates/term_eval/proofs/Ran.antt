@@ -1,0 +1,114 @@
+-- What a pass over the temporal nodes of a condition leaves.
+use Rattle.std.proofs.Common.{◌≡◌, ℕ, suc, ◌+◌, ◌<◌, ◌^◌, true, false, List, length, inr, refl, sym, ◌∙◌, ap, subst, arith}
+use Rattle.std.specs.Prelude.{slice_index}
+use Rattle.std.specs.List.{slice_get}
+use Rattle.ecam_spec.specs.Book.{Tree, Trees, none, more}
+use Rattle.ecam_spec.specs.Term.{World, holds}
+use Rattle.ecam_spec.specs.TermSize.{nodes, slots, children}
+use Rattle.term_eval.specs.declared.code.Step.{Step}
+use Rattle.term_eval.specs.CellWords.{never}
+use Rattle.term_eval.specs.CellState.{Stand}
+use Rattle.term_eval.specs.Due.{staying, IsDue}
+use Rattle.term_eval.specs.OwnDue.{own_due}
+use Rattle.term_eval.specs.Memory.{Memory, NodeMemory}
+use Rattle.term_eval.specs.Code.{IsReady, owners}
+use Rattle.term_eval.specs.Asked.{heard}
+use Rattle.term_eval.specs.Woken.{moved}
+use Rattle.term_eval.specs.Parts.{Part, parts, Heads, is_temporal}
+use Rattle.term_eval.specs.NodeState.{state_at, SayTheSame, Wakes, NodesWait, NodesStand}
+use Rattle.term_eval.specs.Run.{Run, pass_over}
+use Rattle.term_eval.proofs.PartLaws.{parts-is, says-before, says-after, said-before, said-after}
+use Rattle.term_eval.proofs.Dues.{due-of}
+use Rattle.term_eval.proofs.PartCells.{close-parts}
+use Rattle.term_eval.proofs.Owned.{place-first, temporals, many-slots, follow}
+use Rattle.term_eval.proofs.CanPass.{is-code}
+use Rattle.term_eval.proofs.PassFrame.{nodes_of_run, Framed, FramedTo, Room, over, framed}
+use Rattle.term_eval.proofs.AskedSoFar.{gone, gone-through}
+use Rattle.term_eval.proofs.Over.{Gone, gone-over}
+
+-- what is kept of nodes, and cells, before the first was looked at
+abbrev pub fresh : Memory → NodeMemory → Run
+fresh m n = record { states = n.states; wakes = n.wakes; cells = m.slots; due = never }
+
+-- ---- the last of them was gone through
+
+module _ (w : World) (h : ℕ) (c : Tree) (at first : ℕ) (n : NodeMemory) (waits : NodesWait w h (gone c at 0) c at first n) where
+  all-same : (cs : Trees) (p : ℕ) → SayTheSame w (suc h) (λ i. false) cs p
+  unfolding SayTheSame
+  all-same none p = tt
+  all-same (more d ds) p = (says-before w (suc h) (λ i. false) d p (λ i low high. refl), all-same ds (p + nodes d))
+
+  -- each temporal node is to be looked at in its own due moment
+  own-wakes : (i : ℕ) (x : Part) → Heads c at i x → is_temporal x.tree ≡ true → slice_index n.wakes x.at ≡ own_due w x.tree (suc h)
+  own-wakes i x heads temporal =
+      subst (Wakes w h (gone c at 0) x.tree i (slice_index n.wakes x.at)) (gone-through c at 0 i (omega arith)) ((waits i x heads).wake temporal)
+
+  stand-after : NodesStand w (suc h) c at first n
+  stand-after i x heads =
+      let kept = waits i x heads in
+      record {
+        told =
+            kept.told ∙ says-after w h (gone c at 0) x.tree i (λ j low high. gone-through c at 0 j (omega arith))
+            ∙ sym (says-before w (suc h) (λ j. false) x.tree i (λ j low high. refl));
+        count =
+            kept.count ∙ said-after w h (gone c at 0) (children x.tree) (i + 1) (λ j low high. gone-through c at 0 j (omega arith))
+            ∙ sym (said-before w (suc h) (λ j. false) (children x.tree) (i + 1) (λ j low high. refl));
+        wake = λ temporal. inr (record { due = own-wakes i x heads temporal; same = all-same (children x.tree) (i + 1) });
+      }
+
+  first-told : (state_at n.states first).told ≡ holds w c (suc h)
+  first-told =
+      let x : Part = record { tree = c; at = at; up = 0 } in
+      let kept = waits 0 x (ap (λ l. slice_get l 0) (parts-is at 0 c)) in
+      let e : first ≡ first + 0 = omega arith in
+      ap (λ i. (state_at n.states i).told) e ∙ kept.told ∙ says-after w h (gone c at 0) c 0 (λ j low high. gone-through c at 0 j (omega arith))
+
+-- ---- the whole
+
+module _ (k : ℕ) (steps : List Step) (m : Memory) (n : NodeMemory) (c : Tree) (at first : ℕ) (ready : IsReady steps m n c at first) where
+  abbrev pub ran : Run
+  ran = pass_over k steps first (owners 0 steps) at (fresh m n)
+
+  goes : over k steps first c at 0 at (parts at 0 c) (fresh m n) ≡ ran
+  goes = ap (λ l. pass_over k steps first (owners 0 l) at (fresh m n)) (sym (is-code steps m n c at first ready))
+
+  room : Room k steps first c at (fresh m n)
+  room = record { nodes = ready.held; cells = ready.range }
+
+  pub ran-frame : Framed first (first + nodes c) at (at + slots c) at (slots c) (fresh m n) ran
+  ran-frame =
+      let many = many-slots at (at + slots c) (parts at 0 c) (follow c at) in
+      let e : temporals (parts at 0 c) ≡ slots c = omega (arith, many) in
+      subst (λ count. FramedTo k steps first c at at count (fresh m n) ran) e
+      (subst (FramedTo k steps first c at at (temporals (parts at 0 c)) (fresh m n)) goes (framed k steps first c at (parts at 0 c) 0 at (fresh m n) (place-first c at) room refl))
+
+-- it tells the condition's truth and when it is due, and all stands for the moment
+pub record Done (w : World) (k : ℕ) (c : Tree) (at first : ℕ) (r : Run) : Type 0 where
+  pub told : (state_at r.states first).told ≡ holds w c k
+  pub due : IsDue (staying w k) c k r.due
+  pub stands : Stand w (suc k) c at r.cells
+  pub nodes : NodesStand w k c at first (nodes_of_run r)
+
+module _ (steps : List Step) (m : Memory) (n : NodeMemory) (c : Tree) (at first : ℕ) (ready : IsReady steps m n c at first) (few : length n.states < 2 ^ 64) (w : World) (h : ℕ) where
+  done-next : suc h < 2 ^ 63 → Stand w (suc h) c at m.slots → NodesWait w h (heard (moved w (suc h)) c) c at first n →
+      Done w (suc h) c at first (ran (suc h) steps m n c at first ready)
+  done-next small stand waits =
+      let r = ran (suc h) steps m n c at first ready in
+      let g : Gone w h c at first 0 r =
+      subst (Gone w h c at first 0) (goes (suc h) steps m n c at first ready)
+      (gone-over w h c at first steps small (parts at 0 c) 0 at (fresh m n) (place-first c at) (room (suc h) steps m n c at first ready) few refl waits stand) in
+      let f = ran-frame (suc h) steps m n c at first ready in
+      record {
+        told = first-told w h c at first (nodes_of_run r) g.waits;
+        due =
+            subst (IsDue (staying w (suc h)) c (suc h)) (sym f.due)
+            (due-of w (suc h) c at r.wakes small ready.held.code.short (own-wakes w h c at first (nodes_of_run r) g.waits));
+        stands = close-parts w (suc (suc h)) r.cells c at (λ i x heads. g.behind i x heads (omega arith));
+        nodes = stand-after w h c at first (nodes_of_run r) g.waits;
+      }
+
+  pub done : (k : ℕ) → k ≡ suc h → k < 2 ^ 63 → Stand w k c at m.slots → NodesWait w h (heard (moved w k) c) c at first n →
+      Done w k c at first (ran k steps m n c at first ready)
+  done k is =
+      subst (λ k. k < 2 ^ 63 → Stand w k c at m.slots → NodesWait w h (heard (moved w k) c) c at first n → Done w k c at first (ran k steps m n c at first ready))
+      (sym is) done-next

@@ -1,0 +1,88 @@
+// What an operand reads, by which the atoms that ask for it are told.
+ghost use Rattle.std.specs.Prelude.{◌≡◌, pos, is_some};
+ghost use Rattle.std.specs.Ordering.{int_eq};
+ghost use Rattle.ecam_spec.specs.Term.{in_set, is_so, stands};
+ghost use Rattle.term_eval.specs.Reading.{IsReading, atom_says, value_read, phase_read, flag_read};
+
+use crate::code::Node;
+use crate::env::stands;
+use ecam_kinds::{Phase, PhaseSet};
+use term_tree::Op;
+
+/// What an operand reads in a moment.
+#[derive(Clone, Copy, Debug, PartialEq, Eq)]
+pub enum Reading {
+    /// A parameter's value, if it has one.
+    Value(Option<i64>),
+    /// The flight phase.
+    InPhase(Phase),
+    /// Whether an alert is active, a key is pressed, or a computer is up.
+    Flag(bool),
+}
+
+/// What an atom says whose operand reads so.
+#[inline(always)]
+pub(crate) fn atom_says(node: &Node, reading: Reading) -> bool
+    requires { IsReading reading }
+    ensures { result ≡ atom_says node.now reading }
+{
+    match node {
+        Node::Disc(_) => is_one(reading),
+        Node::Valid(_) => has_value(reading),
+        Node::Cmp(_, op, number) => compares(reading, *op, *number),
+        Node::InPhase(phases) => is_in(reading, *phases),
+        Node::Alert(_) | Node::Press(_) | Node::Fwc(_) => is_set(reading),
+        _ => false,
+    }
+}
+
+#[inline(always)]
+fn is_one(reading: Reading) -> bool
+    ensures { result ≡ value_read reading (is_so (int_eq (pos 1))) }
+{
+    match reading {
+        Reading::Value(value) => value == Some(1),
+        _ => false,
+    }
+}
+
+#[inline(always)]
+fn has_value(reading: Reading) -> bool
+    ensures { result ≡ value_read reading is_some }
+{
+    match reading {
+        Reading::Value(value) => value.is_some(),
+        _ => false,
+    }
+}
+
+#[inline(always)]
+fn compares(reading: Reading, op: Op, number: i64) -> bool
+    ensures { result ≡ value_read reading (is_so (λ value. stands op value number)) }
+{
+    match reading {
+        Reading::Value(Some(value)) => stands(op, value, number),
+        _ => false,
+    }
+}
+
+#[inline(always)]
+fn is_in(reading: Reading, phases: PhaseSet) -> bool
+    requires { IsReading reading }
+    ensures { result ≡ phase_read reading (in_set phases.0) }
+{
+    match reading {
+        Reading::InPhase(phase) => phases.has(phase),
+        _ => false,
+    }
+}
+
+#[inline(always)]
+fn is_set(reading: Reading) -> bool
+    ensures { result ≡ flag_read reading }
+{
+    match reading {
+        Reading::Flag(flag) => flag,
+        _ => false,
+    }
+}
