@@ -3,4 +3,5 @@ pub mod Staying
 pub mod Listings
 pub mod Secondaries
 pub mod Starring
+pub mod Nearing
 pub mod Stepping

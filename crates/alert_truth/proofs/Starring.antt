@@ -4,13 +4,13 @@ use Rattle.std.specs.Prelude.{find, is_some, slice_get}
 use Rattle.std.specs.List.{list_any}
 use Rattle.std.specs.Option.{option_or}
 use Rattle.std.proofs.lemmas.Bool.{cases_lt}
-use Rattle.std.proofs.lemmas.List.{set-get_or, length-set, get_or-set_same, get_or-set_other, get_or_past, get_or-replicate}
+use Rattle.std.proofs.lemmas.List.{set-get_or, length-set, get_or-set_same, get_or-set_other, get_or_past, get_or-replicate, length-replicate}
 use Rattle.ecam_spec.specs.Past.{Signal, previous, previously}
 use Rattle.ecam_spec.specs.Book.{Book}
 use Rattle.ecam_spec.specs.Alert as alert
 use Rattle.ecam_spec.specs.Situation.{primaries}
 use Rattle.alert_truth.specs.Alerts.{Tells, starred_by_where}
-use Rattle.alert_truth.specs.Stars.{StarsFit, StarsStand, HasPlace, Takes, AreMany, IsAway}
+use Rattle.alert_truth.specs.Stars.{StarsFit, StarsStand, HasPlace, Takes, IsAway}
 use Rattle.alert_truth.specs.declared.stars.Stars.{Stars}
 use Rattle.alert_truth.proofs.Listings.{listing, secondaries_of, find-none, find-is_some, same-primary, found-step, left-step, primaries-listing, listing-done, lists-none}
 
@@ -46,14 +46,6 @@ nothing-taken b flags s fits = record {
   up_places = fits.up;
   taken = λ a below. absurd (omega arith);
   found = λ a from. fits.settled a ∙ sym (find-none (λ p. get_or flags p false) (secondaries_of b) a);
-}
-
-pub half-many : (b : Book) (flags : List Bool) (now : Stars) (i n m : ℕ) → length b.alerts ≡ m → IsHalfTaken b flags now i n → AreMany m now
-half-many b flags now i n m many half = record {
-  found = half.found_places ∙ many;
-  primaries = half.primary_places ∙ many;
-  starred = half.starred_places ∙ many;
-  up = half.up_places ∙ many;
 }
 
 pub place-of-alert : (b : Book) (flags : List Bool) (now : Stars) (i n : ℕ) → i < length b.alerts → IsHalfTaken b flags now i n → HasPlace i now
@@ -143,28 +135,29 @@ module _ (b : Book) (flags : List Bool) (later : (n : ℕ) (own : List ℕ) → 
   }
 
   -- one that is away takes over nothing
-  away-takes : (now : Stars) (i : ℕ) → IsAway i flags now → Takes i (get_or flags i false) now now
-  away-takes now i away =
+  away-takes : (now : Stars) (i : ℕ) → get_or flags i false ≡ false → IsAway i now → Takes i (get_or flags i false) now now
+  away-takes now i off away =
       let none : cond (get_or flags i false) (get_or now.found.items i None) None ≡ None =
-      ap (λ f. cond f (get_or now.found.items i None) None) away.off in
+      ap (λ f. cond f (get_or now.found.items i None) None) off in
       record {
         found = set-same now.found.items i None None away.found;
         primaries = set-same now.primaries.items i None _ (away.primaries ∙ sym none);
         starred = set-same now.starred.items i false _ (away.starred ∙ sym (ap is_some none));
-        up = set-same now.up.items i false _ (away.up ∙ sym (ap (λ f. f && not (is_some (cond (get_or flags i false) (get_or now.found.items i None) None))) away.off));
+        up = set-same now.up.items i false _ (away.up ∙ sym (ap (λ f. f && not (is_some (cond (get_or flags i false) (get_or now.found.items i None) None))) off));
+        turned = (λ e. (e, refl), λ both. both.0);
       }
 
   -- those that are away need no look
-  pub half-skip : (now : Stars) (i d : ℕ) → i + d ≤ length b.alerts → ((a : ℕ) → i ≤ a → a < i + d → IsAway a flags now)
+  pub half-skip : (now : Stars) (i d : ℕ) → i + d ≤ length b.alerts → ((a : ℕ) → i ≤ a → a < i + d → (get_or flags a false ≡ false) × IsAway a now)
       → IsHalfTaken b flags now i i → IsHalfTaken b flags now (i + d) (i + d)
   half-skip now i zero within away half = let e : i ≡ i + 0 = omega arith in subst (λ n. IsHalfTaken b flags now n n) e half
   half-skip now i (suc d) within away half =
       let here = away i (omega arith) (omega arith) in
       let e : suc i + d ≡ i + suc d = omega arith in
-      let on = subst (λ n. IsHalfTaken b flags now (suc i) n) (add-one i) (one-left now i here.off (one-taken now now i (omega arith) (away-takes now i here) half)) in
+      let on = subst (λ n. IsHalfTaken b flags now (suc i) n) (add-one i) (one-left now i here.0 (one-taken now now i (omega arith) (away-takes now i here.0 here.1) half)) in
       subst (λ n. IsHalfTaken b flags now n n) e (half-skip now (suc i) d (omega arith) (λ a from below. away a (omega arith) (omega arith)) on)
 
-  pub half-on : (now : Stars) (i j : ℕ) → i ≤ j → j ≤ length b.alerts → ((a : ℕ) → i ≤ a → a < j → IsAway a flags now)
+  pub half-on : (now : Stars) (i j : ℕ) → i ≤ j → j ≤ length b.alerts → ((a : ℕ) → i ≤ a → a < j → (get_or flags a false ≡ false) × IsAway a now)
       → IsHalfTaken b flags now i i → IsHalfTaken b flags now j j
   half-on now i j order within away half =
       let e : i + (j - i) ≡ j = omega arith in
@@ -241,4 +234,20 @@ blank-stands b active s n count primary starred up = record {
   primaries = λ a within. ap (λ xs. get_or xs a None) primary ∙ get_or-replicate n a None None (omega arith);
   starred = λ a within. ap (λ xs. get_or xs a false) starred ∙ get_or-replicate n a false false (omega arith);
   up = λ a within. ap (λ xs. get_or xs a false) up ∙ get_or-replicate n a false false (omega arith);
+}
+
+pub blank-at : {X : Type 0} (n a : ℕ) (d : X) → get_or (replicate n d) a d ≡ d
+blank-at n a d = elim (cases_lt a n) [
+  | inl within ↦ get_or-replicate n a d d within
+  | inr past ↦ get_or_past (replicate n d) a d (omega (arith, past, length-replicate n d))
+]
+
+-- and nothing is told of one
+pub blank-away : (s : Stars) (n : ℕ) → ((a : ℕ) → get_or s.found.items a None ≡ None) → s.primaries.items ≡ replicate n None → s.starred.items ≡ replicate n false
+    → s.up.items ≡ replicate n false → (a : ℕ) → IsAway a s
+blank-away s n settled primary starred up a = record {
+  found = settled a;
+  primaries = ap (λ xs. get_or xs a None) primary ∙ blank-at n a None;
+  starred = ap (λ xs. get_or xs a false) starred ∙ blank-at n a false;
+  up = ap (λ xs. get_or xs a false) up ∙ blank-at n a false;
 }

@@ -1,5 +1,5 @@
 -- One alert more is stepped, and the moment ends.
-use Rattle.std.proofs.Common.{◌≡◌, ℕ, zero, suc, ◌<◌, Bool, true, false, not, ◌&&◌, List, length, get_or, replicate, Option, Some, None, cond, inl, inr, refl, sym, ap, ◌∙◌, subst, arith}
+use Rattle.std.proofs.Common.{◌≡◌, ℕ, zero, suc, ◌<◌, Bool, true, false, not, ◌&&◌, ◌||◌, eqb, List, length, get_or, set, replicate, Option, Some, None, cond, inl, inr, refl, sym, ap, ◌∙◌, subst, arith}
 use Rattle.std.specs.Prelude.{is_some, is_none, find, ◌↔◌}
 use Rattle.std.specs.List.{list_any}
 use Rattle.std.proofs.lemmas.Bool.{cases_lt, cases_eq, eq-eqb, ne_eqb}
@@ -12,7 +12,7 @@ use Rattle.ecam_spec.specs.Alert as alert
 use Rattle.ecam_spec.specs.Situation.{alert_at, primaries}
 use Rattle.alert_truth.specs.Alerts.{Tells, inhibited, present, active, waiting, starred, starred_by, up}
 use Rattle.alert_truth.specs.Stars.{StarsFit, StarsStand}
-use Rattle.alert_truth.specs.TruthsState.{TruthsFit, TruthsStand, HalfStand, IsStepped, IsStill, Unchanged, is_restless}
+use Rattle.alert_truth.specs.TruthsState.{TruthsFit, TruthsStand, HalfStand, IsStepped, IsStill, Unchanged, StarsStay, AreNear, is_restless}
 use Rattle.alert_truth.specs.Noting.{Notes}
 use Rattle.alert_truth.specs.declared.stars.Stars.{Stars}
 use Rattle.alert_truth.specs.declared.truths.Truths.{Truths}
@@ -37,15 +37,65 @@ notes-restless b i a start is_present is_active old new notes fits within = elim
       ∙ ap (λ x. is_some (get_or old.since.items a None) && not x) (ap (λ xs. get_or xs a false) notes.active ∙ get_or-set_other old.active.items i a is_active false apart))
 ]
 
+-- what is noted of one alert makes it near, and leaves what is near
+flag-near : (old new : List Bool) (i a : ℕ) (flag on m : Bool) → new ≡ set old i flag → i < length old → (flag ≡ true → on ≡ true) → (get_or old a false ≡ true → m ≡ true)
+    → get_or new a false ≡ true → ((eqb a i && on) || m) ≡ true
+flag-near old new i a flag on m is within own other told = elim (cases_eq a i) [
+  | inl same ↦
+      let here : flag ≡ true =
+      sym (ap (λ xs. get_or xs a false) is ∙ ap (λ n. get_or (set old i flag) n false) same ∙ get_or-set_same old i flag false within) ∙ told in
+      ap (λ e. (e && on) || m) (eq-eqb a i same) ∙ ap (λ o. o || m) (own here)
+  | inr apart ↦
+      let was : get_or old a false ≡ true = sym (ap (λ xs. get_or xs a false) is ∙ get_or-set_other old i a flag false apart) ∙ told in
+      ap (λ e. (e && on) || m) (ne_eqb a i apart) ∙ other was
+]
+
+or-left : (x y : Bool) → x ≡ true → (x || y) ≡ true
+or-left true y on = refl
+or-left false y on = absurd (let w : false ≡ true = on in cc)
+
+or-right : (x y : Bool) → y ≡ true → (x || y) ≡ true
+or-right true y on = refl
+or-right false y on = on
+
+and-left : (x y : Bool) → (x && y) ≡ true → x ≡ true
+and-left true y on = refl
+and-left false y on = on
+
+notes-near : (b : Book) (i : ℕ) (start : Option ℕ) (is_present is_active : Bool) (old new : Truths) → i < length b.alerts → Notes i start is_present is_active old new → TruthsFit b old → AreNear new
+notes-near b i start is_present is_active old new within notes fits =
+    let stays : (a : ℕ) → is_marked old.near a ≡ true → is_marked new.near a ≡ true
+    = λ a near. notes.near a ∙ or-right (eqb a i && (is_present || is_active)) (is_marked old.near a) near in
+    record {
+      present = λ a told.
+          notes.near a
+          ∙ flag-near old.present.items new.present.items i a is_present (is_present || is_active) (is_marked old.near a) notes.present (omega (arith, fits.present, within))
+          (or-left is_present is_active) (fits.near.present a) told;
+      active = λ a told.
+          notes.near a
+          ∙ flag-near old.active.items new.active.items i a is_active (is_present || is_active) (is_marked old.near a) notes.active (omega (arith, fits.active, within))
+          (or-right is_present is_active) (fits.near.active a) told;
+      waiting = λ a told.
+          notes.near a
+          ∙ flag-near old.waiting.items new.waiting.items i a (is_present && not is_active) (is_present || is_active) (is_marked old.near a) notes.waiting (omega (arith, fits.waiting, within))
+          (λ on. or-left is_present is_active (and-left is_present (not is_active) on)) (fits.near.waiting a) told;
+      starred = λ a told. stays a (fits.near.starred a (sym (ap (λ (s : Stars). get_or s.starred.items a false) notes.stars) ∙ told));
+      up = λ a told. stays a (fits.near.up a (sym (ap (λ (s : Stars). get_or s.up.items a false) notes.stars) ∙ told));
+      primaries = λ a told. stays a (fits.near.primaries a (sym (ap (λ (s : Stars). is_some (get_or s.primaries.items a None)) notes.stars) ∙ told));
+    }
+
 -- the places stay
-pub notes-fits : (b : Book) (i : ℕ) (start : Option ℕ) (is_present is_active : Bool) (old new : Truths) → Notes i start is_present is_active old new → TruthsFit b old → TruthsFit b new
-notes-fits b i start is_present is_active old new notes fits = record {
+pub notes-fits : (b : Book) (i : ℕ) (start : Option ℕ) (is_present is_active : Bool) (old new : Truths) → i < length b.alerts → Notes i start is_present is_active old new → TruthsFit b old
+    → TruthsFit b new
+notes-fits b i start is_present is_active old new within notes fits = record {
   since = ap length notes.since ∙ length-set old.since.items i start ∙ fits.since;
   present = ap length notes.present ∙ length-set old.present.items i is_present ∙ fits.present;
   active = ap length notes.active ∙ length-set old.active.items i is_active ∙ fits.active;
   waiting = ap length notes.waiting ∙ length-set old.waiting.items i _ ∙ fits.waiting;
   room = notes.room ∙ fits.room;
   restless = λ a within. notes-restless b i a start is_present is_active old new notes fits within;
+  near_room = notes.near_room ∙ fits.near_room;
+  near = notes-near b i start is_present is_active old new within notes fits;
   stars = subst (StarsFit b) (sym notes.stars) fits.stars;
 }
 
@@ -86,7 +136,7 @@ module _ (b : Book) (conditions : ℕ → Signal) (phases : ℕ → ℕ) where
   half-step k i start is_present is_active old new notes within since now here half =
       let left = half.left i (omega arith) within in
       record {
-        fits = notes-fits b i start is_present is_active old new notes half.fits;
+        fits = notes-fits b i start is_present is_active old new within notes half.fits;
         moments = notes.moments ∙ half.moments;
         stepped = λ a below. elim (cases_lt a i) [
           | inl earlier ↦ notes-other (suc k) a i start is_present is_active old new notes (λ e. omega arith) (half.stepped a earlier)
@@ -118,6 +168,7 @@ module _ (b : Book) (conditions : ℕ → Signal) (phases : ℕ → ℕ) where
               ),
         );
         changed = λ j e. let was = half.changed j e in (λ w. was.0 (sym notes.changed ∙ w), λ w. notes.changed ∙ was.1 w);
+        stars_turned = λ j e. let was = half.stars_turned j e in let same = ap (λ (s : Stars). s.turned) notes.stars in (λ w. was.0 (sym same ∙ w), λ w. same ∙ was.1 w);
       }
 
   -- and so is one that stays as it is
@@ -152,6 +203,7 @@ module _ (b : Book) (conditions : ℕ → Signal) (phases : ℕ → ℕ) where
           λ still. half.changing.1 (λ a below. still a (omega arith)),
         );
         changed = half.changed;
+        stars_turned = half.stars_turned;
       }
 
   -- one that isn't restless stays as it is where its condition holds where it held
@@ -210,9 +262,22 @@ module _ (b : Book) (conditions : ℕ → Signal) (phases : ℕ → ℕ) where
             ∙ ap (λ x. previous (active b conditions phases a) k && not x) (stars a within) ∙ up-before a k;
       }
 
-  -- so the stars that stand for the moments before stand for this one too
+  pub still-starred : (k : ℕ) → ((a : ℕ) → a < length b.alerts → IsStill b conditions phases k a) → StarsStay b conditions phases k
+  still-starred k still = let same = unchanged k still in record { starred = same.starred }
+
+  -- of stars that were settled anew it is told whether one turned
+  pub settled-turned : (k : ℕ) (old new : Stars) → StarsStand b (active b conditions phases) k old → StarsStand b (active b conditions phases) (suc k) new
+      → (new.turned ≡ false) ↔ ((a : ℕ) → a < length b.alerts → get_or new.starred.items a false ≡ get_or old.starred.items a false)
+      → (new.turned ≡ false) ↔ StarsStay b conditions phases k
+  unfolding previous
+  settled-turned k old new was now tells = (
+    λ e. record { starred = λ a within. sym (now.starred a within) ∙ tells.0 e a within ∙ was.starred a within },
+    λ same. tells.1 (λ a within. now.starred a within ∙ same.starred a within ∙ sym (was.starred a within)),
+  )
+
+  -- so the stars that stand for the moments before stand for this one too, in which none turned
   pub still-stars : (k : ℕ) (s : Stars) → ((a : ℕ) → a < length b.alerts → IsStill b conditions phases k a)
-      → StarsStand b (active b conditions phases) k s → StarsStand b (active b conditions phases) (suc k) s
+      → StarsStand b (active b conditions phases) k s → StarsStand b (active b conditions phases) (suc k) (record s { turned = false })
   unfolding previous
   still-stars k s still stands =
       let same = unchanged k still in
@@ -226,8 +291,9 @@ module _ (b : Book) (conditions : ℕ → Signal) (phases : ℕ → ℕ) where
   pub moment-ends : (k : ℕ) (old new : Truths) → HalfStand b conditions phases k (length b.alerts) old → TruthsFit b new
       → new.moments ≡ suc old.moments → new.since ≡ old.since → new.present ≡ old.present → new.active ≡ old.active → new.waiting ≡ old.waiting
       → new.changing ≡ false → new.changed ≡ old.changing → StarsStand b (active b conditions phases) (suc k) new.stars
+      → (new.stars.turned ≡ false) ↔ StarsStay b conditions phases k
       → TruthsStand b conditions phases (suc k) new
-  moment-ends k old new half fits moments since now here waits quiet told stars =
+  moment-ends k old new half fits moments since now here waits quiet told stars turned =
       let each : (a : ℕ) → a < length b.alerts → IsStepped b conditions phases (suc k) a new = λ a within.
       let was = half.stepped a within in
       record {
@@ -247,6 +313,7 @@ module _ (b : Book) (conditions : ℕ → Signal) (phases : ℕ → ℕ) where
         stars = stars;
         changing = quiet;
         changed = λ j e. let same : k ≡ j = cc in subst (λ i. (new.changed ≡ false) ↔ Unchanged b conditions phases i) same says;
+        stars_turned = λ j e. let same : k ≡ j = cc in subst (λ i. (new.stars.turned ≡ false) ↔ StarsStay b conditions phases i) same turned;
       }
 
   -- truths that stand for k moments are ready for the next
@@ -259,6 +326,7 @@ module _ (b : Book) (conditions : ℕ → Signal) (phases : ℕ → ℕ) where
     stars = stands.stars;
     changing = (λ e a below. absurd (omega arith), λ h. stands.changing);
     changed = stands.changed;
+    stars_turned = stands.stars_turned;
   }
 
   -- where all alerts are stepped, the flags tell which are active
@@ -281,13 +349,14 @@ module _ (b : Book) (conditions : ℕ → Signal) (phases : ℕ → ℕ) where
     stars = stars;
     changing = quiet;
     changed = λ j e. absurd (omega arith);
+    stars_turned = λ j e. absurd (omega arith);
   }
 
   -- truths that hold the same stand for the same moments
   pub same-stands : (k : ℕ) (old new : Truths) → TruthsFit b new → new.moments ≡ old.moments → new.since.items ≡ old.since.items → new.present.items ≡ old.present.items
       → new.active.items ≡ old.active.items → new.waiting.items ≡ old.waiting.items → StarsStand b (active b conditions phases) k new.stars → new.changing ≡ old.changing
-      → new.changed ≡ old.changed → TruthsStand b conditions phases k old → TruthsStand b conditions phases k new
-  same-stands k old new fits moments since now here waits stars quiet told stands = record {
+      → new.changed ≡ old.changed → new.stars.turned ≡ old.stars.turned → TruthsStand b conditions phases k old → TruthsStand b conditions phases k new
+  same-stands k old new fits moments since now here waits stars quiet told turned stands = record {
     fits = fits;
     moments = moments ∙ stands.moments;
     each = λ a within.
@@ -301,4 +370,5 @@ module _ (b : Book) (conditions : ℕ → Signal) (phases : ℕ → ℕ) where
     stars = stars;
     changing = quiet ∙ stands.changing;
     changed = λ j e. let was = stands.changed j e in (λ w. was.0 (sym told ∙ w), λ w. told ∙ was.1 w);
+    stars_turned = λ j e. let was = stands.stars_turned j e in (λ w. was.0 (sym turned ∙ w), λ w. turned ∙ was.1 w);
   }

@@ -1,5 +1,5 @@
 -- What one step of one alert writes.
-use Rattle.std.specs.Prelude.{◌≡◌, ◌↔◌, ℕ, ◌<◌, Bool, false, not, ◌&&◌, ◌==◌, length, get_or, set, Option, is_some, if◌then◌else◌}
+use Rattle.std.specs.Prelude.{◌≡◌, ◌↔◌, ℕ, ◌<◌, Bool, false, not, ◌&&◌, ◌||◌, ◌==◌, length, get_or, set, Option, is_some, if◌then◌else◌}
 use Rattle.wakes.specs.Marks.{is_marked, room}
 use Rattle.alert_truth.specs.declared.truths.Truths.{Truths}
 
@@ -10,6 +10,7 @@ pub record HasAlert (a : ℕ) (t : Truths) : Type 0 where
   pub active : a < length t.active.items
   pub waiting : a < length t.waiting.items
   pub restless : a < room t.restless
+  pub near : a < room t.near
 
 -- what alert a has become is noted, and whether it is another than before
 pub record Notes (a : ℕ) (start : Option ℕ) (is_present is_active : Bool) (old new : Truths) : Type 0 where
@@ -18,8 +19,10 @@ pub record Notes (a : ℕ) (start : Option ℕ) (is_present is_active : Bool) (o
   pub present : new.present.items ≡ set old.present.items a is_present
   pub active : new.active.items ≡ set old.active.items a is_active
   pub waiting : new.waiting.items ≡ set old.waiting.items a (is_present && not is_active)
+  pub near_room : room new.near ≡ room old.near
   pub room : room new.restless ≡ room old.restless
   pub restless : (j : ℕ) → is_marked new.restless j ≡ (if j == a then is_some start && not is_active else is_marked old.restless j)
+  pub near : (j : ℕ) → is_marked new.near j ≡ ((j == a && (is_present || is_active)) || is_marked old.near j)
   pub stars : new.stars ≡ old.stars
   pub changed : new.changed ≡ old.changed
   pub changing : (new.changing ≡ false)

@@ -1,5 +1,5 @@
 -- What the stars say of the alerts that are active.
-use Rattle.std.specs.Prelude.{◌≡◌, ℕ, ◌<◌, Bool, false, not, ◌&&◌, List, length, get_or, set, None, is_some, if◌then◌else◌}
+use Rattle.std.specs.Prelude.{◌≡◌, ◌↔◌, ℕ, ◌<◌, Bool, false, not, ◌&&◌, length, get_or, set, None, is_some, if◌then◌else◌}
 use Rattle.ecam_spec.specs.Past.{Signal, previously}
 use Rattle.ecam_spec.specs.Book.{Book}
 use Rattle.alert_truth.specs.Alerts.{Tells, starred_where, starred_by_where, up_where}
@@ -26,23 +26,16 @@ pub record HasPlace (a : ℕ) (s : Stars) : Type 0 where
   pub starred : a < length s.starred.items
   pub up : a < length s.up.items
 
--- one alert takes over what was found for it, if it is active
+-- one alert takes over what was found for it, if it is active, and it is noted whether it turned
 pub record Takes (a : ℕ) (active : Bool) (old new : Stars) : Type 0 where
   pub found : new.found.items ≡ set old.found.items a None
   pub primaries : new.primaries.items ≡ set old.primaries.items a (if active then get_or old.found.items a None else None)
   pub starred : new.starred.items ≡ set old.starred.items a (is_some (if active then get_or old.found.items a None else None))
   pub up : new.up.items ≡ set old.up.items a (active && not (is_some (if active then get_or old.found.items a None else None)))
+  pub turned : (new.turned ≡ false) ↔ ((old.turned ≡ false) × (get_or new.starred.items a false ≡ get_or old.starred.items a false))
 
--- there are n alerts
-pub record AreMany (n : ℕ) (s : Stars) : Type 0 where
-  pub found : length s.found.items ≡ n
-  pub primaries : length s.primaries.items ≡ n
-  pub starred : length s.starred.items ≡ n
-  pub up : length s.up.items ≡ n
-
--- alert a isn't active by these flags, no primary was found for it, and all that is told of it is that it is away
-pub record IsAway (a : ℕ) (active : List Bool) (s : Stars) : Type 0 where
-  pub off : get_or active a false ≡ false
+-- no primary was found for alert a, and nothing is told of it
+pub record IsAway (a : ℕ) (s : Stars) : Type 0 where
   pub found : get_or s.found.items a None ≡ None
   pub primaries : get_or s.primaries.items a None ≡ None
   pub starred : get_or s.starred.items a false ≡ false

@@ -1,5 +1,5 @@
 -- What the truths of a book's alerts say of the moments so far.
-use Rattle.std.specs.Prelude.{◌≡◌, ◌↔◌, ℕ, suc, ◌<◌, ◌≤◌, ◌+◌, ◌*◌, ◌/◌, ◌^◌, Bool, false, not, ◌&&◌, length, get_or, None, is_some}
+use Rattle.std.specs.Prelude.{◌≡◌, ◌↔◌, ℕ, suc, ◌<◌, ◌≤◌, ◌+◌, ◌*◌, ◌/◌, ◌^◌, Bool, true, false, not, ◌&&◌, length, get_or, None, is_some}
 use Rattle.ecam_spec.specs.Past.{Signal, previous, running_since, previously}
 use Rattle.ecam_spec.specs.Book.{Book}
 use Rattle.wakes.specs.Marks.{is_marked, room}
@@ -15,14 +15,25 @@ CanGoOn t = t.moments < 2 ^ 63
 abbrev pub is_restless : Truths → ℕ → Bool
 is_restless t a = is_some (get_or t.since.items a None) && not (get_or t.active.items a false)
 
--- the truths were made for the book, and the restless alerts are known
+-- an alert of which something is told is near
+pub record AreNear (t : Truths) : Type 0 where
+  pub present : (a : ℕ) → get_or t.present.items a false ≡ true → is_marked t.near a ≡ true
+  pub active : (a : ℕ) → get_or t.active.items a false ≡ true → is_marked t.near a ≡ true
+  pub waiting : (a : ℕ) → get_or t.waiting.items a false ≡ true → is_marked t.near a ≡ true
+  pub starred : (a : ℕ) → get_or t.stars.starred.items a false ≡ true → is_marked t.near a ≡ true
+  pub up : (a : ℕ) → get_or t.stars.up.items a false ≡ true → is_marked t.near a ≡ true
+  pub primaries : (a : ℕ) → is_some (get_or t.stars.primaries.items a None) ≡ true → is_marked t.near a ≡ true
+
+-- the truths were made for the book, and the restless and the near alerts are known
 pub record TruthsFit (b : Book) (t : Truths) : Type 0 where
   pub since : length t.since.items ≡ length b.alerts
   pub present : length t.present.items ≡ length b.alerts
   pub active : length t.active.items ≡ length b.alerts
   pub waiting : length t.waiting.items ≡ length b.alerts
+  pub near_room : room t.near ≡ 64 * (length b.alerts / 64 + 1)
   pub room : room t.restless ≡ 64 * (length b.alerts / 64 + 1)
   pub restless : (a : ℕ) → a < length b.alerts → is_marked t.restless a ≡ is_restless t a
+  pub near : AreNear t
   pub stars : StarsFit b t.stars
 
 -- over any truths of the conditions, and any phases
@@ -41,6 +52,10 @@ module _ (b : Book) (conditions : ℕ → Signal) (phases : ℕ → ℕ) where
     pub starred_by : (a : ℕ) → a < length b.alerts → starred_by b conditions phases a k ≡ previously (starred_by b conditions phases a) k
     pub up : (a : ℕ) → a < length b.alerts → up b conditions phases a k ≡ previous (up b conditions phases a) k
 
+  -- in moment k the starred alerts are those of the moment before; before moment 0 none is starred
+  pub record StarsStay (k : ℕ) : Type 0 where
+    pub starred : (a : ℕ) → a < length b.alerts → starred b conditions phases a k ≡ previous (starred b conditions phases a) k
+
   -- alert a has been stepped by k moments
   pub record IsStepped (k a : ℕ) (t : Truths) : Type 0 where
     pub since : get_or t.since.items a None ≡ running_since (conditions a) k
@@ -58,6 +73,7 @@ module _ (b : Book) (conditions : ℕ → Signal) (phases : ℕ → ℕ) where
     pub stars : StarsStand b (active b conditions phases) k t.stars
     pub changing : (t.changing ≡ false) ↔ ((a : ℕ) → a < i → IsStill k a)
     pub changed : (j : ℕ) → k ≡ suc j → (t.changed ≡ false) ↔ Unchanged j
+    pub stars_turned : (j : ℕ) → k ≡ suc j → (t.stars.turned ≡ false) ↔ StarsStay j
 
   -- the truths stand for k moments
   pub record TruthsStand (k : ℕ) (t : Truths) : Type 0 where
@@ -67,3 +83,4 @@ module _ (b : Book) (conditions : ℕ → Signal) (phases : ℕ → ℕ) where
     pub stars : StarsStand b (active b conditions phases) k t.stars
     pub changing : t.changing ≡ false
     pub changed : (j : ℕ) → k ≡ suc j → (t.changed ≡ false) ↔ Unchanged j
+    pub stars_turned : (j : ℕ) → k ≡ suc j → (t.stars.turned ≡ false) ↔ StarsStay j

@@ -1,10 +1,10 @@
 // The truths of all alerts.
-ghost use Rattle.std.specs.Prelude.{◌≡◌, ◌↔◌, ℕ, suc, ◌+◌, ◌<◌, ◌≤◌, ◌==◌, false, length, set, get_or, slice_index_or, is_none, Option, None, IfOk, if◌then◌else◌};
+ghost use Rattle.std.specs.Prelude.{◌≡◌, ◌↔◌, ℕ, suc, ◌+◌, ◌<◌, ◌≤◌, ◌==◌, ◌||◌, ◌&&◌, false, length, set, get_or, slice_index_or, is_none, Option, None, IfOk, if◌then◌else◌};
 ghost use Rattle.ecam_spec.specs.Past.{Signal, previously};
 ghost use Rattle.ecam_spec.specs.Book as plain;
 ghost use Rattle.book_model.specs.Sealed.{the_book};
 ghost use Rattle.alert_truth.specs.Alerts.{Tells, present, active, waiting, starred, starred_by, up};
-ghost use Rattle.alert_truth.specs.TruthsState.{TruthsFit, TruthsStand, HalfStand, Unchanged, CanGoOn};
+ghost use Rattle.alert_truth.specs.TruthsState.{TruthsFit, TruthsStand, HalfStand, Unchanged, StarsStay, CanGoOn};
 ghost use Rattle.alert_truth.specs.Noting.{HasAlert, Notes};
 ghost use Rattle.wakes.specs.Marks.{is_marked, room};
 
@@ -29,6 +29,8 @@ pub struct Truths {
     waiting: Vec<bool>,
     // The alerts whose condition held in the moment before, and which aren't active.
     restless: Marked,
+    // At least the alerts of which something is told.
+    near: Marked,
     stars: Stars,
     // Some alert has become another in the moment that hasn't ended.
     changing: bool,
@@ -44,6 +46,7 @@ impl Truths {
             → TruthsStand (the_book book.now) conditions phases 0 t) }
         ensures moments { IfOk result (λ t. t.moments ≡ 0) }
         ensures changed { IfOk result (λ t. t.changed ≡ false) }
+        ensures stars_turned { IfOk result (λ t. t.stars.turned ≡ false) }
     {
         let alerts = book.alerts().len();
         Ok(Truths {
@@ -53,6 +56,7 @@ impl Truths {
             active: vec![in alloc; false; alerts]?,
             waiting: vec![in alloc; false; alerts]?,
             restless: Marked::new(alloc, alerts)?,
+            near: Marked::new(alloc, alerts)?,
             stars: Stars::new(alloc, alerts)?,
             changing: false,
             changed: false,
@@ -67,6 +71,7 @@ impl Truths {
             → TruthsStand b conditions phases 0 self.new }
         ensures moments { self.new.moments ≡ 0 }
         ensures changed { self.new.changed ≡ false }
+        ensures stars_turned { self.new.stars.turned ≡ false }
     {
         self.moments = 0;
         self.since.fill(None);
@@ -74,6 +79,7 @@ impl Truths {
         self.active.fill(false);
         self.waiting.fill(false);
         self.restless.clear();
+        self.near.clear();
         self.stars.clear();
         self.changing = false;
         self.changed = false;
@@ -89,6 +95,7 @@ impl Truths {
             → TruthsStand b conditions phases k self.new }
         ensures moments { self.new.moments ≡ other.now.moments }
         ensures changed { self.new.changed ≡ other.now.changed }
+        ensures stars_turned { self.new.stars.turned ≡ other.now.stars.turned }
     {
         self.moments = other.moments;
         self.since.copy_from_slice(&other.since);
@@ -96,6 +103,7 @@ impl Truths {
         self.active.copy_from_slice(&other.active);
         self.waiting.copy_from_slice(&other.waiting);
         self.restless.copy_from(&other.restless);
+        self.near.copy_from(&other.near);
         self.stars.copy_from(&other.stars);
         self.changing = other.changing;
         self.changed = other.changed;
@@ -103,7 +111,7 @@ impl Truths {
 
     /// Steps one alert by the moment that hasn't ended, where the truth of its condition and the flight phase in
     /// that moment are these, and answers whether it is active. Its cost is one look at the alert, which is a short one
-    /// where it stays away or stays active, and a write for each of its truths that changes.
+    /// where it stays away or stays active, and else two marks and a write for each of its truths that changes.
     pub fn step_one(&mut self, book: &Book, alert: usize, cond: bool, phase: Phase) -> bool
         requires fits { TruthsFit (the_book book.now) self.old }
         requires alert { alert < length book.now.alerts.items }
@@ -146,7 +154,7 @@ impl Truths {
         }
     }
 
-    // Notes what one alert has become. What is as it was isn't written.
+    // Notes what one alert has become. A flag or a moment that is as it was isn't written.
     fn note(&mut self, alert: usize, since: Option<u64>, present: bool, active: bool)
         requires { HasAlert alert self.old }
         ensures { Notes alert since present active self.old self.new }
@@ -158,12 +166,14 @@ impl Truths {
         put_flag(&mut self.active, alert, active);
         put_flag(&mut self.waiting, alert, present && !active);
         put_mark(&mut self.restless, alert, since.is_some() && !active);
+        mark_if(&mut self.near, alert, present || active);
         self.changing |= (present != was_present) | (active != was_active);
     }
 
     /// Ends the moment, in which each alert was stepped: settles which alerts are starred and which are up. Its cost
     /// doesn't grow with the book where each alert is as present and as active as before, since the stars are then as
-    /// before too. Else it is one look at each alert, and one at each secondary of the active ones.
+    /// before too. Else it is one look for each 64 alerts, and a few looks and writes at each that is near and at each
+    /// secondary of the active ones.
     pub fn settle(&mut self, book: &Book)
         requires fits { TruthsFit (the_book book.now) self.old }
         requires goes_on { CanGoOn self.old }
@@ -178,15 +188,23 @@ impl Truths {
         ensures changing { self.new.changing ≡ false }
     {
         if self.changing {
-            self.stars.settle(&self.active, book);
+            self.stars.settle(
+                &self.active,
+                &self.present,
+                &self.waiting,
+                &mut self.near,
+                book,
+            );
+        } else {
+            self.stars.turned = false;
         }
         self.changed = self.changing;
         self.changing = false;
         self.moments += 1;
     }
 
-    /// Ends the moment like `settle`, where no alert has become another in it, nor had in the moment before. Its cost is one
-    /// write.
+    /// Ends the moment like `settle`, where no alert has become another in it, nor had in the moment before. Its cost is
+    /// two writes.
     pub fn pass(&mut self, book: &Book)
         requires fits { TruthsFit (the_book book.now) self.old }
         requires goes_on { CanGoOn self.old }
@@ -203,6 +221,7 @@ impl Truths {
         ensures changing { self.new.changing ≡ false }
     {
         let _ = book;
+        self.stars.turned = false;
         self.moments += 1;
     }
 }
@@ -282,8 +301,27 @@ impl Truths {
         &self.restless
     }
 
-    /// Whether anything that the calls above tell changed in the last moment, for some alert: it is `false` exactly
-    /// where each of them tells what it told a moment earlier. Before the first moment nothing has changed.
+    /// Alerts that hold all of which something is told: those that are present, active, waiting, starred or up are among
+    /// them, and others may be.
+    pub fn near(&self) -> &Marked
+        ensures { result.now ≡ self.now.near }
+    {
+        &self.near
+    }
+
+    /// Whether some alert is starred in the last moment that wasn't a moment earlier, or was and isn't. Before the first
+    /// moment none is.
+    pub fn stars_turned(&self) -> bool
+        ensures value { result ≡ self.now.stars.turned }
+        ensures tells { (b : plain.Book) (conditions : ℕ → Signal) (phases : ℕ → ℕ) (k : ℕ)
+            → TruthsStand b conditions phases (suc k) self.now
+            → (result ≡ false) ↔ StarsStay b conditions phases k }
+    {
+        self.stars.turned
+    }
+
+    /// Whether `present`, `active`, `waiting`, `up`, `starred` or `starred_by` tells of some alert another thing than a
+    /// moment earlier: it is `false` exactly where none does. Before the first moment nothing has changed.
     pub fn changed(&self) -> bool
         ensures value { result ≡ self.now.changed }
         ensures tells { (b : plain.Book) (conditions : ℕ → Signal) (phases : ℕ → ℕ) (k : ℕ)
@@ -315,6 +353,18 @@ fn put_mark(marks: &mut Marked, place: usize, on: bool)
         marks.mark(place);
     } else {
         marks.unmark(place);
+    }
+}
+
+// Puts a number in, where it is to be.
+fn mark_if(marks: &mut Marked, place: usize, on: bool)
+    requires { place < room marks.old }
+    ensures room { room marks.new ≡ room marks.old }
+    ensures marks { (j : ℕ) → is_marked marks.new j
+        ≡ ((j == place && on) || is_marked marks.old j) }
+{
+    if on {
+        marks.mark(place);
     }
 }
 

@@ -1,5 +1,5 @@
 -- A moment in which nothing comes leaves what is kept of each alert, and what they call for.
-use Rattle.std.proofs.Common.{◌≡◌, ℕ, zero, suc, Bool, true, false, not, ◌&&◌, ◌||◌, Some, cond, refl, sym, ◌∙◌, ap}
+use Rattle.std.proofs.Common.{◌≡◌, ℕ, zero, suc, Bool, true, false, not, ◌&&◌, ◌||◌, Some, cond, refl, sym, ◌∙◌, ap, length}
 use Rattle.std.specs.Prelude.{option_map}
 use Rattle.ecam_spec.specs.Past.{previous, rise}
 use Rattle.ecam_spec.specs.Alert.{onset}
@@ -9,7 +9,9 @@ use Rattle.ecam_spec.specs.declared.kinds.Level.TheVariants.{One, Two, Three}
 use Rattle.ecam_spec.specs.Lamps as lamps
 use Rattle.ecam_spec.proofs.LampLaws.{last_onset-suc, open_now}
 use Rattle.attention.specs.declared.calls.Calls.{Calls}
+use Rattle.attention.specs.declared.moment.Presses.{Presses}
 use Rattle.attention.specs.Watches.{watch_after}
+use Rattle.attention.specs.Moments.{ArePresses, AreUpMarked}
 use Rattle.attention.specs.Calling.{AreCalls, chimes_in}
 use Rattle.ecam_spec.specs.Book.{Book}
 use Rattle.attention.specs.declared.state.Attention.{Attention}
@@ -59,9 +61,28 @@ module _ (a : lamps.Attention) (k : ℕ) (nothing : NothingComes a k) where
         chime = λ j. are.chime j ∙ any-agree (chimes_in a k j) (chimes_in a (suc k) j) (λ i. rw (same-calls i, same-onset i) refl) (a.shown k);
       })
 
+none-of : (x y z : Bool) → (x || (y || z)) ≡ false → (x ≡ false) × (y ≡ false) × (z ≡ false)
+none-of false false false h = (refl, refl, refl)
+none-of true y z h = cc
+none-of false true z h = cc
+none-of false false true h = cc
+
+-- none of the keys that acknowledge is pressed
+pub none-pressed-of : (a : lamps.Attention) (k : ℕ) (p : Presses) (any : Bool) → ArePresses a k p → any ≡ (p.mw || (p.mc || p.emer)) → any ≡ false → (a.mw k ≡ false) × (a.mc k ≡ false) × (a.emer k ≡ false)
+none-pressed-of a k p any are is off =
+    let each = none-of p.mw p.mc p.emer (sym is ∙ off) in
+    (sym are.mw ∙ each.0, sym are.mc ∙ each.1, sym are.emer ∙ each.2)
+
 -- a moment in which each alert is up and shown as before, and no press acknowledges
 pub still-rests : (b : Book) (a : lamps.Attention) (k : ℕ) (old new : Attention) → (old.moments ≡ 0 → ⊥) → AreStill a k → a.mw k ≡ false → a.mc k ≡ false → a.emer k ≡ false
     → ((j : ℕ) → NothingComes a j → AttentionStands b a (suc j) old → AttentionStands b a (suc (suc j)) new) → AttentionStands b a k old → AttentionStands b a (suc k) new
 still-rests b a zero old new begun still mw mc emer rest stands = absurd (begun stands.moments)
 still-rests b a (suc j) old new begun still mw mc emer rest stands =
     rest j (record { up = still.up j refl; shown = still.shown j refl; mw = mw; mc = mc; emer = emer }) stands
+
+-- in such a moment each that is up was up, and so is busy
+pub still-up : (b : Book) (a : lamps.Attention) (k : ℕ) (old : Attention) → (old.moments ≡ 0 → ⊥) → AreStill a k → AttentionStands b a k old → AreUpMarked a k (length b.alerts) old.busy
+unfolding previous
+still-up b a zero old begun still stands = absurd (begun stands.moments)
+still-up b a (suc j) old begun still stands = λ i h is.
+    stands.fits.busy i (watch_after a i (suc j)) (stands.watches i h) (sym (still.up j refl i) ∙ is)

@@ -1,5 +1,5 @@
 -- How what is kept comes to stand for no moment, and for one moment more.
-use Rattle.std.proofs.Common.{◌≡◌, ℕ, suc, ◌+◌, false, List, length, replicate, slice_get, Some, Global, sym, ◌∙◌, ap, subst, arith, add-one}
+use Rattle.std.proofs.Common.{◌≡◌, ℕ, zero, suc, ◌+◌, ◌*◌, ◌/◌, Bool, true, false, List, length, replicate, slice_get, Some, Global, sym, ◌∙◌, ap, subst, arith, add-one}
 use Rattle.std.specs.Prelude.{◌↔◌}
 use Rattle.std.specs.Box.{boxed_slice_items, boxed_slice_with_items}
 use Rattle.std.specs.declared.boxed.BoxedSlice.{BoxedSlice}
@@ -7,9 +7,10 @@ use Rattle.std.proofs.lemmas.List.{with_items_is, length-replicate, get_or-repli
 use Rattle.std.proofs.lemmas.Option.{slice_get-get_or}
 use Rattle.ecam_spec.specs.Book.{Book}
 use Rattle.ecam_spec.specs.Lamps as lamps
+use Rattle.wakes.specs.Marks.{is_marked, room}
 use Rattle.attention.specs.declared.watch.Watch.{Watch}
 use Rattle.attention.specs.declared.state.Attention.{Attention}
-use Rattle.attention.specs.Watches.{watch_after, AreWatched}
+use Rattle.attention.specs.Watches.{watch_after, was_up, has_open, AreKept, AreMarked, AreWatched}
 use Rattle.attention.specs.Calling.{no_calls, AreCalls}
 use Rattle.attention.specs.State.{AttentionFits, AttentionStands, TellsChange, lights_after}
 use Rattle.attention.proofs.Heard.{change-told}
@@ -18,13 +19,56 @@ use Rattle.attention.proofs.Heard.{change-told}
 pub boxed-is : (x : BoxedSlice Watch Global) (ws : List Watch) → length ws ≡ length (boxed_slice_items x) → boxed_slice_items (boxed_slice_with_items x ws) ≡ ws
 boxed-is x ws long = with_items_is x.items ws (long ∙ sym x.items.ok.0)
 
+repeated : (n i : ℕ) (w x : Watch) → slice_get (replicate n w) i ≡ Some x → w ≡ x
+repeated zero i w x read = cc
+repeated (suc n) zero w x read = cc
+repeated (suc n) (suc i) w x read = repeated n i w x read
+
+-- where the same is kept of each alert, which wasn't up and has no open onset
+module _ (m n : ℕ) (w : Watch) (kept : List Watch) (all : kept ≡ replicate n w) where
+  none-passes : (test : Watch → Bool) (marks : List ℕ) → test w ≡ false → AreMarked test kept marks
+  none-passes test marks off i x read is =
+      let one : w ≡ x = repeated n i w x (sym (ap (λ ws. slice_get ws i) all) ∙ read) in
+      absurd (let clash : test x ≡ false = sym (ap test one) ∙ off in cc)
+
+  pub kept-first : (busy opens : List ℕ) → n ≡ m → room busy ≡ 64 * (m / 64 + 1) → room opens ≡ 64 * (m / 64 + 1)
+      → was_up w ≡ false → has_open w ≡ false → AreKept m kept busy opens
+  kept-first busy opens many size other down shut = record {
+    watches = ap length all ∙ length-replicate n w ∙ many;
+    busy_room = size;
+    open_room = other;
+    busy = none-passes was_up busy down;
+    still_open = none-passes has_open opens shut;
+  }
+
+-- with more busy ones
+pub kept-marked : (n : ℕ) (kept : List Watch) (busy more opens : List ℕ) → room more ≡ room busy
+    → ((i : ℕ) → is_marked busy i ≡ true → is_marked more i ≡ true) → AreKept n kept busy opens → AreKept n kept more opens
+kept-marked n kept busy more opens size over fits = record {
+  watches = fits.watches;
+  busy_room = size ∙ fits.busy_room;
+  open_room = fits.open_room;
+  busy = λ i w read is. over i (fits.busy i w read is);
+  still_open = fits.still_open;
+}
+
 module _ (b : Book) (a : lamps.Attention) where
+  pub stands-marked : (k : ℕ) (old t : Attention) → AttentionFits b t → t.moments ≡ old.moments → t.watches ≡ old.watches → t.calls ≡ old.calls → t.changed ≡ old.changed → AttentionStands b a k old → AttentionStands b a k t
+  stands-marked k old t fits moments watches calls changed stands = record {
+    fits = fits;
+    moments = moments ∙ stands.moments;
+    watches = λ i h. ap (λ ws. slice_get (boxed_slice_items ws) i) watches ∙ stands.watches i h;
+    before = λ e. calls ∙ stands.before e;
+    calls = λ j e. rw calls (stands.calls j e);
+    changed = λ j e. rw changed (stands.changed j e);
+  }
+
   -- before the first moment
-  pub stands-first : (t : Attention) (n : ℕ) (w : Watch) → t.moments ≡ 0 → t.calls ≡ no_calls
+  pub stands-first : (t : Attention) (n : ℕ) (w : Watch) → AttentionFits b t → t.moments ≡ 0 → t.calls ≡ no_calls
       → n ≡ length b.alerts → boxed_slice_items t.watches ≡ replicate n w → ((i : ℕ) → w ≡ watch_after a i 0)
       → AttentionStands b a 0 t
-  stands-first t n w moments calls many watches kept = record {
-    fits = ap length watches ∙ length-replicate n w ∙ many;
+  stands-first t n w fits moments calls many watches kept = record {
+    fits = fits;
     moments = moments;
     watches = λ i h.
         ap (λ ws. slice_get ws i) watches

@@ -1,15 +1,17 @@
 -- A walk over the alerts, on its way: some have been stepped to the new moment, and the others haven't.
-use Rattle.std.proofs.Common.{◌≡◌, ◌≢◌, ℕ, zero, suc, ◌+◌, ◌-◌, ◌<◌, ◌≤◌, Bool, true, false, List, [], ◌∷◌, ◌++◌, length, get_or, set, cond, add-one, slice_get, Some, inl, inr, refl, sym, ◌∙◌, ap, subst, arith}
+use Rattle.std.proofs.Common.{◌≡◌, ◌≢◌, ℕ, zero, suc, ◌+◌, ◌-◌, ◌<◌, ◌≤◌, Bool, true, false, not, ◌&&◌, ◌||◌, ◌==◌, List, [], ◌∷◌, ◌++◌, length, get_or, set, cond, add-one, slice_get, Some, inl, inr, refl, sym, ◌∙◌, ap, arith, subst}
 use Rattle.std.specs.Prelude.{filter}
 use Rattle.std.proofs.lemmas.List.{append-nil, length-set, get_or-set_same, set-get_or}
 use Rattle.std.proofs.lemmas.List.Elements.{filter-append}
 use Rattle.std.proofs.lemmas.Option.{slice_get-get_or, get_or_from_slice_get}
-use Rattle.std.proofs.lemmas.Bool.{cases_lt}
+use Rattle.std.proofs.lemmas.Bool.{cases_lt, cases_eq, ne_eqb}
+use Rattle.std.proofs.Math.Bool.{and-true, or-true}
 use Rattle.ecam_spec.specs.Places.{below}
 use Rattle.ecam_spec.specs.Lamps as lamps
+use Rattle.wakes.specs.Marks.{is_marked, room}
 use Rattle.attention.specs.declared.calls.Calls.{Calls}
 use Rattle.attention.specs.declared.watch.Watch.{Watch}
-use Rattle.attention.specs.Watches.{watch_after, AreWatched}
+use Rattle.attention.specs.Watches.{watch_after, AreWatched, AreMarked, was_up}
 use Rattle.attention.specs.Calling.{no_calls, AreCalls}
 use Rattle.attention.proofs.CallLaws.{calls-same}
 
@@ -18,6 +20,12 @@ pub record HalfWalked (a : lamps.Attention) (k n i : ℕ) (shown : ℕ → Bool)
   pub stepped : (j : ℕ) → j < i → slice_get watches j ≡ Some (watch_after a j (suc k))
   pub left : (j : ℕ) → i ≤ j → j < n → slice_get watches j ≡ Some (watch_after a j k)
   pub calls : AreCalls a k (filter shown (below i)) c
+
+-- those that were up are marked, and from i on the same as at first
+pub record HalfSifted (i : ℕ) (watches : List Watch) (first marks : List ℕ) : Type 0 where
+  pub room : room marks ≡ room first
+  pub busy : AreMarked was_up watches marks
+  pub left : (j : ℕ) → i ≤ j → is_marked marks j ≡ is_marked first j
 
 get-same : (xs : List Watch) (i : ℕ) (w : Watch) → i < length xs → slice_get (set xs i w) i ≡ Some w
 get-same xs i w within =
@@ -29,6 +37,49 @@ get-other (x ∷ xs) zero zero w apart = absurd (apart refl)
 get-other (x ∷ xs) zero (suc j) w apart = refl
 get-other (x ∷ xs) (suc i) zero w apart = refl
 get-other (x ∷ xs) (suc i) (suc j) w apart = get-other xs i j w (λ e. apart (ap suc e))
+
+-- something is kept of one more, and it is marked where the test asks for it
+pub marked-more : (test : Watch → Bool) (watches news : List Watch) (marks next : List ℕ) (i : ℕ) (w : Watch)
+    → i < length watches → news ≡ set watches i w → ((j : ℕ) → j ≢ i → is_marked next j ≡ is_marked marks j)
+    → (test w ≡ true → is_marked next i ≡ true) → AreMarked test watches marks → AreMarked test news next
+marked-more test watches news marks next i w within written others own before j x read is = elim (cases_eq j i) [
+  | inl e ↦
+      let kept : Some x ≡ Some w =
+      sym read ∙ ap (slice_get news) e ∙ ap (λ ws. slice_get ws i) written ∙ get-same watches i w within in
+      let one : x ≡ w = cc in
+      ap (is_marked next) e ∙ own (sym (ap test one) ∙ is)
+  | inr apart ↦
+      others j apart ∙ before j x (sym (get-other watches i j w apart) ∙ sym (ap (λ ws. slice_get ws j) written) ∙ read) is
+]
+
+module _ (watches : List Watch) (first busy : List ℕ) where
+  pub sift-start : AreMarked was_up watches busy → HalfSifted 0 watches busy busy
+  sift-start marked = record { room = refl; busy = marked; left = λ j low. refl }
+
+  pub sift-on : (i j : ℕ) → i ≤ j → HalfSifted i watches first busy → HalfSifted j watches first busy
+  sift-on i j order half = record { room = half.room; busy = half.busy; left = λ m low. half.left m (omega arith) }
+
+  -- something is kept of one more, and it is taken out where it isn't up
+  module _ (i : ℕ) (w : Watch) (news : List Watch) (next : List ℕ) (within : i < length watches) (written : news ≡ set watches i w)
+      (here : is_marked busy i ≡ true) (same : room next ≡ room busy)
+      (marks : (j : ℕ) → is_marked next j ≡ (is_marked busy j && (was_up w || not (j == i))))
+      (half : HalfSifted i watches first busy) where
+    others : (j : ℕ) → j ≢ i → is_marked next j ≡ is_marked busy j
+    others j apart =
+        marks j
+        ∙ ap (λ b. is_marked busy j && (was_up w || not b)) (ne_eqb j i apart)
+        ∙ ap (λ b. is_marked busy j && b) (or-true (was_up w))
+        ∙ and-true (is_marked busy j)
+
+    own : was_up w ≡ true → is_marked next i ≡ true
+    own is = marks i ∙ ap (λ b. is_marked busy i && (b || not (i == i))) is ∙ and-true (is_marked busy i) ∙ here
+
+    pub sift-more : HalfSifted (i + 1) news first next
+    sift-more = record {
+      room = same ∙ half.room;
+      busy = marked-more was_up watches news busy next i w within written others own half.busy;
+      left = λ j low. others j (λ e. absurd (let x : ⊥ = omega arith in x)) ∙ half.left j (omega arith);
+    }
 
 module _ (a : lamps.Attention) (k n : ℕ) (shown : ℕ → Bool) where
   pub half-start : (watches : List Watch) → AreWatched a k n watches → HalfWalked a k n 0 shown watches no_calls

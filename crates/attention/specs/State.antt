@@ -11,12 +11,12 @@ use Rattle.ecam_kinds.specs.declared.keys.Keys.{Keys}
 use Rattle.ecam_kinds.specs.KeyState.{is_pressed}
 use Rattle.attention.specs.declared.state.Lights.{Lights}
 use Rattle.attention.specs.declared.state.Attention.{Attention}
-use Rattle.attention.specs.Watches.{AreWatched}
+use Rattle.attention.specs.Watches.{AreWatched, AreKept}
 use Rattle.attention.specs.Calling.{no_calls, AreCalls, sounding}
 
--- it was made for the book: something is kept of each alert
+-- it was made for the book: something is kept of each alert, and those that were up and those with an open onset are marked
 abbrev pub AttentionFits : Book → Attention → Type 0
-AttentionFits b t = length (boxed_slice_items t.watches) ≡ length b.alerts
+AttentionFits b t = AreKept (length b.alerts) (boxed_slice_items t.watches) t.busy t.still_open
 
 -- the number of the moment can grow: there are 2 ^ 63 moments of 100 ms in 29 thousand million years
 abbrev pub CanGoOn : Attention → Type 0

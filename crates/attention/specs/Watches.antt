@@ -1,7 +1,8 @@
 -- What is kept of an alert, by its signals.
-use Rattle.std.specs.Prelude.{◌≡◌, ℕ, zero, suc, ◌<◌, List, slice_get, Bool, true, false, Option, Some, None}
+use Rattle.std.specs.Prelude.{◌≡◌, ℕ, zero, suc, ◌+◌, ◌*◌, ◌/◌, ◌<◌, List, length, slice_get, Bool, true, false, Option, Some, None}
 use Rattle.ecam_spec.specs.Past.{previous}
 use Rattle.ecam_spec.specs.Lamps as lamps
+use Rattle.wakes.specs.Marks.{is_marked, room}
 use Rattle.attention.specs.declared.watch.Onset.{Onset}
 use Rattle.attention.specs.declared.watch.Onset.TheVariants.{Never, Open, Acknowledged}
 use Rattle.attention.specs.declared.watch.Watch.{Watch}
@@ -30,3 +31,29 @@ watch_after a i k = record { up = previous (a.up i) k; onset = onset_after a i k
 -- this is kept of the first n alerts after k moments
 abbrev pub AreWatched : lamps.Attention → ℕ → ℕ → List Watch → Type 0
 AreWatched a k n watches = (i : ℕ) → i < n → slice_get watches i ≡ Some (watch_after a i k)
+
+-- it came up, and no press has acknowledged it
+abbrev pub is_open : Onset → Bool
+is_open Never = false
+is_open (Open j) = true
+is_open Acknowledged = false
+
+-- it was up in the last moment
+abbrev pub was_up : Watch → Bool
+was_up w = w.up
+
+-- its onset is open
+abbrev pub has_open : Watch → Bool
+has_open w = is_open w.onset
+
+-- each alert of which such a watch is kept is marked
+abbrev pub AreMarked : (Watch → Bool) → List Watch → List ℕ → Type 0
+AreMarked test kept marks = (i : ℕ) (w : Watch) → slice_get kept i ≡ Some w → test w ≡ true → is_marked marks i ≡ true
+
+-- something is kept of each of n alerts, those that were up are busy, and those whose onset is open are marked as such
+pub record AreKept (n : ℕ) (kept : List Watch) (busies opens : List ℕ) : Type 0 where
+  pub watches : length kept ≡ n
+  pub busy_room : room busies ≡ 64 * (n / 64 + 1)
+  pub open_room : room opens ≡ 64 * (n / 64 + 1)
+  pub busy : AreMarked was_up kept busies
+  pub still_open : AreMarked has_open kept opens

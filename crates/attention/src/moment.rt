@@ -1,9 +1,9 @@
 // What a moment brings.
-ghost use Rattle.std.specs.Prelude.{◌≡◌, ℕ, ◌||◌};
+ghost use Rattle.std.specs.Prelude.{◌≡◌, ℕ};
 ghost use Rattle.ecam_spec.specs.Lamps as lamps;
 ghost use Rattle.ecam_spec.specs.declared.kinds.Key.TheVariants.{Mw, Mc, Emer};
 ghost use Rattle.ecam_kinds.specs.KeyState.{is_pressed};
-ghost use Rattle.attention.specs.Moments.{ArePresses};
+ghost use Rattle.attention.specs.Moments.{ArePresses, any_pressed};
 
 use ecam_kinds::{Key, Keys, Level};
 
@@ -34,7 +34,7 @@ impl Presses {
 
     /// One of them is pressed.
     pub fn any(self) -> bool
-        ensures { result ≡ (self.mw || (self.mc || self.emer)) }
+        ensures { result ≡ any_pressed self }
     {
         self.mw || self.mc || self.emer
     }

@@ -1,18 +1,21 @@
 // The lights and the sound.
-ghost use Rattle.std.specs.Prelude.{◌≡◌, ◌↔◌, ℕ, suc, ◌+◌, length, IfOk, false, true};
+ghost use Rattle.std.specs.Prelude.{◌≡◌, ◌↔◌, ℕ, suc, ◌+◌, ◌*◌, ◌/◌, length, get_or, IfOk, false, true};
 ghost use Rattle.ecam_spec.specs.Book as plain;
 ghost use Rattle.ecam_spec.specs.Lamps as lamps;
 ghost use Rattle.book_model.specs.Sealed.{the_book};
+ghost use Rattle.wakes.specs.Marks.{is_marked, room};
+ghost use Rattle.attention.specs.Moments.{AreUpMarked};
 ghost use Rattle.attention.specs.State.{AttentionFits, CanGoOn, AreOfBook, Brings, AreStill, NothingComes, AttentionStands, IsSteady, lights_after, lights_of, TellsChange};
 
 use crate::calls::Calls;
 use crate::moment::{Moment, Presses};
-use crate::walk::walk;
+use crate::walk::{join_open, mark_up, walk};
 use crate::watch::Watch;
 use book_model::Book;
 use ecam_kinds::{Keys, Sound};
 use std::alloc::{AllocError, Global};
 use std::boxed::BoxedSlice;
+use wakes::Marked;
 
 /// What MASTER WARN, MASTER CAUT and the aural warning are after the moments so far, and what these leave for the
 /// next. Memory is taken in `new` alone, and nothing grows with the history.
@@ -22,6 +25,10 @@ pub struct Attention {
     moments: u64,
     // Per alert, by its place in the book.
     watches: BoxedSlice<Watch>,
+    // At least the alerts that were up in the last moment.
+    busy: Marked,
+    // At least the alerts whose onset is open.
+    still_open: Marked,
     // What the last moment called for.
     calls: Calls,
     changed: bool,
@@ -44,11 +51,16 @@ impl Attention {
             → AttentionStands (the_book book.now) a 0 t) }
         ensures changed { IfOk result (λ t. t.changed ≡ false) }
     {
+        let alerts = book.alerts().len();
         let mut watches = Vec::new(alloc);
-        watches.resize(book.alerts().len(), Watch::new())?;
+        watches.resize(alerts, Watch::new())?;
+        let busy = Marked::new(alloc, alerts)?;
+        let still_open = Marked::new(alloc, alerts)?;
         Ok(Attention {
             moments: 0,
             watches: watches.into_boxed_slice(),
+            busy,
+            still_open,
             calls: Calls::none(),
             changed: false,
         })
@@ -64,6 +76,8 @@ impl Attention {
     {
         self.moments = 0;
         self.watches.as_mut_slice().fill(Watch::new());
+        self.busy.clear();
+        self.still_open.clear();
         self.calls = Calls::none();
         self.changed = false;
     }
@@ -82,13 +96,15 @@ impl Attention {
         self.watches
             .as_mut_slice()
             .copy_from_slice(other.watches.as_slice());
+        self.busy.copy_from(&other.busy);
+        self.still_open.copy_from(&other.still_open);
         self.calls = other.calls;
         self.changed = other.changed;
     }
 
     /// Takes one moment more, of 100 ms: per alert whether it is up and whether it is shown, and the keys that are
-    /// pressed in it. Its cost is one look at each alert, a few more at those that are up or were in the last moment, and at
-    /// all where a press acknowledges, and a write for each of which something else is kept then.
+    /// pressed in it. Its cost is one look at each alert, and a few looks and writes more at those that are up or were in the
+    /// last moment, and at those whose onset is open where a key acknowledges.
     pub fn step(&mut self, book: &Book, up: &[bool], shown: &[bool], keys: &Keys)
         requires fits { AttentionFits (the_book book.now) self.old }
         requires goes_on { CanGoOn self.old }
@@ -102,13 +118,66 @@ impl Attention {
             → AttentionStands (the_book book.now) a k self.old
             → AttentionStands (the_book book.now) a (suc k) self.new }
     {
+        mark_up(&mut self.busy, up);
+        self.step_busy(book, up, shown, keys);
+    }
+
+    /// Takes one moment more like `step`, where each alert that is up is near. Its cost is a look and a write for each 64
+    /// alerts, and a few looks and writes at each that is near or was up in the last moment, and at those whose onset is open
+    /// where a key acknowledges.
+    pub fn step_among(
+        &mut self,
+        book: &Book,
+        up: &[bool],
+        shown: &[bool],
+        near: &Marked,
+        keys: &Keys,
+    )
+        requires fits { AttentionFits (the_book book.now) self.old }
+        requires goes_on { CanGoOn self.old }
+        requires up { length up.now ≡ length book.now.alerts.items }
+        requires shown { length shown.now ≡ length book.now.alerts.items }
+        requires near_room { room near.now ≡ 64 * (length book.now.alerts.items / 64 + 1) }
+        requires near { (i : ℕ) → get_or up.now i false ≡ true → is_marked near.now i ≡ true }
+        ensures fits { AttentionFits (the_book book.now) self.new }
+        ensures moments { self.new.moments ≡ self.old.moments + 1 }
+        ensures stands { (a : lamps.Attention) (k : ℕ) → AreOfBook (the_book book.now) a
+            → Brings (the_book book.now) a k up.now shown.now keys.now
+            → AttentionStands (the_book book.now) a k self.old
+            → AttentionStands (the_book book.now) a (suc k) self.new }
+    {
+        self.busy.join(near);
+        self.step_busy(book, up, shown, keys);
+    }
+
+    // Takes one moment more like `step`, where each alert that is up is among the busy ones.
+    fn step_busy(&mut self, book: &Book, up: &[bool], shown: &[bool], keys: &Keys)
+        requires fits { AttentionFits (the_book book.now) self.old }
+        requires goes_on { CanGoOn self.old }
+        requires up { length up.now ≡ length book.now.alerts.items }
+        requires shown { length shown.now ≡ length book.now.alerts.items }
+        ensures fits { AttentionFits (the_book book.now) self.new }
+        ensures moments { self.new.moments ≡ self.old.moments + 1 }
+        ensures stands { (a : lamps.Attention) (k : ℕ) → AreOfBook (the_book book.now) a
+            → Brings (the_book book.now) a k up.now shown.now keys.now
+            → AreUpMarked a k (length (the_book book.now).alerts) self.old.busy
+            → AttentionStands (the_book book.now) a k self.old
+            → AttentionStands (the_book book.now) a (suc k) self.new }
+    {
         let moment = Moment {
             number: self.moments,
             up,
             shown,
             presses: Presses::among(keys),
         };
-        let calls = walk(self.watches.as_mut_slice(), book.alerts(), &moment);
+        join_open(&mut self.busy, &self.still_open, moment.presses);
+        let calls = walk(
+            self.watches.as_mut_slice(),
+            &mut self.busy,
+            &mut self.still_open,
+            book.alerts(),
+            &moment,
+        );
         self.hear(calls);
     }
 
@@ -164,7 +233,8 @@ impl Attention {
     }
 
     /// Takes one moment more like `step`, where each alert is up and shown as in the moment before. It looks at no alert
-    /// unless a press acknowledges or the moment is the first.
+    /// unless the moment is the first, or a press acknowledges. Then its cost is a look and a write for each 64 alerts, and
+    /// a few looks and writes at each that is up or whose onset is open.
     pub fn step_still(&mut self, book: &Book, up: &[bool], shown: &[bool], keys: &Keys)
         requires fits { AttentionFits (the_book book.now) self.old }
         requires goes_on { CanGoOn self.old }
@@ -177,21 +247,16 @@ impl Attention {
             → AttentionStands (the_book book.now) a k self.old
             → AttentionStands (the_book book.now) a (suc k) self.new }
     {
-        if self.must_look(Presses::among(keys)) {
+        if self.moments == 0 {
             self.step(book, up, shown, keys);
             return;
         }
+        let presses = Presses::among(keys);
+        if presses.any() {
+            self.step_busy(book, up, shown, keys);
+            return;
+        }
         self.rest();
-    }
-
-    // Whether a moment with these presses takes a look at the alerts, even where each is up and shown as before.
-    fn must_look(&self, presses: Presses) -> bool
-        ensures first { self.now.moments ≡ 0 → result ≡ true }
-        ensures mw { result ≡ false → presses.mw ≡ false }
-        ensures mc { result ≡ false → presses.mc ≡ false }
-        ensures emer { result ≡ false → presses.emer ≡ false }
-    {
-        self.moments == 0 || presses.mw || presses.mc || presses.emer
     }
 
     // One moment more, with these calls.
@@ -200,6 +265,8 @@ impl Attention {
         ensures moments { self.new.moments ≡ self.old.moments + 1 }
         ensures calls { self.new.calls ≡ calls }
         ensures watches { self.new.watches ≡ self.old.watches }
+        ensures busy { self.new.busy ≡ self.old.busy }
+        ensures still_open { self.new.still_open ≡ self.old.still_open }
         ensures changed { TellsChange self.old self.new }
     {
         let before = self.lights();

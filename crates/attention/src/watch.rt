@@ -1,7 +1,7 @@
 // What is kept of one alert.
-ghost use Rattle.std.specs.Prelude.{◌≡◌, ℕ, suc, ◌&&◌, ◌||◌, not};
+ghost use Rattle.std.specs.Prelude.{◌≡◌, ℕ, suc, ◌&&◌, not, false};
 ghost use Rattle.ecam_spec.specs.Lamps as lamps;
-ghost use Rattle.attention.specs.Watches.{acknowledged, onset_after, watch_after};
+ghost use Rattle.attention.specs.Watches.{acknowledged, is_open, has_open, onset_after, watch_after};
 
 /// How the last onset of an alert stands.
 #[derive(Clone, Copy, PartialEq, Eq)]
@@ -25,6 +25,16 @@ impl Onset {
             Onset::Acknowledged => Onset::Acknowledged,
         }
     }
+
+    fn is_open(self) -> bool
+        ensures { result ≡ is_open self }
+    {
+        match self {
+            Onset::Never => false,
+            Onset::Open(_) => true,
+            Onset::Acknowledged => false,
+        }
+    }
 }
 
 /// What the moments so far leave of an alert for the next.
@@ -39,7 +49,9 @@ pub struct Watch {
 impl Watch {
     /// Before the first moment.
     pub fn new() -> Watch
-        ensures { (a : lamps.Attention) (i : ℕ) → result ≡ watch_after a i 0 }
+        ensures stands { (a : lamps.Attention) (i : ℕ) → result ≡ watch_after a i 0 }
+        ensures down { result.up ≡ false }
+        ensures shut { has_open result ≡ false }
     {
         Watch {
             up: false,
@@ -47,12 +59,11 @@ impl Watch {
         }
     }
 
-    /// Whether a moment can't change it: the alert isn't up in it, wasn't in the last, and no press in it acknowledges
-    /// any level.
-    pub fn is_idle(self, up: bool, pressing: bool) -> bool
-        ensures { result ≡ not (self.up || (up || pressing)) }
+    /// Its last onset is open, so that a press may acknowledge it.
+    pub fn has_open(self) -> bool
+        ensures { result ≡ has_open self }
     {
-        !(self.up | (up | pressing))
+        self.onset.is_open()
     }
 
     /// After one moment more: whether the alert is up in it, whether a press in it acknowledges its level, and

@@ -16,9 +16,9 @@ use Rattle.term_eval.specs.declared.code.Step.{Step}
 use Rattle.watch_lists.specs.declared.number.Sizes.{Sizes}
 use Rattle.watch_lists.specs.Naming.{operand_count, operand_number}
 use Rattle.watch_lists.proofs.Lines.{sizes-are}
-use Rattle.condition_codes.specs.declared.codes.Codes.{Codes}
+use Rattle.condition_codes.specs.declared.codes.CodeTable.{CodeTable}
 use Rattle.condition_codes.specs.declared.askers.Asker.{Asker}
-use Rattle.condition_codes.specs.declared.askers.Askers.{Askers}
+use Rattle.condition_codes.specs.declared.askers.AskerTable.{AskerTable}
 use Rattle.condition_codes.specs.Flat.{piece}
 use Rattle.condition_codes.specs.Chains.{wanted, Wants, AreAskers, AreNodes}
 use Rattle.condition_codes.specs.IsCodes.{IsCodes}
@@ -32,10 +32,10 @@ sizes-read d p a params alerts =
     sizes-are d p a params alerts ∙ sym (sizes-are d (length (the_book d).parameters) (length (the_book d).alerts) (many-parameters d) (many-alerts d))
 
 -- the code of the first condition stands before all others
-pub first-start : (b : Book) (c : Codes) → IsCodes b c → slice_index c.starts.items.items 0 ≡ 0
+pub first-start : (b : Book) (c : CodeTable) → IsCodes b c → slice_index c.starts.items.items 0 ≡ 0
 first-start b c coded = coded.codes.nodes 0 (omega arith) ∙ nodes-none (places b)
 
-module _ (b : Book) (c : Codes) (coded : IsCodes b c) (asks : (t : Tree) (at up : ℕ) → map (λ (s : Step). node_asks s.node) (code at up t) ≡ asked t) where
+module _ (b : Book) (c : CodeTable) (coded : IsCodes b c) (asks : (t : Tree) (at up : ℕ) → map (λ (s : Step). node_asks s.node) (code at up t) ≡ asked t) where
   abbrev steps : List Step
   steps = c.steps.items.items
 
@@ -122,7 +122,7 @@ module _ (b : Book) (c : Codes) (coded : IsCodes b c) (asks : (t : Tree) (at up 
           let same : x ≡ a = same_Some x a (sym (numbered here.number here.within here.low here.high) ∙ ap (slice_get nodes) here.is ∙ there) in
           subst (IsAsking b o) same known
 
-    pub askers-of : (a : Askers) → AreAskers ws nodes (operand_count (sizes_in b)) a.starts.items.items a.askers.items.items → IsAskers b a
+    pub askers-of : (a : AskerTable) → AreAskers ws nodes (operand_count (sizes_in b)) a.starts.items.items a.askers.items.items → IsAskers b a
     askers-of a lists = record {
       pieces = lists.pieces;
       each = λ o j i p x lt is atom number.

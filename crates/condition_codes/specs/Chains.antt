@@ -10,9 +10,9 @@ use Rattle.condition_codes.specs.declared.askers.Asker.{Asker}
 use Rattle.condition_codes.specs.Flat.{piece, ArePieces}
 
 -- a node that asks for an operand asks for one of the book
-abbrev pub IsAsked : Sizes → Option Operand → Type 0
-IsAsked n (Some x) = IsOperand n x
-IsAsked n None = Unit {0}
+abbrev pub AsksWithin : Sizes → Option Operand → Type 0
+AsksWithin n (Some x) = IsOperand n x
+AsksWithin n None = Unit {0}
 
 -- the number of the operand that a step asks for
 abbrev pub wanted : Sizes → Step → Option ℕ

@@ -8,7 +8,7 @@ use Rattle.term_eval.specs.Woken.{Operand}
 use Rattle.watch_lists.specs.declared.number.Sizes.{Sizes}
 use Rattle.watch_lists.specs.Naming.{operand_count, operand_number}
 use Rattle.condition_codes.specs.declared.askers.Asker.{Asker}
-use Rattle.condition_codes.specs.declared.askers.Askers.{Askers}
+use Rattle.condition_codes.specs.declared.askers.AskerTable.{AskerTable}
 use Rattle.condition_codes.specs.Flat.{piece, ArePieces}
 
 -- how many parameters and alerts a book has
@@ -28,7 +28,7 @@ pub record IsAsking (b : Book) (o : ℕ) (a : Asker) : Type 0 where
   pub number : operand_number (sizes_in b) operand ≡ o
 
 -- the list of an operand has each node that asks for it, and no other
-pub record IsAskers (b : Book) (a : Askers) : Type 0 where
+pub record IsAskers (b : Book) (a : AskerTable) : Type 0 where
   pub pieces : ArePieces (operand_count (sizes_in b)) a.starts.items.items a.askers.items.items
   pub each : (o j i : ℕ) (p : Placed) (x : Operand) → o < operand_count (sizes_in b) → slice_get (places b) j ≡ Some p → Asks p.tree i x
       → operand_number (sizes_in b) x ≡ o → IsAmong (piece a.starts.items.items a.askers.items.items o) j i

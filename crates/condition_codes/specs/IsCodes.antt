@@ -2,8 +2,9 @@
 use Rattle.ecam_spec.specs.Book.{Book}
 use Rattle.book_model.specs.Conditions.{places}
 use Rattle.condition_codes.specs.Pieces.{AreCodes, AreOwners}
-use Rattle.condition_codes.specs.declared.codes.Codes.{Codes}
+use Rattle.condition_codes.specs.declared.codes.CodeTable.{CodeTable}
 
-pub record IsCodes (b : Book) (c : Codes) : Type 0 where
+-- the codes are those of the book's conditions
+pub record IsCodes (b : Book) (c : CodeTable) : Type 0 where
   pub codes : AreCodes (places b) c.starts.items.items c.steps.items.items
-  pub owners : AreOwners (places b) c.owner_starts.items.items c.owners.items.items c.ats.items.items
+  pub owners : AreOwners (places b) c.owner_starts.items.items c.owners.items.items c.slot_starts.items.items

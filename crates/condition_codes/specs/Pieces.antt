@@ -16,15 +16,16 @@ pub record AreCodes (ps : List Placed) (starts : List ℕ) (steps : List Step) :
   pub whole : steps ≡ flat_map (λ (p : Placed). code p.at 0 p.tree) ps
 
 -- the pieces are the numbers of the conditions' temporal nodes, and with them stands where the slots of each start
-pub record AreOwners (ps : List Placed) (starts numbers ats : List ℕ) : Type 0 where
+pub record AreOwners (ps : List Placed) (starts numbers slot_starts : List ℕ) : Type 0 where
   pub pieces : ArePieces (length ps) starts numbers
   pub each : (j : ℕ) (p : Placed) → slice_get ps j ≡ Some p → piece starts numbers j ≡ owners 0 (code p.at 0 p.tree)
-  pub count : length ats ≡ length ps
-  pub slots : (j : ℕ) (p : Placed) → slice_get ps j ≡ Some p → slice_index ats j ≡ p.at
+  pub count : length slot_starts ≡ length ps
+  pub slots : (j : ℕ) (p : Placed) → slice_get ps j ≡ Some p → slice_index slot_starts j ≡ p.at
 
+-- the pieces hold the codes of these conditions
 pub record HasCodes (ps : List Placed) (c : Pieces) : Type 0 where
   pub codes : AreCodes ps c.starts.items c.steps.items
-  pub owners : AreOwners ps c.owner_starts.items c.owners.items c.ats.items
+  pub owners : AreOwners ps c.owner_starts.items c.owners.items c.slot_starts.items
 
 -- the codes of these conditions were put behind the others
 abbrev pub AddsCodes : List Placed → Pieces → Pieces → Type 0

@@ -12,10 +12,12 @@ ghost use Rattle.condition_codes.specs.IsAskers.{IsAskers, IsAmong, IsAsking, si
 ghost use Rattle.condition_codes.specs.IsCodes.{IsCodes};
 
 use crate::chains::{chains_of, list_chains};
-use crate::codes::Codes;
+use crate::codes::CodeTable;
 use book_model::Book;
 use std::alloc::{AllocError, Global};
 use std::boxed::BoxedSlice;
+use std::marker::Model;
+use std::rc::Rc;
 use term_eval::code_asks_for_what_the_condition_asks_for;
 use watch_lists::Sizes;
 
@@ -28,17 +30,32 @@ pub struct Asker {
     pub node: usize,
 }
 
-/// Per operand of a book the nodes that ask for it, in one flat list. Nothing changes it, and it can't grow.
+/// Per operand of a book the nodes that ask for it, in one flat list, which its owners share. Nothing changes it, and it
+/// can't grow.
 #[derive(Drop)]
 pub struct Askers {
+    table: Rc<AskerTable>,
+}
+
+impl Model for Askers {
+    ghost use Rattle.condition_codes.specs.declared.askers.AskerTable.{AskerTable};
+
+    ghost Value = { AskerTable };
+
+    ghost view = { λ a. a.table.value };
+}
+
+// What the owners share.
+#[derive(Drop)]
+struct AskerTable {
     starts: BoxedSlice<usize>,
     askers: BoxedSlice<Asker>,
 }
 
 impl Askers {
-    /// The askers of a book, by its codes. Its cost is three visits of each step and one of each operand, and five requests
-    /// for memory. An error is want of memory.
-    pub fn new(alloc: Global, book: &Book, codes: &Codes) -> Result<Askers, AllocError>
+    /// The askers of a book, by its codes. Its cost is a few visits of each step and of each operand. An error is want of
+    /// memory.
+    pub fn new(alloc: Global, book: &Book, codes: &CodeTable) -> Result<Askers, AllocError>
         requires { IsCodes (the_book book.now) codes.now }
         ensures { IfOk result (IsAskers (the_book book.now)) }
     {
@@ -51,10 +68,23 @@ impl Askers {
         let (firsts, nexts) = chains_of(alloc, codes.steps(), sizes)?;
         let nodes = nodes_of(alloc, codes.starts())?;
         let (starts, askers) = list_chains(alloc, &firsts, &nexts, &nodes)?;
-        Ok(Askers { starts, askers })
+        let table = AskerTable { starts, askers };
+        Ok(Askers {
+            table: Rc::new(alloc, table)?,
+        })
     }
 
-    /// The nodes that ask for an operand. A look-up costs two reads.
+    /// The same askers, for one owner more. It takes no memory, and costs a look and a write. An error is want of memory: there
+    /// are as many owners as can be counted.
+    pub fn share(&self) -> Result<Askers, AllocError>
+        ensures { IfOk result (λ a. a ≡ self.now) }
+    {
+        Ok(Askers {
+            table: self.table.clone()?,
+        })
+    }
+
+    /// The nodes that ask for an operand. A look-up costs three reads.
     pub fn asking(&self, operand: usize) -> &[Asker]
         requires { (b : plain.Book) × IsAskers b self.now × (operand < operand_count (sizes_in b)) }
         ensures each { (b : plain.Book) → IsAskers b self.now
@@ -67,7 +97,8 @@ impl Askers {
             → (k : ℕ) (a : Asker) → slice_get result.now k ≡ Some a
             → IsAsking b operand a }
     {
-        &self.askers[self.starts[operand]..self.starts[operand + 1]]
+        let table = self.table.as_ref();
+        &table.askers[table.starts[operand]..table.starts[operand + 1]]
     }
 }
 

@@ -1,11 +1,11 @@
 // All steps are gone through once, and each is put before the others that ask for the same operand.
-ghost use Rattle.std.specs.Prelude.{◌≡◌, ℕ, ◌+◌, ◌<◌, ◌≤◌, ◌^◌, List, All, map, length, slice_index, Option, Some, OnOk, IfOk};
+ghost use Rattle.std.specs.Prelude.{◌≡◌, ℕ, ◌+◌, ◌<◌, ◌^◌, List, All, map, length, slice_index, Option, Some, OnOk, IfOk};
 ghost use Rattle.std.specs.Option.{option_map};
 ghost use Rattle.std.specs.Box.{boxed_slice_items};
 ghost use Rattle.term_eval.specs.Asked.{node_asks};
 ghost use Rattle.term_eval.specs.declared.code.Step.{Step};
 ghost use Rattle.watch_lists.specs.Naming.{operand_count, operand_number};
-ghost use Rattle.condition_codes.specs.Chains.{IsAsked, wanted, IsNext, AreChains, AreAskers, AddsAskers};
+ghost use Rattle.condition_codes.specs.Chains.{AsksWithin, wanted, AreChains, AreAskers, AddsAskers};
 
 use crate::askers::Asker;
 use std::alloc::{AllocError, Global};
@@ -16,7 +16,7 @@ use watch_lists::{Sizes, key_place};
 // The number of the operand that a node asks for.
 fn number_asked(node: Node, sizes: Sizes) -> Option<usize>
     requires few { sizes.params + sizes.alerts < 2 ^ 32 }
-    requires own { IsAsked sizes (node_asks node) }
+    requires own { AsksWithin sizes (node_asks node) }
     ensures number { result ≡ option_map (operand_number sizes) (node_asks node) }
     ensures bound { (o : ℕ) → result ≡ Some o → o < operand_count sizes }
 {
@@ -33,14 +33,14 @@ fn number_asked(node: Node, sizes: Sizes) -> Option<usize>
 }
 
 /// Per operand the first node that asks for it, and per node the next that asks for the same; where there is none, the
-/// number of nodes. Its cost is one visit of each step.
+/// number of nodes. Its cost is two visits of each step and one of each operand.
 pub fn chains_of(
     alloc: Global,
     steps: &[Step],
     sizes: Sizes,
 ) -> Result<(Vec<usize>, Vec<usize>), AllocError>
     requires few { sizes.params + sizes.alerts < 2 ^ 32 }
-    requires own { All (λ (s : Step). IsAsked sizes (node_asks s.node)) steps.now }
+    requires own { All (λ (s : Step). AsksWithin sizes (node_asks s.node)) steps.now }
     ensures operands { IfOk result (λ r. length r.0.items ≡ operand_count sizes) }
     ensures nodes { IfOk result (λ r. length r.1.items ≡ length steps.now) }
     ensures chains { IfOk result (λ r. AreChains (map (wanted sizes) steps.now) 0

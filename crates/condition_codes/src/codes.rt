@@ -1,5 +1,5 @@
 // The codes of a book in one list.
-ghost use Rattle.std.specs.Prelude.{◌≡◌, ℕ, ◌<◌, length, slice_get, Some, IfOk};
+ghost use Rattle.std.specs.Prelude.{◌≡◌, ◌<◌, length, slice_get, Some, IfOk};
 ghost use Rattle.std.specs.Box.{boxed_slice_items};
 ghost use Rattle.ecam_spec.specs.Book as plain;
 ghost use Rattle.ecam_spec.specs.TermSize.{Placed, nodes};
@@ -14,35 +14,73 @@ use crate::pieces::Pieces;
 use book_model::Book;
 use std::alloc::{AllocError, Global};
 use std::boxed::BoxedSlice;
+use std::marker::Model;
+use std::rc::Rc;
 use term_eval::Step;
+
+/// The codes of a book, which their owners share. Nothing changes them.
+#[derive(Drop)]
+pub struct Codes {
+    table: Rc<CodeTable>,
+}
+
+impl Model for Codes {
+    ghost use Rattle.condition_codes.specs.declared.codes.CodeTable.{CodeTable};
+
+    ghost Value = { CodeTable };
+
+    ghost view = { λ c. c.table.value };
+}
 
 /// The codes of all conditions of a book, each under its number in stepping order. Nothing changes them, and they can't
 /// grow.
 #[derive(Drop)]
-pub struct Codes {
+pub struct CodeTable {
     steps: BoxedSlice<Step>,
     starts: BoxedSlice<usize>,
     owners: BoxedSlice<usize>,
     owner_starts: BoxedSlice<usize>,
-    ats: BoxedSlice<usize>,
+    slot_starts: BoxedSlice<usize>,
 }
 
 impl Codes {
-    /// The codes of a book. Its cost is one visit of each node of the book's conditions. An error is want of memory.
+    /// The codes of a book. Its cost is two visits of each node of the book's conditions. An error is want of memory.
     pub fn new(alloc: Global, book: &Book) -> Result<Codes, AllocError>
         ensures { IfOk result (IsCodes (the_book book.now)) }
     {
         let mut pieces = Pieces::new(alloc)?;
         add_all(&mut pieces, book)?;
-        Ok(Codes {
+        let table = CodeTable {
             steps: pieces.steps.into_boxed_slice(),
             starts: pieces.starts.into_boxed_slice(),
             owners: pieces.owners.into_boxed_slice(),
             owner_starts: pieces.owner_starts.into_boxed_slice(),
-            ats: pieces.ats.into_boxed_slice(),
+            slot_starts: pieces.slot_starts.into_boxed_slice(),
+        };
+        Ok(Codes {
+            table: Rc::new(alloc, table)?,
         })
     }
 
+    /// The same codes, for one owner more. It takes no memory, and costs a look and a write. An error is want of memory: there
+    /// are as many owners as can be counted.
+    pub fn share(&self) -> Result<Codes, AllocError>
+        ensures { IfOk result (λ c. c ≡ self.now) }
+    {
+        Ok(Codes {
+            table: self.table.clone()?,
+        })
+    }
+
+    /// The codes, to look at. It costs one read, which what looks at several saves.
+    pub fn table(&self) -> &CodeTable
+        ensures { result.now ≡ self.now }
+    {
+        &self.table
+    }
+}
+
+impl CodeTable {
     /// The code of the condition of this number. A look-up costs two reads.
     pub fn code(&self, number: usize) -> &[Step]
         requires { (b : plain.Book) × IsCodes b self.now × (number < length (places b)) }
@@ -68,7 +106,7 @@ impl Codes {
         ensures { (b : plain.Book) → IsCodes b self.now → (p : Placed)
             → slice_get (places b) number ≡ Some p → result ≡ p.at }
     {
-        self.ats[number]
+        self.slot_starts[number]
     }
 
     /// The numbers of its temporal nodes, slot by slot. A look-up costs two reads.

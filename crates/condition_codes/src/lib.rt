@@ -9,4 +9,4 @@ mod codes;
 mod pieces;
 
 pub use askers::{Asker, Askers};
-pub use codes::Codes;
+pub use codes::{CodeTable, Codes};

@@ -1,5 +1,5 @@
 // Codes are put one behind another.
-ghost use Rattle.std.specs.Prelude.{◌≡◌, ◌+◌, ◌<◌, ◌^◌, [], ◌∷◌, OnOk, IfOk};
+ghost use Rattle.std.specs.Prelude.{◌+◌, ◌<◌, ◌^◌, [], ◌∷◌, OnOk, IfOk};
 ghost use Rattle.ecam_spec.specs.TermSize.{slots};
 ghost use Rattle.book_model.specs.View.{tree_in, placed_of};
 ghost use Rattle.condition_codes.specs.Pieces.{AddsCodes, HasCodes};
@@ -20,7 +20,7 @@ pub struct Pieces {
     /// Where those of each start, and where the last end.
     pub owner_starts: Vec<usize>,
     /// Where the slots of each start.
-    pub ats: Vec<usize>,
+    pub slot_starts: Vec<usize>,
 }
 
 impl Pieces {
@@ -37,7 +37,7 @@ impl Pieces {
             starts,
             owners: Vec::new(alloc),
             owner_starts,
-            ats: Vec::new(alloc),
+            slot_starts: Vec::new(alloc),
         })
     }
 
@@ -51,7 +51,7 @@ impl Pieces {
         self.starts.push(self.steps.len())?;
         add_owners(&mut self.owners, &self.steps[first..])?;
         self.owner_starts.push(self.owners.len())?;
-        self.ats.push(term.at)?;
+        self.slot_starts.push(term.at)?;
         Ok(())
     }
 }

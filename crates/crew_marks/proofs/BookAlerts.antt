@@ -1,21 +1,13 @@
 -- What a walk reads of a book.
-use Rattle.std.proofs.Common.{◌≡◌, ℕ, ◌<◌, eqb, List, length, get_or, Option, Some, None, All, refl, ap, arith}
+use Rattle.std.proofs.Common.{◌≡◌, ℕ, ◌<◌, eqb, List, length, get_or, Option, Some, None, refl, ap}
 use Rattle.std.specs.Option.{option_eq}
-use Rattle.std.proofs.lemmas.List.Elements.{All-get_or}
 use Rattle.ecam_spec.specs.Levels.{is_caution_level}
 use Rattle.ecam_spec.specs.Situation.{alert_at}
 use Rattle.ecam_spec.specs.Crew.{is_alert}
 use Rattle.book_model.specs.Sealed.{the_book}
 use Rattle.book_model.specs.declared.draft.Alert.{Alert}
 use Rattle.book_model.specs.declared.draft.Draft.{Draft}
-use Rattle.book_model.proofs.BookLists.{many-alerts}
 use Rattle.book_model.proofs.BookReads.{alert-read}
-
--- the place that stands in the order is one of an alert
-pub place-within : (d : Draft) (order : List ℕ) (i : ℕ) → All (λ a. a < length d.alerts.items) order → i < length order → get_or order i 0 < length (the_book d).alerts
-place-within d order i each within =
-    let place : get_or order i 0 < length d.alerts.items = All-get_or (λ a. a < length d.alerts.items) order i 0 within each in
-    omega (arith, many-alerts d)
 
 -- whether the alert that was read is a caution
 pub caution-read : (d : Draft) (xs : List Alert) (i : ℕ) (x : Alert) → xs ≡ d.alerts.items → i < length xs → x ≡ get_or xs i x

@@ -1,5 +1,5 @@
 -- The end of a moment, in which the marks became what they are.
-use Rattle.std.proofs.Common.{◌≡◌, ℕ, suc, ◌+◌, ◌<◌, Bool, true, false, not, ◌||◌, List, length, get_or, Option, Some, None, refl, sym, ap, subst, ◌∙◌, arith}
+use Rattle.std.proofs.Common.{◌≡◌, ℕ, suc, ◌+◌, ◌<◌, Bool, false, not, ◌||◌, List, length, get_or, Option, Some, None, refl, sym, ap, subst, ◌∙◌, arith}
 use Rattle.std.specs.Prelude.{is_some, is_none}
 use Rattle.std.specs.Option.{IfSome}
 use Rattle.std.specs.List.{find}
@@ -14,7 +14,7 @@ use Rattle.crew_marks.specs.MarkStep.{mark_after, sight_of, acts, actions_of}
 use Rattle.crew_marks.specs.MarkSets.{MarkSets, mark_at, AreMany}
 use Rattle.crew_marks.specs.CrewMarks.{CrewMarks, EndsMoment}
 use Rattle.crew_marks.specs.MarksState.{IsCrewOf, SeesCrew, AreStill, MarksFit, MarksStand}
-use Rattle.crew_marks.proofs.Stepping.{IsStepped, first-fits, stepped-fits, stepped-stands, quiet-now}
+use Rattle.crew_marks.proofs.Stepping.{IsStepped, first-fits, stepped-stands, quiet-now}
 use Rattle.crew_marks.proofs.Resting.{mark-rests}
 
 pub held-long : (c : Cockpit) (k : ℕ) (ends enters : Bool) → ends ≡ (historically_within 29 c.rcl_held k || enters) → enters ≡ c.enters_one k → ends ≡ (long_recall c k || c.enters_one k)
@@ -52,51 +52,26 @@ rested-fits b old new fits same first aims = record {
 
 -- ---- where each alert is up and waits as in the moment before
 
--- what a walk found that looks at no alert where the crew does nothing
-pub record IsWalked (b : Book) (ups waits : List Bool) (x : Actions) (target : Option ℕ) (old new : MarkSets) (found : Option ℕ) : Type 0 where
-  pub rests : acts x ≡ false → (new ≡ old) × (found ≡ target)
-  pub marks : acts x ≡ true → (a : ℕ) → a < length b.alerts → mark_at new a ≡ mark_after (mark_at old a) (sight_of b ups waits target a) x
-  pub first : acts x ≡ true → found ≡ find (λ a. get_or new.shown a false) (order b)
+module _ (b : Book) (ups waits : List Bool) (x : Actions) (old new : CrewMarks) (fits : MarksFit b old)
+    (quiet : acts x ≡ false) (same : new.sets ≡ old.sets) (first : new.first ≡ old.first)
+    (c : Cockpit) (k : ℕ) (keys : Keys) (enters : Bool) (of_book : IsCrewOf b c) (sees : SeesCrew c k ups waits keys enters)
+    (up_long : length ups ≡ length b.alerts) (waits_long : length waits ≡ length b.alerts)
+    (still : AreStill b c k) (stands : MarksStand b c k old) where
+  alert-rests : (a : ℕ) → a < length b.alerts
+      → mark_after (mark_at old.sets a) (sight_of b ups waits old.first a) x ≡ mark_at old.sets a
+  alert-rests a within =
+      mark-rests c a k (mark_at old.sets a) (sight_of b ups waits old.first a) x
+      (record {
+        up = sees.up a (omega (arith, up_long, within)) ∙ still.up a within;
+        waiting = sees.waiting a (omega (arith, waits_long, within)) ∙ still.waiting a within;
+        is_caution = sym (of_book.is_caution a);
+      })
+      quiet (stands.marks a within)
 
--- the same, where the marks before and the crew's actions are known by other names
-pub walked-as : (b : Book) (ups waits : List Bool) (x y : Actions) (before old : CrewMarks) (new : MarkSets) (found : Option ℕ) → before ≡ old → y ≡ x
-    → IsWalked b ups waits y before.first before.sets new found → IsWalked b ups waits x old.first old.sets new found
-walked-as b ups waits x y before old new found same does walked =
-    subst (λ z. IsWalked b ups waits z old.first old.sets new found) does (subst (λ (m : CrewMarks). IsWalked b ups waits y m.first m.sets new found) same walked)
-
-pub ended-walk : (b : Book) (ups waits : List Bool) (x : Actions) (old new : CrewMarks) (sets : MarkSets) (found : Option ℕ) → new.sets ≡ sets → new.first ≡ found
-    → IsWalked b ups waits x old.first old.sets sets found → IsWalked b ups waits x old.first old.sets new.sets new.first
-ended-walk b ups waits x old new sets found same first walked =
-    subst (λ (s : MarkSets). IsWalked b ups waits x old.first old.sets s new.first) (sym same) (subst (IsWalked b ups waits x old.first old.sets sets) (sym first) walked)
-
-module _ (b : Book) (ups waits : List Bool) (x : Actions) (old new : CrewMarks) (fits : MarksFit b old) (many : AreMany new.sets (length b.alerts))
-    (walked : IsWalked b ups waits x old.first old.sets new.sets new.first) where
-  stepped-by : (t : Bool) → acts x ≡ t → (acts x ≡ false → (a : ℕ) → a < length b.alerts → mark_after (mark_at old.sets a) (sight_of b ups waits old.first a) x ≡ mark_at old.sets a)
-      → IsStepped b ups waits x old new.sets new.first
-  stepped-by true on rests = record { many = many; marks = walked.marks on; first = walked.first on }
-  stepped-by false off rests = record {
-    many = many;
-    marks = λ a within. ap (λ (s : MarkSets). mark_at s a) (walked.rests off).0 ∙ sym (rests off a within);
-    first = (walked.rests off).1 ∙ fits.first ∙ ap (λ (s : MarkSets). find (λ a. get_or s.shown a false) (order b)) (sym (walked.rests off).0);
+  -- all stays as it is where the crew does nothing
+  pub still-steps : IsStepped b ups waits x old new.sets new.first
+  still-steps = record {
+    many = subst (λ (s : MarkSets). AreMany s (length b.alerts)) (sym same) fits.many;
+    marks = λ a within. ap (λ (s : MarkSets). mark_at s a) same ∙ sym (alert-rests a within);
+    first = first ∙ fits.first ∙ ap (λ (s : MarkSets). find (λ a. get_or s.shown a false) (order b)) (sym same);
   }
-
-  fits-by : (t : Bool) → acts x ≡ t → new.target ≡ old.first → MarksFit b new
-  fits-by true on aims = stepped-fits b ups waits x old new fits aims (record { many = many; marks = walked.marks on; first = walked.first on })
-  fits-by false off aims = rested-fits b old new fits (walked.rests off).0 (walked.rests off).1 aims
-
-  pub walked-fits : new.target ≡ old.first → MarksFit b new
-  walked-fits = fits-by (acts x) refl
-
-  module _ (c : Cockpit) (k : ℕ) (keys : Keys) (enters : Bool) (of_book : IsCrewOf b c) (sees : SeesCrew c k ups waits keys enters)
-      (up_long : length ups ≡ length b.alerts) (waits_long : length waits ≡ length b.alerts) (still : AreStill b c k) (stands : MarksStand b c k old) where
-    pub walked-still : IsStepped b ups waits x old new.sets new.first
-    walked-still =
-        stepped-by (acts x) refl
-        (λ off a within.
-        mark-rests c a k (mark_at old.sets a) (sight_of b ups waits old.first a) x
-        (record {
-          up = sees.up a (omega (arith, up_long, within)) ∙ still.up a within;
-          waiting = sees.waiting a (omega (arith, waits_long, within)) ∙ still.waiting a within;
-          is_caution = sym (of_book.is_caution a);
-        })
-        off (stands.marks a within))

@@ -1,18 +1,22 @@
 -- An idle alert stays as it is, whatever the crew does.
-use Rattle.std.proofs.Common.{◌≡◌, ℕ, Bool, true, false, not, ◌||◌, ◌==◌, List, Option, Some, None, get_or, refl, sym, ap, ◌∙◌}
+use Rattle.std.proofs.Common.{◌≡◌, ℕ, Bool, true, false, ◌==◌, List, Option, Some, None, get_or, refl, sym, ap, subst, ◌∙◌}
 use Rattle.std.specs.Option.{IfSome}
+use Rattle.std.specs.List.{find}
 use Rattle.std.proofs.lemmas.Bool.{eqb-true, false≢true, or_parts}
 use Rattle.std.proofs.Math.Bool.{and-false}
 use Rattle.ecam_spec.specs.Levels.{is_caution_level}
 use Rattle.ecam_spec.specs.Book.{Book}
 use Rattle.ecam_spec.specs.Crew.{is_alert}
 use Rattle.ecam_spec.specs.Situation.{alert_at}
+use Rattle.ecam_spec.specs.Screen.{order}
+use Rattle.wakes.specs.Marks as numbers
 use Rattle.crew_marks.specs.declared.mark.Mark.{Mark}
 use Rattle.crew_marks.specs.declared.mark.Sight.{Sight}
 use Rattle.crew_marks.specs.declared.mark.Actions.{Actions}
-use Rattle.crew_marks.specs.MarkSets.{MarkSets, mark_at, set_mark, is_marked}
+use Rattle.crew_marks.specs.MarkSets.{MarkSets, mark_at, is_marked}
 use Rattle.crew_marks.specs.MarkStep.{mark_after, sight_of}
-use Rattle.crew_marks.proofs.Walking.{set-mark_at}
+use Rattle.crew_marks.specs.Looked.{AreLooked}
+use Rattle.crew_marks.proofs.Orders.{found-passes}
 
 -- nothing is marked
 abbrev no_mark : Mark
@@ -36,10 +40,6 @@ unmarked-after : (caution : Bool) (x : Actions) → mark_after no_mark (idle_sig
 unmarked-after false x = refl
 unmarked-after true x = rw (and-false x.emer) refl
 
-off-from : (x : Bool) → not x ≡ true → x ≡ false
-off-from true h = cc
-off-from false h = refl
-
 -- one that isn't shown isn't a target that is
 spared : (shown : List Bool) (x : ℕ) (target : Option ℕ) → IfSome target (λ a. get_or shown a false ≡ true) → get_or shown x false ≡ false → is_alert x target ≡ false
 spared shown x None h off = refl
@@ -47,25 +47,26 @@ spared shown x (Some t) h off =
     elim (x == t) as (λ b. (x == t) ≡ b → b ≡ false)
     [ true ↦ λ e. absurd (false≢true (sym off ∙ ap (λ a. get_or shown a false) (eqb-true x t e) ∙ h)) | false ↦ λ e. refl ] refl
 
-module _ (b : Book) (up waiting : List Bool) (a : ℕ) (s : MarkSets) (idle : not (get_or up a false || (get_or waiting a false || is_marked (mark_at s a))) ≡ true) where
-  off : (get_or up a false ≡ false) × (get_or waiting a false ≡ false) × (is_marked (mark_at s a) ≡ false)
-  off =
-      let one = or_parts (get_or up a false) _ (off-from _ idle) in
-      let two = or_parts (get_or waiting a false) (is_marked (mark_at s a)) one.1 in
-      (one.0, two.0, two.1)
+unless : (x m : Bool) → (x ≡ true → m ≡ true) → m ≡ false → x ≡ false
+unless true m h off = absurd (false≢true (sym off ∙ h refl))
+unless false m h off = refl
 
-  none : mark_at s a ≡ no_mark
-  none = unmarked (mark_at s a) off.2
+-- one that isn't looked at stays as it is
+module _ (b : Book) (up waiting : List Bool) (s : MarkSets) (set : List ℕ) (target : Option ℕ) (x : Actions)
+    (looked : AreLooked s up waiting set) (aims : target ≡ find (λ a. get_or s.shown a false) (order b)) where
+  targets : IfSome target (λ t. get_or s.shown t false ≡ true)
+  targets =
+      subst (λ o. IfSome o (λ t. get_or s.shown t false ≡ true)) (sym aims)
+      (found-passes (λ a. get_or s.shown a false) (order b))
 
-  pub idle-hidden : get_or s.shown a false ≡ false
-  idle-hidden = ap (λ (m : Mark). m.shown) none
-
-  pub idle-rests : (initial : MarkSets) (target : Option ℕ) (x : Actions) → mark_at s a ≡ mark_at initial a → IfSome target (λ t. get_or initial.shown t false ≡ true)
-      → s ≡ set_mark s a (mark_after (mark_at s a) (sight_of b up waiting target a) x)
-  idle-rests initial target x as_before aims =
-      let spares = spared initial.shown a target aims (ap (λ (m : Mark). m.shown) (sym as_before) ∙ idle-hidden) in
-      let sight : sight_of b up waiting target a ≡ idle_sight (is_caution_level (alert_at b a).level) = rw (off.0, off.1, spares) refl in
-      let after : mark_after (mark_at s a) (sight_of b up waiting target a) x ≡ mark_at s a =
-      ap (λ m. mark_after m (sight_of b up waiting target a) x) none ∙ ap (λ g. mark_after no_mark g x) sight
-      ∙ unmarked-after (is_caution_level (alert_at b a).level) x ∙ sym none in
-      sym (ap (set_mark s a) after ∙ set-mark_at s a)
+  pub idle-rests : (a : ℕ) → numbers.is_marked set a ≡ false
+      → mark_at s a ≡ mark_after (mark_at s a) (sight_of b up waiting target a) x
+  idle-rests a off =
+      let caution = is_caution_level (alert_at b a).level in
+      let none : mark_at s a ≡ no_mark = unmarked (mark_at s a) (unless (is_marked (mark_at s a)) _ (looked.marked a) off) in
+      let not_up = unless (get_or up a false) _ (looked.up a) off in
+      let not_waiting = unless (get_or waiting a false) _ (looked.waiting a) off in
+      let spares = spared s.shown a target targets (ap (λ (m : Mark). m.shown) none) in
+      let sight : sight_of b up waiting target a ≡ idle_sight caution = rw (not_up, not_waiting, spares) refl in
+      none ∙ sym (unmarked-after caution x) ∙ ap (λ g. mark_after no_mark g x) (sym sight)
+      ∙ ap (λ m. mark_after m (sight_of b up waiting target a) x) (sym none)

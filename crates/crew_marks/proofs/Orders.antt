@@ -51,6 +51,12 @@ found-so : (P : ℕ → Type 0) (p : ℕ → Bool) (xs : List ℕ) → All P xs 
 found-so P p [] each = tt
 found-so P p (x ∷ xs) each = found-or P (p x) x (find p xs) (All-head P x xs each) (found-so P p xs (All-tail P x xs each))
 
+-- the one that is found passes
+pub found-passes : (p : ℕ → Bool) (xs : List ℕ) → IfSome (find p xs) (λ a. p a ≡ true)
+found-passes p [] = tt
+found-passes p (x ∷ xs) =
+    elim (p x) as (λ b. p x ≡ b → IfSome (cond b (Some x) (find p xs)) (λ a. p a ≡ true)) [ true ↦ λ e. e | false ↦ λ e. found-passes p xs ] refl
+
 module _ (b : Book) where
   pub found-within : (p : ℕ → Bool) → IfSome (find p (order b)) (λ a. a < length b.alerts)
   found-within p = found-so (λ a. a < length b.alerts) p (order b) (order-below b)

@@ -1,5 +1,5 @@
--- A walk over the alerts that may turn in a moment in which the crew does nothing.
-use Rattle.std.proofs.Common.{◌≡◌, ℕ, ◌+◌, ◌<◌, ◌≤◌, ◌≢◌, Bool, true, false, ◌||◌, Option, Some, None, List, [], ◌∷◌, length, get_or, take, drop, inl, inr, refl, sym, ◌∙◌, ap, arith}
+-- A walk over the alerts that are looked at.
+use Rattle.std.proofs.Common.{◌≡◌, ℕ, ◌+◌, ◌<◌, ◌≤◌, ◌≢◌, Bool, true, false, ◌||◌, Some, None, List, [], ◌∷◌, length, get_or, take, drop, inl, inr, refl, sym, ◌∙◌, ap, arith}
 use Rattle.std.specs.Prelude.{◌↔◌}
 use Rattle.std.specs.Option.{option_or}
 use Rattle.std.specs.List.{find}
@@ -7,12 +7,11 @@ use Rattle.std.proofs.lemmas.Bool.{or_parts, or_from, cases_lt}
 use Rattle.std.proofs.lemmas.List.{take_more, take-append-drop}
 use Rattle.std.proofs.lemmas.List.Folds.{find-append}
 use Rattle.std.proofs.Math.Seq.{drop-cons}
-use Rattle.ecam_spec.specs.Book.{Book}
 use Rattle.crew_marks.specs.declared.mark.Mark.{Mark}
 use Rattle.crew_marks.specs.declared.mark.Sight.{Sight}
 use Rattle.crew_marks.specs.declared.mark.Actions.{Actions}
-use Rattle.crew_marks.specs.MarkSets.{MarkSets, mark_at, set_mark, is_touched, HasMark, IsSettled}
-use Rattle.crew_marks.specs.MarkStep.{mark_after, sight_of, acts}
+use Rattle.crew_marks.specs.MarkSets.{MarkSets, mark_at, set_mark, is_touched, HasMark}
+use Rattle.crew_marks.specs.MarkStep.{mark_after, acts}
 use Rattle.crew_marks.proofs.Walking.{mark-same, mark-other, set-mark_at, set_mark-again}
 
 -- ---- one alert that is settled
@@ -60,9 +59,12 @@ mark-stays m s x as_up untouched quiet =
     ap (λ n. mark_after n s x) mark ∙ ap (λ y. mark_after (clean s.up) s y) (nothing-is x quiet)
     ∙ clean-stays s.up s.waiting s.is_caution s.is_target ∙ sym mark
 
-pub settled-stays : (b : Book) (s : MarkSets) (up waiting : List Bool) (target : Option ℕ) (a : ℕ) (x : Actions) → acts x ≡ false → IsSettled s up a
-    → mark_at s a ≡ mark_after (mark_at s a) (sight_of b up waiting target a) x
-settled-stays b s up waiting target a x quiet settled = sym (mark-stays (mark_at s a) (sight_of b up waiting target a) x settled.shown settled.untouched quiet)
+-- one that is settled needs no step where the crew does nothing
+pub settled-stays : (s : MarkSets) (a : ℕ) (g : Sight) (x : Actions) → acts x ≡ false
+    → g.up ≡ get_or s.shown a false → is_touched (mark_at s a) ≡ false
+    → s ≡ set_mark s a (mark_after (mark_at s a) g x)
+settled-stays s a g x quiet as_up untouched =
+    sym (ap (set_mark s a) (mark-stays (mark_at s a) g x as_up untouched quiet) ∙ set-mark_at s a)
 
 -- ---- the walk
 
@@ -76,15 +78,16 @@ pub pass-none : (step : ℕ → Mark → Mark) (initial : MarkSets) → ArePasse
 pass-none step initial = record { marks = λ a h. absurd (omega arith); left = λ a h. refl; changed = (λ e. refl, λ e. refl) }
 
 -- those that stay as they are need no step
-pub pass-settled : (step : ℕ → Mark → Mark) (initial : MarkSets) (i j : ℕ) (s : MarkSets) (turned : Bool) → i ≤ j
-    → ((a : ℕ) → i ≤ a → a < j → mark_at s a ≡ step a (mark_at s a)) → ArePassed step initial i s turned → ArePassed step initial j s turned
-pass-settled step initial i j s turned order stays p = record {
+pub pass-others : (step : ℕ → Mark → Mark) (initial : MarkSets) (i j : ℕ) (s : MarkSets) (turned : Bool) → i ≤ j
+    → ((a : ℕ) → i ≤ a → a < j → mark_at initial a ≡ step a (mark_at initial a))
+    → ArePassed step initial i s turned → ArePassed step initial j s turned
+pass-others step initial i j s turned order stays p = record {
   marks = λ a h.
       elim (cases_lt a i) [
         | inl low ↦ p.marks a low
         | inr high ↦
             let behind : i ≤ a = omega arith in
-            stays a behind h ∙ ap (step a) (p.left a behind)
+            p.left a behind ∙ stays a behind h
       ];
   left = λ a h. p.left a (omega arith);
   changed = p.changed;

@@ -4,7 +4,7 @@ use Rattle.std.specs.Prelude.{is_some}
 use Rattle.std.specs.Option.{IfSome}
 use Rattle.std.specs.List.{find}
 use Rattle.std.proofs.lemmas.Bool.{cases_lt, eqb-true, false≢true}
-use Rattle.std.proofs.lemmas.List.{get_or_past, get_or-replicate, length-replicate}
+use Rattle.std.proofs.lemmas.List.{get_or_past, length-replicate}
 use Rattle.std.proofs.Math.Bool.{and-true, and-false}
 use Rattle.ecam_spec.specs.Past.{previous, running_since, last_since}
 use Rattle.ecam_spec.specs.Book.{Book}
@@ -21,20 +21,13 @@ use Rattle.crew_marks.specs.MarkSets.{MarkSets, mark_at, AreMany}
 use Rattle.crew_marks.specs.CrewMarks.{CrewMarks, is_cleared, is_recalled, is_shown}
 use Rattle.crew_marks.specs.MarksState.{IsCrewOf, SeesCrew, MarksFit, MarkStands, MarksStand, OnlyCleared}
 use Rattle.crew_marks.proofs.Orders.{mem-order, found-within}
-use Rattle.crew_marks.proofs.Walking.{find-agree}
+use Rattle.crew_marks.proofs.Walking.{no-flag, find-agree}
 use Rattle.crew_marks.proofs.Crews.{target-some, mark-stands}
 
 -- ---- flags
 
 flag-within : (xs : List Bool) (a : ℕ) → get_or xs a false ≡ true → a < length xs
 flag-within xs a h = elim (cases_lt a (length xs)) [ inl within ↦ within | inr past ↦ absurd (false≢true (sym (get_or_past xs a false past) ∙ h)) ]
-
-no-flag : (n a : ℕ) → get_or (replicate n false) a false ≡ false
-no-flag n a =
-    elim (cases_lt a n) [
-      | inl within ↦ get_or-replicate n a false false within
-      | inr past ↦ get_or_past (replicate n false) a false (omega (arith, length-replicate n false))
-    ]
 
 found-first : (p : ℕ → Bool) (x a : ℕ) (o : Option ℕ) (b : Bool) → p x ≡ b → (is_alert a o ≡ true → p a ≡ true) → is_alert a (cond b (Some x) o) ≡ true → p a ≡ true
 found-first p x a o true e rest h = ap p (eqb-true a x h) ∙ e
@@ -44,17 +37,6 @@ found-first p x a o false e rest h = rest h
 find-passes : (p : ℕ → Bool) (xs : List ℕ) (a : ℕ) → is_alert a (find p xs) ≡ true → p a ≡ true
 find-passes p [] a h = absurd (false≢true h)
 find-passes p (x ∷ xs) a h = found-first p x a (find p xs) (p x) refl (find-passes p xs a) h
-
-found-passes : (p : ℕ → Bool) (xs : List ℕ) → IfSome (find p xs) (λ a. p a ≡ true)
-found-passes p [] = tt
-found-passes p (x ∷ xs) =
-    elim (p x) as (λ b. p x ≡ b → IfSome (cond b (Some x) (find p xs)) (λ a. p a ≡ true)) [ true ↦ λ e. e | false ↦ λ e. found-passes p xs ] refl
-
--- the first is shown
-pub first-shown : (b : Book) (inside m : CrewMarks) → inside ≡ m → MarksFit b m → IfSome inside.first (λ a. get_or inside.sets.shown a false ≡ true)
-first-shown b inside m same fits =
-    subst (λ (n : CrewMarks). IfSome n.first (λ a. get_or n.sets.shown a false ≡ true)) (sym same)
-    (subst (λ o. IfSome o (λ a. is_shown m a ≡ true)) (sym fits.first) (found-passes (is_shown m) (order b)))
 
 pub first-found : (b : Book) (inside m : CrewMarks) → inside ≡ m → MarksFit b m → inside.first ≡ find (λ a. get_or inside.sets.shown a false) (order b)
 first-found b inside m same fits = subst (λ (n : CrewMarks). n.first ≡ find (λ a. get_or n.sets.shown a false) (order b)) (sym same) fits.first

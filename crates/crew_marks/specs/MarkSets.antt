@@ -1,5 +1,7 @@
 -- The marks of all alerts.
-use Rattle.std.specs.Prelude.{◌≡◌, ℕ, ◌<◌, Bool, false, ◌||◌, List, length, get_or, slice_set}
+use Rattle.std.specs.Prelude.{◌≡◌, ℕ, ◌+◌, ◌*◌, ◌/◌, ◌<◌, Bool, false, ◌||◌, List, length, get_or, slice_set}
+use Rattle.wakes.specs.Marks as numbers
+use Rattle.wakes.specs.Marks.{room}
 use Rattle.crew_marks.specs.declared.mark.Mark.{Mark}
 
 -- by alert: whether it is cleared, cancelled, recalled, and shown
@@ -23,10 +25,14 @@ set_mark s a m =
 abbrev pub is_marked : Mark → Bool
 is_marked m = m.cleared || (m.cancelled || (m.recalled || m.shown))
 
--- these flags tell by alert whether something is marked
-pub record TellMarked (s : MarkSets) (flags : List Bool) : Type 0 where
-  pub many : length flags ≡ length s.cleared
-  pub told : (a : ℕ) → get_or flags a false ≡ is_marked (mark_at s a)
+-- the room of a set of so many alerts
+abbrev pub room_for : ℕ → ℕ
+room_for n = 64 * (n / 64 + 1)
+
+-- the alerts in this set are those of which something is marked
+pub record AreMarked (s : MarkSets) (set : List ℕ) : Type 0 where
+  pub room : room set ≡ room_for (length s.cleared)
+  pub told : (a : ℕ) → numbers.is_marked set a ≡ is_marked (mark_at s a)
 
 -- the crew made something of it
 abbrev pub is_touched : Mark → Bool
@@ -36,11 +42,6 @@ is_touched m = m.cleared || (m.cancelled || m.recalled)
 pub record TellTouched (s : MarkSets) (flags : List Bool) : Type 0 where
   pub many : length flags ≡ length s.cleared
   pub told : (a : ℕ) → get_or flags a false ≡ is_touched (mark_at s a)
-
--- the alert is shown exactly where it is among those that are up, and the crew made nothing of it
-pub record IsSettled (s : MarkSets) (up : List Bool) (a : ℕ) : Type 0 where
-  pub shown : get_or up a false ≡ get_or s.shown a false
-  pub untouched : is_touched (mark_at s a) ≡ false
 
 -- the alert has a mark
 pub record HasMark (s : MarkSets) (a : ℕ) : Type 0 where

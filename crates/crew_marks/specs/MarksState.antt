@@ -1,5 +1,5 @@
 -- When marks stand for what the crew did in the moments so far.
-use Rattle.std.specs.Prelude.{◌≡◌, ℕ, ◌<◌, Bool, true, false, List, length, get_or, find, IfSome}
+use Rattle.std.specs.Prelude.{◌≡◌, ◌↔◌, ℕ, suc, ◌+◌, ◌<◌, not, ◌&&◌, Bool, true, false, List, length, get_or, find, IfSome}
 use Rattle.ecam_spec.specs.declared.kinds.Key.TheVariants.{Clr, Rcl, Emer}
 use Rattle.ecam_spec.specs.Past.{previous, running_since, last_since, previously}
 use Rattle.ecam_spec.specs.Levels.{is_caution_level}
@@ -12,7 +12,7 @@ use Rattle.ecam_kinds.specs.declared.keys.Keys.{Keys}
 use Rattle.ecam_kinds.specs.KeyState.{is_pressed, is_held}
 use Rattle.crew_marks.specs.declared.mark.Mark.{Mark}
 use Rattle.crew_marks.specs.MarkSets.{mark_at, AreMany}
-use Rattle.crew_marks.specs.CrewMarks.{CrewMarks, is_cleared, is_recalled, is_shown}
+use Rattle.crew_marks.specs.CrewMarks.{CrewMarks, is_cleared, is_cancelled, is_recalled, is_shown, strikes}
 
 -- the cockpit is one of the book: its alerts, their order, and which of them are cautions
 pub record IsCrewOf (b : Book) (c : Cockpit) : Type 0 where
@@ -71,3 +71,19 @@ pub record OnlyCleared (m : CrewMarks) (waits : List Bool) (a : ℕ) : Type 0 wh
   pub cleared : is_cleared m a ≡ true
   pub recalled : is_recalled m a ≡ false
   pub waiting : get_or waits a false ≡ false
+
+-- one moment more is taken, in which these are up and wait
+pub record TakesMoment (b : Book) (ups waits : List Bool) (keys : Keys) (enters : Bool) (old new : CrewMarks) : Type 0 where
+  pub fits : MarksFit b new
+  pub moments : new.moments ≡ old.moments + 1
+  -- whatever the moments before were, all is as the definitions say of all of them
+  pub stands : (c : Cockpit) (k : ℕ) → IsCrewOf b c → SeesCrew c k ups waits keys enters
+      → MarksStand b c k old → MarksStand b c (suc k) new
+  pub changed : (new.changed ≡ false) ↔ (new.sets ≡ old.sets)
+  -- what was only cleared stays hidden without a press of RCL, and with one is shown where it is up and not cancelled
+  pub hidden : is_pressed keys Rcl ≡ false → (a : ℕ) → OnlyCleared old waits a → is_shown new a ≡ false
+  pub restored : is_pressed keys Rcl ≡ true → (a : ℕ) → OnlyCleared old waits a
+      → is_shown new a ≡ (get_or ups a false && not (is_cancelled new a))
+  -- what waits is shown with a press of RCL where CLR doesn't strike it, and it isn't cancelled
+  pub recalled : is_pressed keys Rcl ≡ true → (a : ℕ) → get_or waits a false ≡ true
+      → is_shown new a ≡ (not (strikes old keys a) && not (is_cancelled new a))

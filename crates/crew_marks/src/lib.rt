@@ -2,11 +2,11 @@
 //! and shown, the target of the next press, and NORMAL.
 #![tactic(auto)]
 
+mod looked;
 mod mark;
 mod marks;
 mod sets;
 mod stretch;
-mod unsettled;
 mod walk;
 
 pub use marks::Marks;

@@ -5,18 +5,23 @@ ghost use Rattle.ecam_spec.specs.Book as plain;
 ghost use Rattle.ecam_spec.specs.Past.{Signal, previous, previously, last_since};
 ghost use Rattle.ecam_spec.specs.Crew.{Cockpit, normal};
 ghost use Rattle.ecam_kinds.specs.KeyState.{is_pressed};
+ghost use Rattle.wakes.specs.Marks.{room};
 ghost use Rattle.book_model.specs.Sealed.{the_book};
 ghost use Rattle.crew_marks.specs.CrewMarks.{CanGoOn, EndsMoment, is_shown, is_cancelled, strikes, stands_normal, IsSettled};
-ghost use Rattle.crew_marks.specs.MarksState.{IsCrewOf, SeesCrew, AreStill, NothingActs, MarksFit, MarksStand, OnlyCleared};
+ghost use Rattle.crew_marks.specs.MarkSets.{room_for};
+ghost use Rattle.crew_marks.specs.Looked.{AreAmong, HoldsNear};
+ghost use Rattle.crew_marks.specs.MarksState.{IsCrewOf, SeesCrew, AreStill, NothingActs, MarksFit, MarksStand, OnlyCleared, TakesMoment};
 
+use crate::looked::take;
 use crate::mark::actions_of;
 use crate::sets::Sets;
 use crate::stretch::{is_normal, press_after, restores, running_after};
-use crate::walk::{Walked, walk, walk_still};
+use crate::walk::{Walked, walk};
 use book_model::Book;
 use ecam_kinds::{Key, Keys};
 use std::alloc::{AllocError, Global};
 use std::marker::Model;
+use wakes::Marked;
 
 /// What the crew made of a book's alerts in the moments so far: which are cleared, cancelled, recalled and shown, the
 /// target of CLR and EMER CANC, and NORMAL. Memory is taken in `new` alone, and nothing grows with the history: of the
@@ -24,6 +29,8 @@ use std::marker::Model;
 #[derive(Drop)]
 pub struct Marks {
     sets: Sets,
+    // Room for the alerts that are looked at in a moment.
+    looked: Marked,
     target: Option<u32>,
     first: Option<u32>,
     changed: bool,
@@ -33,6 +40,9 @@ pub struct Marks {
 }
 
 impl Model for Marks {
+    ghost use Rattle.std.specs.Prelude.{◌≡◌, length};
+    ghost use Rattle.wakes.specs.Marks.{room};
+    ghost use Rattle.crew_marks.specs.MarkSets.{room_for};
     ghost use Rattle.crew_marks.specs.CrewMarks.{CrewMarks};
 
     ghost Value = { CrewMarks };
@@ -46,6 +56,8 @@ impl Model for Marks {
       held_since = m.held_since;
       quiet_press = m.quiet_press;
     } };
+
+    ghost invariant = { λ m. room m.looked ≡ room_for (length m.sets.cleared) };
 }
 
 impl Marks {
@@ -56,8 +68,11 @@ impl Marks {
         ensures stands { IfOk result (λ m. (c : Cockpit) → MarksStand (the_book book.now) c 0 m) }
         ensures changed { IfOk result (λ m. m.changed ≡ false) }
     {
+        book.sealed();
+        let alerts = book.alerts().len();
         Ok(Marks {
-            sets: Sets::new(alloc, book.alerts().len())?,
+            sets: Sets::new(alloc, alerts)?,
+            looked: Marked::new(alloc, alerts)?,
             target: None,
             first: None,
             changed: false,
@@ -99,7 +114,7 @@ impl Marks {
     }
 
     /// Takes one moment more, of 100 ms: which alerts are up and which wait in it, the keys of the moment, and whether
-    /// phase 1 starts with it. Its cost is one look at each alert, and a write for each mark that changes.
+    /// phase 1 starts with it. Its cost is two looks at each alert beside that of `step_among`.
     pub fn step(
         &mut self,
         book: &Book,
@@ -138,25 +153,108 @@ impl Marks {
             → is_shown self.new a ≡ (not (strikes self.old keys.now a)
             && not (is_cancelled self.new a)) }
     {
-        let held_since = running_after(self.held_since, keys.held(Key::Rcl), self.moments);
-        let actions = actions_of(keys, restores(held_since, self.moments, enters_one));
-        let walked = walk(&mut self.sets, book, up, waiting, self.first, &actions);
-        self.end_moment(walked, actions.rcl, held_since);
+        self.step_by(book, up, waiting, None, keys, enters_one);
     }
 
-    /// Takes one moment more like `step`, where each alert is up and waits as in the moment before. It looks at no alert
-    /// unless CLR, RCL or EMER CANC is pressed or what was cancelled is restored.
-    pub fn step_still(
+    /// Takes one moment more like `step`, where each alert that is up or waits is near. Its cost is two writes and a look for
+    /// each 64 alerts, a few looks at each that is near and each of which something is marked, and a write for each mark that
+    /// changes; where one does, a look at each alert up to the first that is shown then, or at each where none is.
+    pub fn step_among(
         &mut self,
         book: &Book,
         up: &[bool],
         waiting: &[bool],
+        near: &Marked,
         keys: &Keys,
         enters_one: bool,
     )
         requires fits { MarksFit (the_book book.now) self.old }
         requires up { length up.now ≡ length (the_book book.now).alerts }
         requires waiting { length waiting.now ≡ length (the_book book.now).alerts }
+        requires near_room { room near.now ≡ room_for (length (the_book book.now).alerts) }
+        requires up_near { AreAmong up.now near.now }
+        requires waiting_near { AreAmong waiting.now near.now }
+        requires moments { CanGoOn self.old }
+        ensures fits { MarksFit (the_book book.now) self.new }
+        ensures moments { self.new.moments ≡ self.old.moments + 1 }
+        // Whatever the moments before were, all is as the definitions say of all of them.
+        ensures stands { (c : Cockpit) (k : ℕ) → IsCrewOf (the_book book.now) c
+            → SeesCrew c k up.now waiting.now keys.now enters_one
+            → MarksStand (the_book book.now) c k self.old
+            → MarksStand (the_book book.now) c (suc k) self.new }
+        ensures changed { (self.new.changed ≡ false) ↔ (self.new.sets ≡ self.old.sets) }
+
+        // An alert that was cleared, and neither was recalled nor waits: without a press of RCL it stays hidden, and with
+        // one it is shown where it is up and not cancelled. In a replay each cleared alert is one of these: it is active.
+        ensures hidden { is_pressed keys.now Rcl ≡ false → (a : ℕ)
+            → OnlyCleared self.old waiting.now a
+            → is_shown self.new a ≡ false }
+        ensures restored { is_pressed keys.now Rcl ≡ true → (a : ℕ)
+            → OnlyCleared self.old waiting.now a
+            → is_shown self.new a ≡ (slice_index_or up.now a false
+            && not (is_cancelled self.new a)) }
+
+        // An alert that waits: with a press of RCL it is shown where CLR doesn't strike it in this moment, and it isn't
+        // cancelled.
+        ensures recalled { is_pressed keys.now Rcl ≡ true → (a : ℕ)
+            → slice_index_or waiting.now a false ≡ true
+            → is_shown self.new a ≡ (not (strikes self.old keys.now a)
+            && not (is_cancelled self.new a)) }
+    {
+        self.step_by(book, up, waiting, Some(near), keys, enters_one);
+    }
+
+    // Takes one moment more, where it may be known which alerts are near.
+    fn step_by(
+        &mut self,
+        book: &Book,
+        up: &[bool],
+        waiting: &[bool],
+        near: Option<&Marked>,
+        keys: &Keys,
+        enters_one: bool,
+    )
+        requires fits { MarksFit (the_book book.now) self.old }
+        requires up { length up.now ≡ length (the_book book.now).alerts }
+        requires waiting { length waiting.now ≡ length (the_book book.now).alerts }
+        requires near { IfSome near (λ n. HoldsNear (length (the_book book.now).alerts) up.now
+            waiting.now n.now) }
+        requires moments { CanGoOn self.old }
+        ensures { TakesMoment (the_book book.now) up.now waiting.now keys.now enters_one self.old
+            self.new }
+    {
+        let held_since = running_after(self.held_since, keys.held(Key::Rcl), self.moments);
+        let actions = actions_of(keys, restores(held_since, self.moments, enters_one));
+        take(&mut self.looked, near, up, waiting);
+        let walked = walk(
+            &mut self.sets,
+            &mut self.looked,
+            book,
+            up,
+            waiting,
+            self.first,
+            &actions,
+        );
+        self.end_moment(walked, actions.rcl, held_since);
+    }
+
+    /// Takes one moment more like `step_among`, where each alert is up and waits as in the moment before. It looks at no
+    /// alert unless CLR, RCL or EMER CANC is pressed or what was cancelled is restored.
+    pub fn step_still(
+        &mut self,
+        book: &Book,
+        up: &[bool],
+        waiting: &[bool],
+        near: &Marked,
+        keys: &Keys,
+        enters_one: bool,
+    )
+        requires fits { MarksFit (the_book book.now) self.old }
+        requires up { length up.now ≡ length (the_book book.now).alerts }
+        requires waiting { length waiting.now ≡ length (the_book book.now).alerts }
+        requires near_room { room near.now ≡ room_for (length (the_book book.now).alerts) }
+        requires up_near { AreAmong up.now near.now }
+        requires waiting_near { AreAmong waiting.now near.now }
         requires moments { CanGoOn self.old }
         ensures fits { MarksFit (the_book book.now) self.new }
         ensures moments { self.new.moments ≡ self.old.moments + 1 }
@@ -169,7 +267,11 @@ impl Marks {
     {
         let held_since = running_after(self.held_since, keys.held(Key::Rcl), self.moments);
         let actions = actions_of(keys, restores(held_since, self.moments, enters_one));
-        let walked = walk_still(&mut self.sets, book, up, waiting, self.first, &actions);
+        if actions.act() {
+            self.step_among(book, up, waiting, near, keys, enters_one);
+            return;
+        }
+        let walked = Walked::unchanged(self.first);
         self.end_moment(walked, actions.rcl, held_since);
     }
 

@@ -1,13 +1,16 @@
 // The marks of all alerts.
-ghost use Rattle.std.specs.Prelude.{◌≡◌, ◌↔◌, ℕ, true, false, length, replicate, slice_index_or, IfOk};
+ghost use Rattle.std.specs.Prelude.{◌≡◌, ◌↔◌, ℕ, ◌<◌, ◌^◌, ◌||◌, ◌==◌, true, false, length, replicate, slice_index_or, if◌then◌else◌, IfOk};
 ghost use Rattle.std.specs.Box.{boxed_slice_items};
-ghost use Rattle.crew_marks.specs.MarkSets.{mark_at, set_mark, is_marked, is_touched, HasMark, AreMany};
+ghost use Rattle.wakes.specs.Marks as numbers;
+ghost use Rattle.wakes.specs.Marks.{room};
+ghost use Rattle.crew_marks.specs.MarkSets.{mark_at, set_mark, is_marked, is_touched, room_for, HasMark, AreMany};
 ghost use Rattle.crew_marks.specs.MarkStep.{mark_after};
 
 use crate::mark::{Actions, Mark, Sight};
 use std::alloc::{AllocError, Global};
 use std::boxed::BoxedSlice;
 use std::marker::Model;
+use wakes::Marked;
 
 /// By alert: whether it is cleared, cancelled, recalled, and shown.
 #[derive(Drop)]
@@ -16,15 +19,15 @@ pub struct Sets {
     cancelled: BoxedSlice<bool>,
     recalled: BoxedSlice<bool>,
     shown: BoxedSlice<bool>,
-    // Whether it is any of these, so that one look finds an alert without a mark.
-    marked: BoxedSlice<bool>,
+    // Those that are any of these, so that a walk finds them without a look at the others.
+    marked: Marked,
     // Whether the crew made something of it, so that one look more finds one that is shown as long as it is up.
     touched: BoxedSlice<bool>,
 }
 
 impl Model for Sets {
     ghost use Rattle.std.specs.Box.{boxed_slice_items};
-    ghost use Rattle.crew_marks.specs.MarkSets.{MarkSets, TellMarked, TellTouched};
+    ghost use Rattle.crew_marks.specs.MarkSets.{MarkSets, AreMarked, TellTouched};
 
     ghost Value = { MarkSets };
 
@@ -35,12 +38,12 @@ impl Model for Sets {
       shown = boxed_slice_items s.shown;
     } };
 
-    ghost invariant = { λ s. TellMarked (record {
+    ghost invariant = { λ s. AreMarked (record {
       cleared = boxed_slice_items s.cleared;
       cancelled = boxed_slice_items s.cancelled;
       recalled = boxed_slice_items s.recalled;
       shown = boxed_slice_items s.shown;
-    }) (boxed_slice_items s.marked) × TellTouched (record {
+    }) s.marked × TellTouched (record {
       cleared = boxed_slice_items s.cleared;
       cancelled = boxed_slice_items s.cancelled;
       recalled = boxed_slice_items s.recalled;
@@ -51,6 +54,7 @@ impl Model for Sets {
 impl Sets {
     /// The marks of so many alerts, none of which is marked.
     pub fn new(alloc: Global, alerts: usize) -> Result<Sets, AllocError>
+        requires { alerts < 2 ^ 32 }
         ensures cleared { IfOk result (λ s. s.cleared ≡ replicate alerts false) }
         ensures cancelled { IfOk result (λ s. s.cancelled ≡ replicate alerts false) }
         ensures recalled { IfOk result (λ s. s.recalled ≡ replicate alerts false) }
@@ -61,7 +65,7 @@ impl Sets {
             cancelled: none(alloc, alerts)?,
             recalled: none(alloc, alerts)?,
             shown: none(alloc, alerts)?,
-            marked: none(alloc, alerts)?,
+            marked: Marked::new(alloc, alerts)?,
             touched: none(alloc, alerts)?,
         })
     }
@@ -88,7 +92,7 @@ impl Sets {
         self.cancelled[alert] = mark.cancelled;
         self.recalled[alert] = mark.recalled;
         self.shown[alert] = mark.shown;
-        self.marked[alert] = mark.is_marked();
+        put(&mut self.marked, alert, mark.is_marked());
         self.touched[alert] = mark.is_touched();
     }
 
@@ -108,22 +112,6 @@ impl Sets {
         true
     }
 
-    /// Whether an alert is shown.
-    pub fn is_shown(&self, alert: usize) -> bool
-        requires { HasMark self.now alert }
-        ensures { result ≡ slice_index_or self.now.shown alert false }
-    {
-        self.shown[alert]
-    }
-
-    /// Whether an alert has any mark.
-    pub fn is_marked(&self, alert: usize) -> bool
-        requires { HasMark self.now alert }
-        ensures { result ≡ is_marked (mark_at self.now alert) }
-    {
-        self.marked[alert]
-    }
-
     /// Whether an alert is shown exactly where it is up, and the crew made nothing of it.
     pub fn is_settled(&self, alert: usize, up: bool) -> bool
         requires { HasMark self.now alert }
@@ -140,12 +128,12 @@ impl Sets {
         ensures recalled { self.new.recalled ≡ replicate (length self.old.recalled) false }
         ensures shown { self.new.shown ≡ replicate (length self.old.shown) false }
     {
-        self.cleared.as_mut_slice().fill(false);
-        self.cancelled.as_mut_slice().fill(false);
-        self.recalled.as_mut_slice().fill(false);
-        self.shown.as_mut_slice().fill(false);
-        self.marked.as_mut_slice().fill(false);
-        self.touched.as_mut_slice().fill(false);
+        unset(&mut self.cleared);
+        unset(&mut self.cancelled);
+        unset(&mut self.recalled);
+        unset(&mut self.shown);
+        self.marked.clear();
+        unset(&mut self.touched);
     }
 
     /// The marks of others, of which there are as many.
@@ -165,12 +153,20 @@ impl Sets {
         self.shown
             .as_mut_slice()
             .copy_from_slice(other.shown.as_slice());
-        self.marked
-            .as_mut_slice()
-            .copy_from_slice(other.marked.as_slice());
+        self.marked.copy_from(&other.marked);
         self.touched
             .as_mut_slice()
             .copy_from_slice(other.touched.as_slice());
+    }
+
+    /// Puts those that are marked into a set.
+    pub fn join_to(&self, set: &mut Marked)
+        requires { room set.old ≡ room_for (length self.now.cleared) }
+        ensures room { room set.new ≡ room set.old }
+        ensures marks { (a : ℕ) → numbers.is_marked set.new a
+            ≡ (numbers.is_marked set.old a || is_marked (mark_at self.now a)) }
+    {
+        set.join(&self.marked);
     }
 
     /// Which alerts are cleared.
@@ -208,4 +204,26 @@ fn none(alloc: Global, alerts: usize) -> Result<BoxedSlice<bool>, AllocError>
 {
     let flags = vec![in alloc; false; alerts]?;
     Ok(flags.into_boxed_slice())
+}
+
+// From now on no flag is set.
+fn unset(flags: &mut BoxedSlice<bool>)
+    ensures { boxed_slice_items flags.new
+        ≡ replicate (length (boxed_slice_items flags.old)) false }
+{
+    flags.as_mut_slice().fill(false);
+}
+
+// Puts a number in or takes it out.
+fn put(set: &mut Marked, place: usize, on: bool)
+    requires { place < room set.old }
+    ensures room { room set.new ≡ room set.old }
+    ensures marks { (j : ℕ) → numbers.is_marked set.new j
+        ≡ (if j == place then on else numbers.is_marked set.old j) }
+{
+    if on {
+        set.mark(place);
+    } else {
+        set.unmark(place);
+    }
 }

@@ -1,16 +1,19 @@
-// A walk over the alerts in their order.
-ghost use Rattle.std.specs.Prelude.{◌≡◌, ◌↔◌, ℕ, ◌<◌, true, false, not, ◌||◌, length, find, slice_index_or, IfSome};
+// One moment of the marks of all alerts.
+ghost use Rattle.std.specs.Prelude.{◌≡◌, ◌↔◌, ℕ, ◌<◌, false, length, find, slice_index_or, All};
 ghost use Rattle.ecam_spec.specs.Levels.{is_caution_level};
 ghost use Rattle.ecam_spec.specs.Screen.{order};
+ghost use Rattle.wakes.specs.Marks.{room};
 ghost use Rattle.book_model.specs.Sealed.{the_book};
-ghost use Rattle.crew_marks.specs.MarkSets.{mark_at, set_mark, is_marked, HasMark, AreMany};
-ghost use Rattle.crew_marks.specs.MarkStep.{mark_after, sight_of, acts};
+ghost use Rattle.crew_marks.specs.MarkSets.{mark_at, set_mark, room_for, HasMark, AreMany};
+ghost use Rattle.crew_marks.specs.MarkStep.{mark_after, sight_of};
+ghost use Rattle.crew_marks.specs.Looked.{AreAmong};
 
+use crate::looked::step_looked;
 use crate::mark::{Actions, Sight};
 use crate::sets::Sets;
-use crate::unsettled::walk_quiet;
 use book_model::Book;
 use ecam_kinds::Level;
+use wakes::Marked;
 
 /// What a walk over the alerts found.
 #[derive(Clone, Copy, Debug)]
@@ -34,10 +37,13 @@ impl Walked {
     }
 }
 
-/// Steps the mark of each alert by one moment, where the target is the first that is shown before it. Its cost is one look at
-/// each alert, a few more at those of which something may turn, and a write for each mark that changes.
+/// Steps the marks by one moment, where the target is the first alert that is shown before it, and those that are up or wait
+/// are among those that are looked at. Its cost is a write and a look for each 64 alerts, a few looks at each of these and at
+/// each that is marked, a write for each mark that changes, and where one does, a look at each up to the first that is shown
+/// then, or at each where none is.
 pub fn walk(
     sets: &mut Sets,
+    looked: &mut Marked,
     book: &Book,
     up: &[bool],
     waiting: &[bool],
@@ -45,12 +51,15 @@ pub fn walk(
     actions: &Actions,
 ) -> Walked
     requires many { AreMany sets.old (length (the_book book.now).alerts) }
+    requires room { room looked.old ≡ room_for (length (the_book book.now).alerts) }
     requires up { length up.now ≡ length (the_book book.now).alerts }
     requires waiting { length waiting.now ≡ length (the_book book.now).alerts }
-    requires target { IfSome target (λ a. slice_index_or sets.old.shown a false ≡ true) }
-    requires first { target
+    requires looks_up { AreAmong up.now looked.old }
+    requires looks_waiting { AreAmong waiting.now looked.old }
+    requires target { target
         ≡ find (λ a. slice_index_or sets.old.shown a false) (order (the_book book.now)) }
     ensures many { AreMany sets.new (length (the_book book.now).alerts) }
+    ensures room { room looked.new ≡ room looked.old }
     ensures marks { (a : ℕ) → a < length (the_book book.now).alerts → mark_at sets.new a
         ≡ mark_after (mark_at sets.old a) (sight_of (the_book book.now) up.now waiting.now target a)
         actions.now }
@@ -58,80 +67,31 @@ pub fn walk(
         ≡ find (λ a. slice_index_or sets.new.shown a false) (order (the_book book.now)) }
     ensures changed { (result.changed ≡ false) ↔ (sets.new ≡ sets.old) }
 {
-    if actions.act() {
-        return walk_all(sets, book, up, waiting, target, actions);
+    sets.join_to(looked);
+    let changed = step_looked(sets, looked, book, up, waiting, target, actions);
+    if !changed {
+        return Walked::unchanged(target);
     }
-    walk_quiet(sets, book, up, waiting, target, actions)
-}
-
-// Steps the mark of each alert, where the target is shown before it. Its cost is one look at each alert, a few more at those
-// that are up, wait or are marked, and a write for each mark that changes.
-fn walk_all(
-    sets: &mut Sets,
-    book: &Book,
-    up: &[bool],
-    waiting: &[bool],
-    target: Option<u32>,
-    actions: &Actions,
-) -> Walked
-    requires many { AreMany sets.old (length (the_book book.now).alerts) }
-    requires up { length up.now ≡ length (the_book book.now).alerts }
-    requires waiting { length waiting.now ≡ length (the_book book.now).alerts }
-    requires target { IfSome target (λ a. slice_index_or sets.old.shown a false ≡ true) }
-    ensures many { AreMany sets.new (length (the_book book.now).alerts) }
-    ensures marks { (a : ℕ) → a < length (the_book book.now).alerts → mark_at sets.new a
-        ≡ mark_after (mark_at sets.old a) (sight_of (the_book book.now) up.now waiting.now target a)
-        actions.now }
-    ensures first { result.first
-        ≡ find (λ a. slice_index_or sets.new.shown a false) (order (the_book book.now)) }
-    ensures changed { (result.changed ≡ false) ↔ (sets.new ≡ sets.old) }
-{
-    let order = book.order();
-    let mut first = None;
-    let mut changed = false;
-    for place in order {
-        // Most are idle, and not shown. The target is none of them.
-        if is_idle(sets, up, waiting, *place) {
-            continue;
-        }
-        let turned = step_one(sets, book, up, waiting, target, *place, actions);
-        changed |= turned;
-        first = first.or(sets.is_shown(*place as usize).then_some(*place));
-    }
+    let first = first_shown(sets, book.order());
     Walked { first, changed }
 }
 
-/// Steps the marks where each alert is up and waits as in the moment before, and `first` is the first that is shown. Where
-/// the crew does nothing in the moment each mark stays as it is, and no alert is looked at.
-pub fn walk_still(
-    sets: &mut Sets,
-    book: &Book,
-    up: &[bool],
-    waiting: &[bool],
-    first: Option<u32>,
-    actions: &Actions,
-) -> Walked
-    requires many { AreMany sets.old (length (the_book book.now).alerts) }
-    requires up { length up.now ≡ length (the_book book.now).alerts }
-    requires waiting { length waiting.now ≡ length (the_book book.now).alerts }
-    requires first { IfSome first (λ a. slice_index_or sets.old.shown a false ≡ true) }
-    ensures many { AreMany sets.new (length (the_book book.now).alerts) }
-    ensures rests { acts actions.now ≡ false → (sets.new ≡ sets.old) × (result.first ≡ first) }
-    ensures marks { acts actions.now ≡ true → (a : ℕ) → a < length (the_book book.now).alerts
-        → mark_at sets.new a
-        ≡ mark_after (mark_at sets.old a) (sight_of (the_book book.now) up.now waiting.now first a)
-        actions.now }
-    ensures first { acts actions.now ≡ true → result.first
-        ≡ find (λ a. slice_index_or sets.new.shown a false) (order (the_book book.now)) }
-    ensures changed { (result.changed ≡ false) ↔ (sets.new ≡ sets.old) }
+// The first alert in order that is shown.
+fn first_shown(sets: &Sets, order: &[u32]) -> Option<u32>
+    requires { All (λ a. a < length sets.now.shown) order.now }
+    ensures { result ≡ find (λ a. slice_index_or sets.now.shown a false) order.now }
 {
-    if actions.act() {
-        return walk_all(sets, book, up, waiting, first, actions);
+    let shown = sets.shown();
+    for place in order {
+        if shown[*place as usize] {
+            return Some(*place);
+        }
     }
-    Walked::unchanged(first)
+    None
 }
 
-/// Steps the mark of one alert, and answers whether that changed it.
+/// Steps the mark of one alert, and answers whether that changed it. Its cost is two looks where the crew does nothing and
+/// the alert is shown exactly where it is up, untouched by the crew.
 pub fn step_one(
     sets: &mut Sets,
     book: &Book,
@@ -149,21 +109,12 @@ pub fn step_one(
         (sight_of (the_book book.now) up.now waiting.now target place) actions.now) }
     ensures changed { (result ≡ false) ↔ (sets.new ≡ sets.old) }
 {
-    let sight = look(book, up, waiting, target, place);
-    sets.step(place as usize, &sight, actions)
-}
-
-// Whether an alert isn't up, doesn't wait and has no mark. If it isn't the target either, it stays so whatever the crew
-// does.
-fn is_idle(sets: &Sets, up: &[bool], waiting: &[bool], place: u32) -> bool
-    requires has { HasMark sets.now place }
-    requires up { place < length up.now }
-    requires waiting { place < length waiting.now }
-    ensures { result ≡ not (slice_index_or up.now place false
-        || (slice_index_or waiting.now place false || is_marked (mark_at sets.now place))) }
-{
     let alert = place as usize;
-    !(up[alert] | (waiting[alert] | sets.is_marked(alert)))
+    if !actions.act() && sets.is_settled(alert, up[alert]) {
+        return false;
+    }
+    let sight = look(book, up, waiting, target, place);
+    sets.step(alert, &sight, actions)
 }
 
 // How an alert stands in the moment.

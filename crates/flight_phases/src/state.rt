@@ -41,9 +41,8 @@ impl PhaseState {
         }
     }
 
-    /// Whether one moment more with the inputs of the last one has its phase too, in a few comparisons. The
-    /// phase turns there only if the aircraft has been parked after a trip for so long that the five minutes
-    /// end. Before the first moment the answer is no.
+    /// Whether it is known that one moment more with the inputs of the last one has its phase too, in a few
+    /// comparisons.
     pub fn stays(&self) -> bool
         // Whatever the moments before were, the definition over all of them has the same phase once more.
         ensures { result ≡ true → (f : Flight) (k : ℕ) → Stands f (suc k) self.now → SameInputs f k
@@ -56,8 +55,7 @@ impl PhaseState {
     }
 
     /// Takes one moment more, of 100 ms, whose inputs are those of the last one, in a few comparisons: the
-    /// state is then as `step` would leave it. Only on ground with no engine running is something counted.
-    /// Before the first moment it changes nothing.
+    /// state then stands for that moment too.
     pub fn rest(&mut self)
         ensures { (f : Flight) (k : ℕ) → SameInputs f k → Stands f (suc k) self.old
             → Stands f (suc (suc k)) self.new }

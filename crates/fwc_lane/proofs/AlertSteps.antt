@@ -1,9 +1,8 @@
 -- One alert more is stepped.
-use Rattle.std.proofs.Common.{◌≡◌, ◌≢◌, ℕ, zero, suc, ◌+◌, ◌-◌, ◌^◌, ◌<◌, ◌≤◌, min, Bool, true, false, not, ◌&&◌, None, is_some, List, length, take, get_or, slice_get, Some, refl, sym, ap, subst, ◌∙◌, arith}
+use Rattle.std.proofs.Common.{◌≡◌, ℕ, zero, suc, ◌+◌, ◌-◌, ◌^◌, ◌<◌, ◌≤◌, Bool, true, false, not, ◌&&◌, None, is_some, List, length, take, get_or, slice_get, Some, refl, sym, ap, subst, ◌∙◌, arith}
 use Rattle.ecam_spec.specs.Book as plain
 use Rattle.ecam_spec.specs.Past.{previous}
-use Rattle.ecam_spec.specs.Term.{World, holds}
-use Rattle.ecam_spec.specs.TermSize.{nodes}
+use Rattle.ecam_spec.specs.Term.{holds}
 use Rattle.ecam_spec.specs.History.{Moment}
 use Rattle.ecam_spec.specs.Situation as situation
 use Rattle.ecam_spec.specs.Situation.{condition_in, phase_in, active_in, alert_world, known_below}
@@ -27,14 +26,14 @@ use Rattle.term_eval.specs.Woken.{Operand, moved, differ}
 use Rattle.condition_codes.specs.Places.{nodes_before}
 use Rattle.fwc_lane.specs.declared.terms.Terms.{Terms}
 use Rattle.wakes.specs.Marks.{is_marked}
-use Rattle.alert_truth.proofs.Stepping.{half-rests}
+use Rattle.alert_truth.proofs.Stepping.{half-rests, moment-begins}
 use Rattle.fwc_lane.specs.Waking.{NoneMarked}
 use Rattle.fwc_lane.specs.Conditions.{IsLeft, HalfStepped, StepsTerm, TellsMoved, BookHalf, AlertsHalf, known_world}
 use Rattle.fwc_lane.specs.Given.{Lends}
 use Rattle.fwc_lane.proofs.Showing.{shows-own, active-is}
 use Rattle.fwc_lane.proofs.Stages.{same-tells}
 use Rattle.fwc_lane.proofs.Known.{alert-known}
-use Rattle.fwc_lane.proofs.Stepping.{half-rest, half-calm, rest-holds, calm-holds}
+use Rattle.fwc_lane.proofs.Stepping.{half-rest, rest-holds}
 use Rattle.fwc_lane.proofs.Awake.{awake-off}
 use Rattle.fwc_lane.proofs.FlagSteps.{with-item}
 
@@ -103,21 +102,18 @@ module _ (d : Draft) (sealed : IsSealed d) (m : ℕ → Moment) (k visited : ℕ
     own-left : IsLeft (world_of (the_book d) m (alerts_from + a)) hits k (alerts_from + a) (nodes_before (places (the_book d)) (alerts_from + a)) (placed_of x.when) terms
     own-left = was.left (alerts_from + a) (placed_of x.when) (let w : alerts_from + a ≤ alerts_from + a = omega arith in w) at-place
 
-    own : World
-    own = world_of (the_book d) m (alerts_from + a)
-
-    -- a condition that holds where it held, and is asked
-    module _ (after : Terms) (later : k ≢ 0) (keeps : (h : ℕ) → k ≡ suc h → holds own (tree_in x.when) h ≡ holds own (tree_in x.when) k)
-        (next : BookHalf (the_book d) m k (alerts_from + suc a) (suc a) visited after) where
+    -- one whose condition isn't stirred
+    module _ (off : is_marked terms.stirred (alerts_from + a) ≡ false) where
       same-condition : (h : ℕ) → k ≡ suc h → condition_in (the_book d) m a h ≡ condition_in (the_book d) m a k
-      unfolding condition_in situation.condition own
+      unfolding condition_in situation.condition hits
       same-condition h e =
           ap (λ (y : plain.Alert). holds (alert_world (the_book d) m (known_below (the_book d) m a)) y.when h) (alert-read d d.alerts.items a x refl within here)
-          ∙ subst (λ w. holds w (tree_in x.when) h ≡ holds w (tree_in x.when) k) own-world-is (keeps h e)
+          ∙ subst (λ w. holds w (tree_in x.when) h ≡ holds w (tree_in x.when) k) own-world-is
+          (rest-holds (world_of (the_book d) m (alerts_from + a)) hits k h (alerts_from + a) (nodes_before (places (the_book d)) (alerts_from + a)) (placed_of x.when) terms small e tells-own own-left off)
           ∙ sym (ap (λ (y : plain.Alert). holds (alert_world (the_book d) m (known_below (the_book d) m a)) y.when k) (alert-read d d.alerts.items a x refl within here))
 
       truths-rest : (n : ℕ) → k ≡ n → HalfStand (the_book d) (condition_in (the_book d) m) (phase_in (the_book d) m) k (suc a) t
-      truths-rest zero e = absurd (later e)
+      truths-rest zero e = absurd (let w : ⊥ = (let clash : true ≡ false = sym (own-left.stirs e) ∙ off in cc) in w)
       truths-rest (suc h) e =
           subst (λ n. HalfStand (the_book d) (condition_in (the_book d) m) (phase_in (the_book d) m) n (suc a) t) (sym e)
           (half-rests (the_book d) (condition_in (the_book d) m) (phase_in (the_book d) m) h a t there
@@ -130,38 +126,22 @@ module _ (d : Draft) (sealed : IsSealed d) (m : ℕ → Moment) (k visited : ℕ
       same-active h e =
           sym (active-is (the_book d) m a k) ∙ sym ((truths-rest k refl).stepped a (omega arith)).active ∙ was-active (the_book d) m k h a t e there half.alerts
 
-      alert-kept : AlertsHalf (the_book d) m k (suc a) visited after t
-      alert-kept = record {
-        terms = alert-known d sealed m k visited after after a there false (active_in (the_book d) m a k) (active_in (the_book d) m a k) refl
-            (awake-off (the_book d) (length (the_book d).parameters + a) (λ o. Flag (active_in (the_book d) m a k)) after false refl)
+      next : BookHalf (the_book d) m k (alerts_from + suc a) (suc a) visited terms
+      unfolding hits
+      next =
+          let e : suc (alerts_from + a) ≡ alerts_from + suc a = omega arith in
+          subst (λ n. BookHalf (the_book d) m k n (suc a) visited terms) e
+          (half-rest (places (the_book d)) (world_of (the_book d) m) k (alerts_from + a) (placed_of x.when) at-place hits visited terms small tells-own off was)
+
+      alert-off : AlertsHalf (the_book d) m k (suc a) visited terms t
+      alert-off = record {
+        terms = alert-known d sealed m k visited terms terms a there false (active_in (the_book d) m a k) (active_in (the_book d) m a k) refl
+            (awake-off (the_book d) (length (the_book d).parameters + a) (λ o. Flag (active_in (the_book d) m a k)) terms false refl)
             (sym (differ-self (active_in (the_book d) m a k))) (λ h e. same-active h e) next;
         alerts = truths-rest k refl;
       }
 
-    abbrev e-next : suc (alerts_from + a) ≡ alerts_from + suc a
-    e-next = let e : suc (alerts_from + a) ≡ alerts_from + suc a = omega arith in e
-
-    -- one that isn't woken
-    alert-off : is_marked terms.woken (alerts_from + a) ≡ false → AlertsHalf (the_book d) m k (suc a) visited terms t
-    unfolding hits own
-    alert-off off =
-        alert-kept terms (λ e. absurd (let w : ⊥ = (let clash : true ≡ false = sym (own-left.first e) ∙ off in cc) in w))
-        (λ h e. rest-holds (world_of (the_book d) m (alerts_from + a)) hits k h (alerts_from + a) (nodes_before (places (the_book d)) (alerts_from + a)) (placed_of x.when) terms small e tells-own own-left off)
-        (subst (λ n. BookHalf (the_book d) m k n (suc a) visited terms) e-next
-        (half-rest (places (the_book d)) (world_of (the_book d) m) k (alerts_from + a) (placed_of x.when) at-place hits visited terms small tells-own off was))
-
-    -- one that is woken and isn't stirred: its nodes are counted
-    pub alert-calm : (new : Terms) → is_marked terms.woken (alerts_from + a) ≡ true → is_marked terms.stirred (alerts_from + a) ≡ false
-        → new ≡ record terms { cells = new.cells } → new.cells.slots ≡ terms.cells.slots → new.cells.visits ≡ min (terms.cells.visits + nodes (tree_in x.when)) (2 ^ 64 - 1)
-        → AlertsHalf (the_book d) m k (suc a) visited new t
-    unfolding hits own
-    alert-calm new on calm counted slots visits =
-        alert-kept new (λ e. absurd (let w : ⊥ = (let clash : true ≡ false = sym (own-left.stirs e) ∙ calm in cc) in w))
-        (λ h e. calm-holds (world_of (the_book d) m (alerts_from + a)) hits k h (alerts_from + a) (nodes_before (places (the_book d)) (alerts_from + a)) (placed_of x.when) terms small e tells-own own-left calm)
-        (subst (λ n. BookHalf (the_book d) m k n (suc a) visited new) e-next
-        (half-calm (places (the_book d)) (world_of (the_book d) m) k (alerts_from + a) (placed_of x.when) at-place terms new counted slots hits visited small tells-own on calm visits was))
-
-  some-off : (a n : ℕ) → a + n ≤ length d.alerts.items → NoneMarked terms.woken (alerts_from + a) (alerts_from + (a + n)) → NoneMarked t.restless a (a + n)
+  some-off : (a n : ℕ) → a + n ≤ length d.alerts.items → NoneMarked terms.stirred (alerts_from + a) (alerts_from + (a + n)) → NoneMarked t.restless a (a + n)
       → AlertsHalf (the_book d) m k a visited terms t → AlertsHalf (the_book d) m k (a + n) visited terms t
   some-off a zero le off rests half = let e : a ≡ a + 0 = omega arith in subst (λ i. AlertsHalf (the_book d) m k i visited terms t) e half
   some-off a (suc n) le off rests half =
@@ -172,12 +152,12 @@ module _ (d : Draft) (sealed : IsSealed d) (m : ℕ → Moment) (k visited : ℕ
       (some-off a n (omega arith) (λ i from to. off i from (omega arith)) (λ i from to. rests i from (omega arith)) half) (off _ (omega arith) (omega arith))))
 
   -- up to the next that may change, or to the end
-  pub alerts-skip : (a i : ℕ) → a ≤ i → i ≤ length d.alerts.items → NoneMarked terms.woken (alerts_from + a) (alerts_from + i) → NoneMarked t.restless a i
+  pub alerts-skip : (a i : ℕ) → a ≤ i → i ≤ length d.alerts.items → NoneMarked terms.stirred (alerts_from + a) (alerts_from + i) → NoneMarked t.restless a i
       → AlertsHalf (the_book d) m k a visited terms t → AlertsHalf (the_book d) m k i visited terms t
   alerts-skip a i le most off rests half =
       let e : a + (i - a) ≡ i = omega arith in
       subst (λ n. AlertsHalf (the_book d) m k n visited terms t) e
-      (some-off a (i - a) (omega arith) (subst (λ n. NoneMarked terms.woken (alerts_from + a) (alerts_from + n)) (sym e) off) (subst (NoneMarked t.restless a) (sym e) rests) half)
+      (some-off a (i - a) (omega arith) (subst (λ n. NoneMarked terms.stirred (alerts_from + a) (alerts_from + n)) (sym e) off) (subst (NoneMarked t.restless a) (sym e) rests) half)
 
 -- an alert that is stepped leaves those behind it as restless as they were
 pub rests-on : (d : Draft) (m : ℕ → Moment) (k a n visited : ℕ) (old new : Terms) (was now : Truths) → n ≤ length d.alerts.items
@@ -196,15 +176,7 @@ pub alerts-begin : (d : Draft) (m : ℕ → Moment) (k visited : ℕ) (terms : T
     → TruthsStand (the_book d) (condition_in (the_book d) m) (phase_in (the_book d) m) k t → AlertsHalf (the_book d) m k 0 visited terms t
 alerts-begin d m k visited terms t half stands = record {
   terms = half;
-  alerts = record {
-    fits = stands.fits;
-    moments = stands.moments;
-    stepped = λ a lt. absurd (omega arith);
-    left = λ a le lt. stands.each a lt;
-    stars = stands.stars;
-    changing = (λ e a lt. absurd (omega arith), λ f. stands.changing);
-    changed = stands.changed;
-  };
+  alerts = moment-begins (the_book d) (condition_in (the_book d) m) (phase_in (the_book d) m) k t stands;
 }
 
 -- behind the last

@@ -85,7 +85,7 @@ module _ (f : Operand → Bool) where
   mutual
     unfolding asked operands
 
-    named-asked : (c : Tree) → list_any passes (asked c) ≡ list_any f (operands c)
+    pub named-asked : (c : Tree) → list_any passes (asked c) ≡ list_any f (operands c)
     named-asked (constant b) = refl
     named-asked (discrete p) = refl
     named-asked (valid p) = refl

@@ -1,5 +1,5 @@
 -- How a moment begins: the conditions that are due are marked, and those that name what came with it and is another.
-use Rattle.std.proofs.Common.{◌≡◌, ◌≢◌, ℕ, suc, ◌+◌, ◌-◌, ◌^◌, ◌<◌, ◌≤◌, ◌⊎◌, Bool, true, false, not, ◌&&◌, ◌||◌, eqb, leb, ltb, List, length, get_or, slice_index, ℤ, Option, None, Some, slice_get, if◌then◌else◌, refl, sym, ap, ◌∙◌, inl, inr, arith}
+use Rattle.std.proofs.Common.{◌≡◌, ◌≢◌, ℕ, suc, ◌+◌, ◌-◌, ◌^◌, ◌<◌, ◌≤◌, ◌⊎◌, Bool, true, false, not, ◌&&◌, ◌||◌, eqb, leb, ltb, List, length, get_or, slice_index, ℤ, Option, None, Some, slice_get, if◌then◌else◌, refl, sym, ap, subst, ◌∙◌, inl, inr, arith}
 use Rattle.std.specs.List.{list_any}
 use Rattle.std.specs.Option.{option_eq}
 use Rattle.std.specs.Ordering.{int_eq}
@@ -19,6 +19,8 @@ use Rattle.book_model.specs.Sealed.{the_book, IsSealed}
 use Rattle.book_model.specs.Conditions.{places, world_of}
 use Rattle.param_table.specs.declared.table.Params.{Params}
 use Rattle.term_eval.specs.Asked.{heard}
+use Rattle.term_eval.specs.CellState.{Stand}
+use Rattle.term_eval.specs.Memory.{Memory}
 use Rattle.term_eval.specs.Due.{staying, IsDue}
 use Rattle.term_eval.specs.Reading.{Reads}
 use Rattle.term_eval.specs.declared.reading.Reading.{Reading}
@@ -31,7 +33,7 @@ use Rattle.condition_codes.specs.Places.{nodes_before}
 use Rattle.fwc_lane.specs.declared.terms.Terms.{Terms}
 use Rattle.fwc_lane.specs.TermsFit.{TermsFit}
 use Rattle.fwc_lane.specs.Given.{Came}
-use Rattle.fwc_lane.specs.Visits.{visits_below}
+use Rattle.fwc_lane.specs.Visits.{IsCounted}
 use Rattle.fwc_lane.specs.Waking.{sizes_in, ranged, value_turned, key_turned, key_read, HasWoken}
 use Rattle.fwc_lane.specs.Conditions.{TermsStand, IsUnstirred, IsWaiting, HalfStepped, known_world, BookHalf}
 use Rattle.fwc_lane.proofs.KeyNumbers.{not-eight, few-keys}
@@ -65,13 +67,14 @@ none-hit x = false
 none-any : (xs : List Operand) → list_any none-hit xs ≡ false
 none-any xs = any-none none-hit (λ x. refl) xs
 
-module _ (b : Book) (m : ℕ → Moment) (k : ℕ) (small : k < 2 ^ 63) (old : Terms) (marks stirs dues : List ℕ) (fits : TermsFit b old) (stands : TermsStand b m k old)
+module _ (b : Book) (m : ℕ → Moment) (k : ℕ) (small : k < 2 ^ 63) (old : Terms) (marks stirs dues : List ℕ) (cells : Memory) (fits : TermsFit b old) (stands : TermsStand b m k old)
     (first : k ≡ 0 → (j : ℕ) → j < length old.truths.items → is_marked marks j ≡ true)
     (marked : (h : ℕ) → k ≡ suc h → (j : ℕ) → j < length old.truths.items → is_marked marks j ≡ leb (slice_index old.dues j) k)
     (same : (j : ℕ) → j < length old.truths.items → is_marked stirs j ≡ is_marked marks j)
-    (kept : (j : ℕ) → j < length old.truths.items → is_marked marks j ≡ false → slice_index dues j ≡ slice_index old.dues j) where
+    (kept : (j : ℕ) → j < length old.truths.items → is_marked marks j ≡ false → slice_index dues j ≡ slice_index old.dues j)
+    (slots : cells.slots ≡ old.cells.slots) (counted : IsCounted (places b) old.cells.visits marks cells.visits) where
   abbrev begun : Terms
-  begun = record old { woken = marks; stirred = stirs; dues = dues }
+  begun = record old { woken = marks; stirred = stirs; dues = dues; cells = cells }
 
   -- one that isn't stirred is due later
   unstirred : (h : ℕ) → k ≡ suc h → (j : ℕ) (p : Placed) → slice_get (places b) j ≡ Some p → is_marked marks j ≡ false → j < length old.truths.items
@@ -100,25 +103,24 @@ module _ (b : Book) (m : ℕ → Moment) (k : ℕ) (small : k < 2 ^ 63) (old : T
         ∙ sym (ap (λ x. x || eqb (slice_index old.dues j) (suc h)) (none-any (operands p.tree)));
     nodes = waits-by (world_of b m j) h (λ i. false) (heard none-hit p.tree) p.tree p.at (nodes_before (places b) j) old.nodes (heard-none none-hit p.tree (none-any (operands p.tree)))
         (stands.nodes h e j p is);
-    stirs = λ off. same j inside ∙ off;
     kept = λ off. kept j inside (sym (same j inside) ∙ off);
     calm = λ off. unstirred h e j p is (sym (same j inside) ∙ off) inside;
   }
 
   pub half-due : HalfStepped (places b) (world_of b m) none-hit k 0 old.cells.visits begun
-  unfolding visits_below
   half-due = record {
     stepped = λ j p lt is. absurd (omega arith);
+    marks = λ j p lt is. absurd (omega arith);
     left = λ j p le is.
         let within : j < length (places b) = slice_get_within (places b) j p is in
         let inside : j < length old.truths.items = omega (arith, within, fits.truths) in (record {
           short = (fits.codes.codes.codes j p is).short;
-          stands = stands.cells j p is;
+          stands = subst (Stand (world_of b m j) k p.tree p.at) (sym slots) (stands.cells j p is);
           first = λ e. first e j inside;
           stirs = λ e. same j inside ∙ first e j inside;
           later = λ h e. waiting h e j p is inside;
         });
-    counted = omega (arith, fits.visits);
+    counted = counted;
   }
 
 -- ---- what came and is another

@@ -1,4 +1,4 @@
--- A moment that wakes no condition, in which no alert is restless and the phase stays: each condition holds where it held.
+-- A moment that stirs no condition, in which no alert is restless and the phase stays: each condition holds where it held.
 use Rattle.std.proofs.Common.{◌≡◌, ℕ, suc, ◌+◌, ◌^◌, ◌<◌, ◌≤◌, Bool, false, not, List, length, refl, sym, ap, arith}
 use Rattle.std.proofs.lemmas.Bool.{eq-eqb}
 use Rattle.ecam_spec.specs.Term.{holds}
@@ -26,7 +26,7 @@ use Rattle.fwc_lane.proofs.AlertSteps.{alerts-begin, alerts-skip, alerts-end}
 use Rattle.fwc_lane.proofs.ProcedureSteps.{lines-begin, lines-past, lines-end, lines-told}
 use Rattle.fwc_lane.proofs.MemoSteps.{memos-begin, memos-skip, memos-end, memos-told}
 
-module _ (d : Draft) (sealed : IsSealed d) (m : ℕ → Moment) (k visited : ℕ) (small : k < 2 ^ 63) (t : Terms) (off : (j : ℕ) → is_marked t.woken j ≡ false)
+module _ (d : Draft) (sealed : IsSealed d) (m : ℕ → Moment) (k visited : ℕ) (small : k < 2 ^ 63) (t : Terms) (off : (j : ℕ) → is_marked t.stirred j ≡ false)
     (half : BookHalf (the_book d) m k 0 0 visited t) where
   -- the inputs of the phase
   pub inputs-same : AreInputs (flight (the_book d) m) k (inputs_by t.truths.items)

@@ -82,9 +82,9 @@ inputs-are d m k p gnd run tp fast high low same six =
       low = six.low_is ∙ ap (λ (q : plain.PhaseTerms). holds (flight_world (the_book d) m) q.low k) own;
     }
 
--- where none of the six is woken, each is what it was
+-- where none of the six is stirred, each is what it was
 module _ (d : Draft) (sealed : IsSealed d) (p : PhaseTerms) (same : p ≡ d.phase) (m : ℕ → Moment) (k : ℕ) (small : k < 2 ^ 63) (visited : ℕ) (t : Terms)
-    (off : NoneMarked t.woken 0 alerts_from) (half : BookHalf (the_book d) m k 0 0 visited t) where
+    (off : NoneMarked t.stirred 0 alerts_from) (half : BookHalf (the_book d) m k 0 0 visited t) where
   truth : (i : ℕ) → i < alerts_from → (q : Placed) → slice_get (phase_places p) i ≡ Some q → BookHalf (the_book d) m k i 0 visited t
       → slice_index_or t.truths.items i false ≡ holds (flight_world (the_book d) m) q.tree k
   truth i lt q is before =

@@ -1,18 +1,13 @@
 -- Which nodes of a condition hear of the operands that pass a test, and what is kept of the nodes by which of them were asked.
-use Rattle.std.proofs.Common.{◌≡◌, ℕ, ◌+◌, ◌<◌, Bool, true, false, ◌||◌, Option, Some, None, slice_get, refl, sym, ap, ◌∙◌, ◌⊎◌, inl, inr, arith}
+use Rattle.std.proofs.Common.{◌≡◌, ℕ, Bool, true, false, ◌||◌, Option, Some, None, slice_get, refl, sym, ap, ◌∙◌, inl, inr}
 use Rattle.std.specs.List.{list_any}
 use Rattle.std.specs.Option.{option_map_or}
-use Rattle.std.proofs.lemmas.Option.{slice_get_within}
-use Rattle.std.proofs.Math.Bool.{or-false}
 use Rattle.ecam_spec.specs.Book.{Tree}
 use Rattle.ecam_spec.specs.Term.{World}
-use Rattle.ecam_spec.specs.TermSize.{nodes}
 use Rattle.term_eval.specs.Asked.{Asks, AreAtoms, asked, heard}
 use Rattle.term_eval.specs.Memory.{NodeMemory}
 use Rattle.term_eval.specs.NodeState.{NodesWait}
-use Rattle.term_eval.specs.Parts.{parts}
 use Rattle.term_eval.specs.Woken.{Operand, operands}
-use Rattle.term_eval.proofs.PartLaws.{parts-ends}
 use Rattle.term_eval.proofs.KeptSame.{kept-by}
 use Rattle.fwc_lane.proofs.Askers.{asks-named, one-of}
 

@@ -1,18 +1,12 @@
 -- Conditions that are woken by the numbers of operands.
-use Rattle.std.proofs.Common.{◌≡◌, ℕ, ◌+◌, ◌<◌, Bool, true, false, ◌&&◌, ◌||◌, eqb, List, [], ◌∷◌, length, slice_get, Option, Some, None, refl, sym, ap, ◌∙◌}
+use Rattle.std.proofs.Common.{◌≡◌, ℕ, ◌+◌, Bool, true, false, ◌||◌, List, [], ◌∷◌, length, refl, sym, ap, ◌∙◌}
 use Rattle.std.specs.List.{list_any}
-use Rattle.std.specs.Option.{option_map_or}
-use Rattle.std.proofs.lemmas.Option.{slice_get_within}
 use Rattle.ecam_spec.specs.Book.{Book}
-use Rattle.ecam_spec.specs.TermSize.{Placed}
 use Rattle.book_model.specs.declared.draft.Draft.{Draft}
 use Rattle.book_model.specs.Sealed.{the_book}
-use Rattle.book_model.specs.Conditions.{places}
 use Rattle.book_model.proofs.BookLists.{many-parameters, many-alerts}
 use Rattle.term_eval.specs.Woken.{operands}
-use Rattle.watch_lists.specs.declared.number.Sizes.{Sizes}
-use Rattle.watch_lists.specs.Naming.{sizes_of, operand_count, operand_number, names, names_at}
-use Rattle.watch_lists.specs.Listed.{has_term}
+use Rattle.watch_lists.specs.Naming.{sizes_of, operand_count, operand_number}
 use Rattle.watch_lists.proofs.Lines.{sizes-are}
 use Rattle.wakes.specs.Marks.{is_marked}
 use Rattle.fwc_lane.specs.Waking.{sizes_in, WakesBy}
@@ -61,25 +55,3 @@ sizes-same d = sym (sizes-are d (length (the_book d).parameters) (length (the_bo
 
 pub count-same : (d : Draft) (b : Book) → the_book d ≡ b → operand_count (sizes_of d) ≡ length b.parameters + length b.alerts + 28
 count-same d b e = ap operand_count (sizes-same d) ∙ ap (λ c. operand_count (sizes_in c)) e
-
--- what names an operand is a condition
-pub named-within : (n : Sizes) (ps : List Placed) (j o : ℕ) → names_at n ps j o ≡ true → j < length ps
-unfolding names_at
-named-within n ps j o named = by (slice_get ps j) refl where
-  by : (found : Option Placed) → slice_get ps j ≡ found → j < length ps
-  by None none = absurd (let w : ⊥ = (let clash : false ≡ true = sym (ap (λ f. option_map_or (λ (p : Placed). names n p.tree o) f false) none) ∙ named in cc) in w)
-  by (Some p) is = slice_get_within ps j p is
-
-pub wakes-listed : (d : Draft) (operand : ℕ) (listed old new : List ℕ) (other : Bool) → other ≡ true
-    → ((j : ℕ) → has_term listed j ≡ names_at (sizes_of d) (places (the_book d)) j operand)
-    → ((j : ℕ) → is_marked new j ≡ (is_marked old j || has_term listed j))
-    → WakesBy (the_book d) (λ o. other && eqb o operand) old new
-unfolding names_at
-wakes-listed d operand listed old new other on lists marks = λ j p is.
-    let n = sizes_in (the_book d) in
-    marks j
-    ∙ ap (λ x. is_marked old j || x)
-    (lists j
-    ∙ ap (λ found. option_map_or (λ (q : Placed). names (sizes_of d) q.tree operand) found false) is
-    ∙ ap (λ (m : Sizes). names m p.tree operand) (sizes-same d)
-    ∙ any-alike (λ x. eqb (operand_number n x) operand) (λ x. other && eqb (operand_number n x) operand) (λ x. sym (ap (λ c. c && eqb (operand_number n x) operand) on)) (operands p.tree))

@@ -14,12 +14,14 @@ pub mod Stages
 pub mod Known
 pub mod Worlds
 pub mod Beginning
+pub mod Counting
 pub mod Stepping
 pub mod Running
 pub mod Showing
 pub mod FlightSteps
 pub mod AlertSteps
 pub mod FlagSteps
+pub mod LineOwners
 pub mod ProcedureSteps
 pub mod MemoSteps
 pub mod ConditionsRest

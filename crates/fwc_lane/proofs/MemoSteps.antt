@@ -1,5 +1,5 @@
 -- One memo more is stepped.
-use Rattle.std.proofs.Common.{◌≡◌, ℕ, zero, suc, ◌+◌, ◌-◌, ◌^◌, ◌<◌, ◌≤◌, min, Bool, true, false, List, length, get_or, set, slice_get, Some, refl, sym, ap, subst, ◌∙◌, inl, inr, arith}
+use Rattle.std.proofs.Common.{◌≡◌, ℕ, zero, suc, ◌+◌, ◌-◌, ◌^◌, ◌<◌, ◌≤◌, Bool, true, false, List, length, get_or, set, slice_get, Some, refl, sym, ap, subst, ◌∙◌, inl, inr, arith}
 use Rattle.std.proofs.Math.Nat.{eq-or-lt_of_le}
 use Rattle.std.proofs.lemmas.Option.{slice_get_within}
 use Rattle.ecam_spec.specs.Book as plain
@@ -22,12 +22,12 @@ use Rattle.term_eval.specs.Shown.{Shows}
 use Rattle.term_eval.specs.Woken.{Operand, moved}
 use Rattle.condition_codes.specs.Places.{nodes_before}
 use Rattle.fwc_lane.specs.declared.terms.Terms.{Terms}
-use Rattle.fwc_lane.specs.Visits.{visits_below}
 use Rattle.fwc_lane.specs.Conditions.{StepsTerm, TellsMoved, IsLeft, HalfStepped, BookHalf, MemosHalf, MemosWere, AllStepped, known_world}
 use Rattle.fwc_lane.proofs.Stages.{rest-tells}
 use Rattle.fwc_lane.proofs.FlagSteps.{set-own, set-other, set-behind, with-item}
 use Rattle.wakes.specs.Marks.{is_marked}
 use Rattle.fwc_lane.specs.Waking.{NoneMarked, memo_start}
+use Rattle.fwc_lane.proofs.Counting.{counted-visits}
 use Rattle.fwc_lane.proofs.Stepping.{half-rest, rest-holds}
 
 module _ (d : Draft) (sealed : IsSealed d) (xs : List Memo) (j : ℕ) (x : Memo) (same : xs ≡ d.memos.items) (within : j < length xs) (here : x ≡ get_or xs j x)
@@ -80,12 +80,12 @@ module _ (d : Draft) (sealed : IsSealed d) (xs : List Memo) (j : ℕ) (x : Memo)
         left = λ h e i y le there. set-behind flags later j answer false is i le ∙ half.left h e i y (let w : j ≤ i = omega arith in w) there;
       }
 
--- a memo whose condition isn't woken, and some memos of that kind
+-- a memo whose condition isn't stirred, and some memos of that kind
 module _ (d : Draft) (sealed : IsSealed d) (m : ℕ → Moment) (k visited : ℕ) (t : Terms) (flags : List Bool) (small : k < 2 ^ 63) where
   hits : Operand → Bool
   hits = moved (known_world (the_book d) m (suc (length (the_book d).alerts))) k
 
-  module _ (j : ℕ) (x : Memo) (within : j < length d.memos.items) (here : x ≡ get_or d.memos.items j x) (off : is_marked t.woken (memos_from (the_book d) + j) ≡ false)
+  module _ (j : ℕ) (x : Memo) (within : j < length d.memos.items) (here : x ≡ get_or d.memos.items j x) (off : is_marked t.stirred (memos_from (the_book d) + j) ≡ false)
       (half : MemosHalf (the_book d) m k j visited t flags) where
     at-place : slice_get (places (the_book d)) (memos_from (the_book d) + j) ≡ Some (placed_of x.when)
     at-place = memo-place-at d sealed d.memos.items j x refl within here
@@ -110,7 +110,7 @@ module _ (d : Draft) (sealed : IsSealed d) (m : ℕ → Moment) (k visited : ℕ
         (rest-holds (world_of (the_book d) m (memos_from (the_book d) + j)) hits k h (memos_from (the_book d) + j) (nodes_before (places (the_book d)) (memos_from (the_book d) + j)) (placed_of x.when) t small e tells-there own off)
 
     by-moment : (n : ℕ) → k ≡ n → (i : ℕ) (y : plain.Memo) → i ≡ j → memo_of x ≡ y → slice_get (the_book d).memos i ≡ Some y → get_or flags i false ≡ holds (world (the_book d) m) y.when k
-    by-moment zero e i y same one there = absurd (let w : ⊥ = (let clash : true ≡ false = sym (own.first e) ∙ off in cc) in w)
+    by-moment zero e i y same one there = absurd (let w : ⊥ = (let clash : true ≡ false = sym (own.stirs e) ∙ off in cc) in w)
     by-moment (suc h) e i y same one there =
         half.left h e i y (let le : j ≤ i = omega arith in le) there
         ∙ ap (λ (z : plain.Memo). holds (world (the_book d) m) z.when h) (sym one) ∙ held h e ∙ ap (λ (z : plain.Memo). holds (world (the_book d) m) z.when k) one
@@ -134,7 +134,7 @@ module _ (d : Draft) (sealed : IsSealed d) (m : ℕ → Moment) (k visited : ℕ
       left = λ h e i y le there. half.left h e i y (let w : j ≤ i = omega arith in w) there;
     }
 
-  memos-off : (j n : ℕ) → j + n ≤ length d.memos.items → NoneMarked t.woken (memo_start (the_book d) j) (memo_start (the_book d) (j + n))
+  memos-off : (j n : ℕ) → j + n ≤ length d.memos.items → NoneMarked t.stirred (memo_start (the_book d) j) (memo_start (the_book d) (j + n))
       → MemosHalf (the_book d) m k j visited t flags → MemosHalf (the_book d) m k (j + n) visited t flags
   memos-off j zero le off half = let e : j ≡ j + 0 = omega arith in subst (λ i. MemosHalf (the_book d) m k i visited t flags) e half
   memos-off j (suc n) le off half =
@@ -144,12 +144,12 @@ module _ (d : Draft) (sealed : IsSealed d) (m : ℕ → Moment) (k visited : ℕ
       (memo-off (j + n) x (omega arith) here (off _ (omega arith) (omega arith)) (memos-off j n (omega arith) (λ i from to. off i from (omega (arith, to))) half)))
 
   -- up to the next that has one, or to the end
-  pub memos-skip : (j i : ℕ) → j ≤ i → i ≤ length d.memos.items → NoneMarked t.woken (memo_start (the_book d) j) (memo_start (the_book d) i)
+  pub memos-skip : (j i : ℕ) → j ≤ i → i ≤ length d.memos.items → NoneMarked t.stirred (memo_start (the_book d) j) (memo_start (the_book d) i)
       → MemosHalf (the_book d) m k j visited t flags → MemosHalf (the_book d) m k i visited t flags
   memos-skip j i le most off half =
       let e : j + (i - j) ≡ i = omega arith in
       subst (λ n. MemosHalf (the_book d) m k n visited t flags) e
-      (memos-off j (i - j) (omega arith) (subst (λ n. NoneMarked t.woken (memo_start (the_book d) j) (memo_start (the_book d) n)) (sym e) off) half)
+      (memos-off j (i - j) (omega arith) (subst (λ n. NoneMarked t.stirred (memo_start (the_book d) j) (memo_start (the_book d) n)) (sym e) off) half)
 
 -- before the first memo
 pub memos-begin : (d : Draft) (m : ℕ → Moment) (k visited : ℕ) (terms : Terms) (flags : List Bool) → MemosWere (the_book d) m k flags → BookHalf (the_book d) m k (memos_from (the_book d)) (suc (length (the_book d).alerts)) visited terms
@@ -169,7 +169,11 @@ module _ (d : Draft) (sealed : IsSealed d) (m : ℕ → Moment) (k i visited : �
         asked = λ j p is.
             let inside : j < length (places (the_book d)) = slice_get_within (places (the_book d)) j p is in
             half.terms.stepped j p (omega (arith, inside, every)) is;
-        counted = half.terms.counted ∙ ap (λ n. min (visited + visits_below (places (the_book d)) (world_of (the_book d) m) k n) (2 ^ 64 - 1)) every;
+        counted = counted-visits (places (the_book d)) (world_of (the_book d) m) k terms.woken visited terms.cells.visits
+            (λ j p is.
+            let inside : j < length (places (the_book d)) = slice_get_within (places (the_book d)) j p is in
+            half.terms.marks j p (omega (arith, inside, every)) is)
+            half.terms.counted;
       }
 
   pub memos-told : TellsOf flags (the_book d).memos (λ x. holds (world (the_book d) m) x.when k)

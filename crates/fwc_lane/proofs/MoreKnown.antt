@@ -1,13 +1,14 @@
 -- What is known of a moment grows: the operands that are another wake those that name them.
-use Rattle.std.proofs.Common.{◌≡◌, ℕ, suc, ◌<◌, ◌≤◌, Bool, true, false, ◌||◌, eqb, slice_get, Some, refl, sym, ap, subst, ◌∙◌, inl, inr}
+use Rattle.std.proofs.Common.{◌≡◌, ℕ, suc, ◌<◌, ◌≤◌, Bool, true, false, ◌||◌, eqb, slice_get, Some, refl, sym, ap, subst, ◌∙◌}
 use Rattle.std.specs.List.{list_any}
-use Rattle.std.proofs.Math.Bool.{or_assoc, or_comm}
+use Rattle.std.proofs.Math.Bool.{or-false, or_assoc, or_comm}
 use Rattle.ecam_spec.specs.Term.{World}
 use Rattle.ecam_spec.specs.TermSize.{Placed}
 use Rattle.book_model.specs.declared.draft.Draft.{Draft}
 use Rattle.book_model.specs.Sealed.{the_book, IsSealed}
 use Rattle.book_model.specs.Conditions.{places}
 use Rattle.term_eval.specs.Asked.{Asks, heard}
+use Rattle.term_eval.specs.CellState.{Stand}
 use Rattle.term_eval.specs.Reading.{Reads}
 use Rattle.term_eval.specs.Woken.{Operand, operands}
 use Rattle.term_eval.specs.declared.reading.Reading.{Reading}
@@ -18,7 +19,6 @@ use Rattle.condition_codes.specs.Places.{nodes_before}
 use Rattle.fwc_lane.specs.declared.terms.Terms.{Terms}
 use Rattle.fwc_lane.specs.Waking.{sizes_in, HasWoken}
 use Rattle.fwc_lane.specs.Conditions.{IsAsked, IsWaiting, IsLeft, HalfStepped}
-use Rattle.fwc_lane.proofs.FlagSteps.{left-false, right-false}
 use Rattle.fwc_lane.proofs.Askers.{asks-operand, asks-named}
 use Rattle.fwc_lane.proofs.Hears.{waits-by, heard-none, heard-or, atoms-heard}
 use Rattle.fwc_lane.proofs.Hitting.{any-or}
@@ -46,11 +46,11 @@ module _ (d : Draft) (sealed : IsSealed d) (worlds : ℕ → World) (hit hit' : 
   -- ---- a condition that was stepped
 
   stepped : (j : ℕ) (p : Placed) → j < i → slice_get (places (the_book d)) j ≡ Some p
-      → IsAsked (worlds j) k j (nodes_before (places (the_book d)) j) p t → IsAsked (worlds j) k j (nodes_before (places (the_book d)) j) p (record t { woken = new.woken; stirred = new.stirred; nodes = new.nodes })
+      → IsAsked (worlds j) k j (nodes_before (places (the_book d)) j) p t → IsAsked (worlds j) k j (nodes_before (places (the_book d)) j) p (record t { woken = new.woken; stirred = new.stirred; nodes = new.nodes; cells = new.cells })
   stepped j p lt is was =
       let none = apart j p lt is in
       let unheard = heard-none passes p.tree none in record {
-        stands = was.stands;
+        stands = subst (Stand (worlds j) (suc k) p.tree p.at) (sym wakes.slots) was.stands;
         nodes = waits-by (worlds j) k (λ n. heard passes p.tree n || false) (λ n. false) p.tree p.at (nodes_before (places (the_book d)) j) new.nodes (λ n. sym (ap (λ a. a || false) (unheard n)))
             (wakes.turns j p is (worlds j) k (λ n. false) (λ n on. absurd (let w : ⊥ = (let clash : false ≡ true = on in cc) in w))
             (λ n x asks on. absurd (let w : ⊥ = (let clash : false ≡ true = sym none ∙ asks-named passes p.tree n x asks on in cc) in w))
@@ -71,22 +71,8 @@ module _ (d : Draft) (sealed : IsSealed d) (worlds : ℕ → World) (hit hit' : 
     by true now = now
     by false now = absurd (let w : ⊥ = (let clash : false ≡ true = sym (was-calm j p is now) ∙ on in cc) in w)
 
-  -- one that isn't woken isn't stirred
-  unstirred : (j : ℕ) (p : Placed) → slice_get (places (the_book d)) j ≡ Some p → (is_marked t.woken j ≡ false → is_marked t.stirred j ≡ false) → is_marked new.woken j ≡ false
-      → is_marked new.stirred j ≡ false
-  unstirred j p is was off = by (is_marked new.stirred j) refl where
-    none : (is_marked t.woken j || list_any passes (operands p.tree)) ≡ false
-    none = sym (wakes.terms j p is) ∙ off
-
-    by : (now : Bool) → is_marked new.stirred j ≡ now → is_marked new.stirred j ≡ false
-    by false now = now
-    by true now = absurd (elim (wakes.stirs j p is now) [
-      | inl before ↦ (let w : ⊥ = (let clash : false ≡ true = sym (was (left-false (is_marked t.woken j) (list_any passes (operands p.tree)) none)) ∙ before in cc) in w)
-      | inr named ↦ (let w : ⊥ = (let clash : false ≡ true = sym (right-false (is_marked t.woken j) (list_any passes (operands p.tree)) none) ∙ named in cc) in w)
-    ])
-
   waiting : (h : ℕ) → k ≡ suc h → (j : ℕ) (p : Placed) → i ≤ j → slice_get (places (the_book d)) j ≡ Some p
-      → IsWaiting (worlds j) hit h j (nodes_before (places (the_book d)) j) p t → IsWaiting (worlds j) hit' h j (nodes_before (places (the_book d)) j) p (record t { woken = new.woken; stirred = new.stirred; nodes = new.nodes })
+      → IsWaiting (worlds j) hit h j (nodes_before (places (the_book d)) j) p t → IsWaiting (worlds j) hit' h j (nodes_before (places (the_book d)) j) p (record t { woken = new.woken; stirred = new.stirred; nodes = new.nodes; cells = new.cells })
   waiting h e j p le is own = record {
     due = own.due;
     told = own.told;
@@ -102,7 +88,6 @@ module _ (d : Draft) (sealed : IsSealed d) (worlds : ℕ → World) (hit hit' : 
         subst (λ m. Reads (worlds j) m x (reads (operand_number (sizes_in (the_book d)) x))) e
         (so h e j p le is n x asks (asks-operand (sizes_in (the_book d)) p.tree (names-within d sealed j p is) n x asks) on))
         own.nodes);
-    stirs = unstirred j p is own.stirs;
     kept = λ off. own.kept (was-calm j p is off);
     calm = λ off.
         let same = wakes.calm j p is off in
@@ -114,10 +99,10 @@ module _ (d : Draft) (sealed : IsSealed d) (worlds : ℕ → World) (hit hit' : 
   }
 
   left : (j : ℕ) (p : Placed) → i ≤ j → slice_get (places (the_book d)) j ≡ Some p
-      → IsLeft (worlds j) hit k j (nodes_before (places (the_book d)) j) p t → IsLeft (worlds j) hit' k j (nodes_before (places (the_book d)) j) p (record t { woken = new.woken; stirred = new.stirred; nodes = new.nodes })
+      → IsLeft (worlds j) hit k j (nodes_before (places (the_book d)) j) p t → IsLeft (worlds j) hit' k j (nodes_before (places (the_book d)) j) p (record t { woken = new.woken; stirred = new.stirred; nodes = new.nodes; cells = new.cells })
   left j p le is was = record {
     short = was.short;
-    stands = was.stands;
+    stands = subst (Stand (worlds j) k p.tree p.at) (sym wakes.slots) was.stands;
     first = λ e. wakes.terms j p is ∙ ap (λ a. a || list_any passes (operands p.tree)) (was.first e);
     stirs = λ e. still-stirred j p is (was.stirs e);
     later = λ h e. waiting h e j p le is (was.later h e);
@@ -126,6 +111,7 @@ module _ (d : Draft) (sealed : IsSealed d) (worlds : ℕ → World) (hit hit' : 
   pub half-more : HalfStepped (places (the_book d)) worlds hit k i visited t → HalfStepped (places (the_book d)) worlds hit' k i visited new
   half-more half = subst (HalfStepped (places (the_book d)) worlds hit' k i visited) (sym wakes.rest) record {
     stepped = λ j p lt is. stepped j p lt is (half.stepped j p lt is);
+    marks = λ j p lt is. wakes.terms j p is ∙ ap (λ a. is_marked t.woken j || a) (apart j p lt is) ∙ or-false (is_marked t.woken j) ∙ half.marks j p lt is;
     left = λ j p le is. left j p le is (half.left j p le is);
-    counted = half.counted;
+    counted = wakes.counts visited half.counted;
   }

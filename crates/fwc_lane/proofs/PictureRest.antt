@@ -38,7 +38,7 @@ module _ (b : Book) (m : ℕ → Moment) (k : ℕ) (turned : AreTurned b m k non
     whole_v = whole;
     whole_w = whole;
     left = left-stays b m k none_turned turned refl counts.left s;
-    right = right-stays b m k none_turned false turned (λ e. same, λ u. refl) refl counts.right s;
+    right = right-stays b m k none_turned false turned (λ e. record { starred = same.starred }, λ u. refl) refl counts.right s;
     status = status-stays b m k none_turned false turned (λ e. same, λ u. refl) refl counts.status;
     flags = λ are. flags-stay b m k false counts counts turned.first are refl refl s;
     display = display-stays b m k none_turned (choice (panel b m) k) false false turned (λ e. same, λ u. refl) (λ e. kept, λ u. refl) refl (none-shown (choice (panel b m) k)) s;

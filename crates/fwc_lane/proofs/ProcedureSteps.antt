@@ -113,9 +113,9 @@ module _ (d : Draft) (sealed : IsSealed d) (xs : List Alert) (a : ℕ) (x : Aler
           left = λ h e i y le there. set-behind flags later line answer false is i le ∙ half.left h e i y (let w : line ≤ i = omega arith in w) there;
         }
 
-  -- a line of which no condition is woken
+  -- a line of which no condition is stirred
   module _ (m : ℕ → Moment) (k visited : ℕ) (t : Terms) (flags : List Bool) (small : k < 2 ^ 63)
-      (when-off : is_marked t.woken (lines_from (the_book d) + 2 * line) ≡ false) (done-off : is_marked t.woken (suc (lines_from (the_book d) + 2 * line)) ≡ false)
+      (when-off : is_marked t.stirred (lines_from (the_book d) + 2 * line) ≡ false) (done-off : is_marked t.stirred (suc (lines_from (the_book d) + 2 * line)) ≡ false)
       (half : LinesHalf (the_book d) m k line visited t flags) where
     hits : Operand → Bool
     hits = moved (known_world (the_book d) m (suc (length (the_book d).alerts))) k
@@ -132,7 +132,7 @@ module _ (d : Draft) (sealed : IsSealed d) (xs : List Alert) (a : ℕ) (x : Aler
     unfolding first hits
     was = half.terms
 
-    keeps : (h i : ℕ) → k ≡ suc h → lines_from (the_book d) ≤ i → first ≤ i → (p : Placed) → slice_get (places (the_book d)) i ≡ Some p → is_marked t.woken i ≡ false
+    keeps : (h i : ℕ) → k ≡ suc h → lines_from (the_book d) ≤ i → first ≤ i → (p : Placed) → slice_get (places (the_book d)) i ≡ Some p → is_marked t.stirred i ≡ false
         → holds (world (the_book d) m) p.tree h ≡ holds (world (the_book d) m) p.tree k
     keeps h i e le next p here' off =
         subst (λ w. holds w p.tree h ≡ holds w p.tree k) (rest-world (the_book d) m i le)
@@ -147,7 +147,7 @@ module _ (d : Draft) (sealed : IsSealed d) (xs : List Alert) (a : ℕ) (x : Aler
     by-moment : (n : ℕ) → k ≡ n → (i : ℕ) (y : plain.Line) → i ≡ line → line_of l ≡ y → slice_get (lines_of (the_book d).alerts) i ≡ Some y → get_or flags i false ≡ line_stands (the_book d) m k y
     unfolding first
     by-moment zero e i y same' one there =
-        absurd (let w : ⊥ = (let clash : true ≡ false = sym ((was.left first _ (let le : first ≤ first = omega arith in le) when-here).first e) ∙ when-off in cc) in w)
+        absurd (let w : ⊥ = (let clash : true ≡ false = sym ((was.left first _ (let le : first ≤ first = omega arith in le) when-here).stirs e) ∙ when-off in cc) in w)
     by-moment (suc h) e i y same' one there =
         half.left h e i y (let le : line ≤ i = omega arith in le) there
         ∙ ap (line_stands (the_book d) m h) (sym one) ∙ stood h e ∙ ap (line_stands (the_book d) m k) one
@@ -254,12 +254,12 @@ line-next d sealed n less m k env shows visited old new answer steps flags later
     flags later is room half))
     steps is room half
 
--- lines of which no condition is woken
+-- lines of which no condition is stirred
 module _ (d : Draft) (sealed : IsSealed d) (m : ℕ → Moment) (k visited : ℕ) (t : Terms) (flags : List Bool) (small : k < 2 ^ 63) where
-  line-over : (n : ℕ) → n < length (lines_of (the_book d).alerts) → is_marked t.woken (lines_from (the_book d) + 2 * n) ≡ false → is_marked t.woken (suc (lines_from (the_book d) + 2 * n)) ≡ false
+  line-over : (n : ℕ) → n < length (lines_of (the_book d).alerts) → is_marked t.stirred (lines_from (the_book d) + 2 * n) ≡ false → is_marked t.stirred (suc (lines_from (the_book d) + 2 * n)) ≡ false
       → LinesHalf (the_book d) m k n visited t flags → LinesHalf (the_book d) m k (n + 1) visited t flags
   line-over n less when-off done-off half =
-      with-line d (λ n. is_marked t.woken (lines_from (the_book d) + 2 * n) ≡ false → is_marked t.woken (suc (lines_from (the_book d) + 2 * n)) ≡ false
+      with-line d (λ n. is_marked t.stirred (lines_from (the_book d) + 2 * n) ≡ false → is_marked t.stirred (suc (lines_from (the_book d) + 2 * n)) ≡ false
       → LinesHalf (the_book d) m k n visited t flags → LinesHalf (the_book d) m k (n + 1) visited t flags) n less
       (λ a x within here j l inside at when-off done-off half.
       let e : start d a + (j + 1) ≡ start d a + j + 1 = omega arith in
@@ -267,7 +267,7 @@ module _ (d : Draft) (sealed : IsSealed d) (m : ℕ → Moment) (k visited : ℕ
       (line-off d sealed d.alerts.items a x refl within here x.lines.items j l refl inside at m k visited t flags small when-off done-off half))
       when-off done-off half
 
-  some-over : (n r : ℕ) → n + r ≤ length (lines_of (the_book d).alerts) → NoneMarked t.woken (lines_from (the_book d) + 2 * n) (lines_from (the_book d) + 2 * (n + r))
+  some-over : (n r : ℕ) → n + r ≤ length (lines_of (the_book d).alerts) → NoneMarked t.stirred (lines_from (the_book d) + 2 * n) (lines_from (the_book d) + 2 * (n + r))
       → LinesHalf (the_book d) m k n visited t flags → LinesHalf (the_book d) m k (n + r) visited t flags
   some-over n zero le off half = let e : n ≡ n + 0 = omega arith in subst (λ i. LinesHalf (the_book d) m k i visited t flags) e half
   some-over n (suc r) le off half =
@@ -276,7 +276,7 @@ module _ (d : Draft) (sealed : IsSealed d) (m : ℕ → Moment) (k visited : ℕ
       (line-over (n + r) (omega arith) (off _ (omega arith) (omega arith)) (off _ (omega arith) (omega arith)) (some-over n r (omega arith) (λ j low high. off j low (omega arith)) half))
 
   -- up to the next of which one is, or to the end
-  pub lines-past : (n i : ℕ) → n ≤ i → i ≤ length (lines_of (the_book d).alerts) → NoneMarked t.woken (lines_from (the_book d) + 2 * n) (lines_from (the_book d) + 2 * i)
+  pub lines-past : (n i : ℕ) → n ≤ i → i ≤ length (lines_of (the_book d).alerts) → NoneMarked t.stirred (lines_from (the_book d) + 2 * n) (lines_from (the_book d) + 2 * i)
       → LinesHalf (the_book d) m k n visited t flags → LinesHalf (the_book d) m k i visited t flags
   lines-past n i le most off half =
       let e : n + (i - n) ≡ i = omega arith in

@@ -25,6 +25,7 @@ use Rattle.fwc_lane.specs.Waking.{ranged, value_turned, key_turned}
 use Rattle.fwc_lane.proofs.AlertSteps.{differ-self}
 use Rattle.fwc_lane.proofs.Beginning.{none-hit, given, reads_given, half-due, begins}
 use Rattle.fwc_lane.proofs.Awake.{awake-none}
+use Rattle.fwc_lane.proofs.Counting.{counted-none}
 use Rattle.fwc_lane.proofs.KeyNumbers as keys
 use Rattle.fwc_lane.proofs.Ticks.{has-begun, values-told, value-before}
 use Rattle.fwc_lane.proofs.ValueSteps as values
@@ -78,23 +79,25 @@ module _ (d : Draft) (sealed : IsSealed d) (m : ℕ → Moment) (old : Lane) (fi
       ∙ ap (λ x. (x && eqb o first) || (two && eqb o second)) (differ-self old.terms.one_up)
       ∙ ap (λ x. x && eqb o second) (differ-self old.terms.two_up)
 
-  half : HalfStepped (places b) (world_of b m) none-hit k 0 old.terms.cells.visits (record old.terms { woken = []; stirred = []; dues = old.terms.dues })
+  half : HalfStepped (places b) (world_of b m) none-hit k 0 old.terms.cells.visits (record old.terms { woken = []; stirred = []; dues = old.terms.dues; cells = old.terms.cells })
   half =
       let some : k ≡ 0 → (ltb 0 k ≡ false) = λ e. ap (ltb 0) e in
-      half-due b m k small old.terms [] [] old.terms.dues fits.terms was.terms
+      half-due b m k small old.terms [] [] old.terms.dues old.terms.cells fits.terms was.terms
       (λ e j lt. absurd (let w : ⊥ = (let clash : true ≡ false = sym rest.calm.ticked ∙ was.ticked ∙ some e in cc) in w))
       (λ h e j lt. none-marked j ∙ sym (lt-leb (slice_index old.terms.dues j) k (rest.dues j (omega (arith, lt, fits.terms.truths, fits.terms.dues)))))
       (λ j lt. refl)
       (λ j lt off. refl)
+      refl
+      (counted-none (places b) [] old.terms.cells.visits old.terms.cells.visits none-marked (omega (arith, fits.terms.visits)))
 
   begun-terms : BookHalf b m k 0 0 old.terms.cells.visits unmarked
   begun-terms =
-      begins d sealed m k old.terms.cells.visits old.terms (record old.terms { woken = []; stirred = []; dues = old.terms.dues }) unmarked old.params old.keys old.terms.one_up old.terms.two_up old.values.items old.values.items
+      begins d sealed m k old.terms.cells.visits old.terms (record old.terms { woken = []; stirred = []; dues = old.terms.dues; cells = old.terms.cells }) unmarked old.params old.keys old.terms.one_up old.terms.two_up old.values.items old.values.items
       was.terms came (value-before b m k old.values.items was.values)
       (values-told b m k old.values.items (λ p lt. was.values p lt ∙ sym (stay (words_in b m) k came.words p lt))) half
       (awake-none b all-given (reads_given b old.values.items old.keys old.terms.one_up old.terms.two_up) unmarked none-given)
 
-  pub begun : HasBegun b m k old.terms.one_up old.terms.two_up false (record old { terms = unmarked })
+  pub begun : HasBegun b m k old.terms.cells.visits old.terms.one_up old.terms.two_up false (record old { terms = unmarked })
   begun =
-      has-begun b m k old.terms.one_up old.terms.two_up false old unmarked old.values old.turned was came begun-terms
+      has-begun b m k old.terms.cells.visits old.terms.one_up old.terms.two_up false old unmarked old.values old.turned was came begun-terms
       (values-told b m k old.values.items (λ p lt. was.values p lt ∙ sym (stay (words_in b m) k came.words p lt))) (λ off. refl) (λ p off. refl) old.idle

@@ -83,10 +83,10 @@ module _ (d : Draft) (sealed : IsSealed d) (m : ℕ → Moment) (old : Lane) (fi
   abbrev t : Terms
   t = record old.terms { woken = []; stirred = [] }
 
-  off : (j : ℕ) → is_marked t.woken j ≡ false
+  off : (j : ℕ) → is_marked t.stirred j ≡ false
   off = none-marked
 
-  has : HasBegun b m k old.terms.one_up old.terms.two_up false (record old { terms = t })
+  has : HasBegun b m k visited old.terms.one_up old.terms.two_up false (record old { terms = t })
   has = begun d sealed m old fits small rest stay came was
 
   -- there was a moment before
@@ -164,11 +164,11 @@ module _ (d : Draft) (sealed : IsSealed d) (m : ℕ → Moment) (old : Lane) (fi
 
     turned : AreTurned b m k none_turned
     turned =
-        are-turned b m k old.terms.one_up old.terms.two_up (record old { terms = t }) none_turned old.phase false old.lines.items old.memos.items marks false false has record {
+        are-turned b m k visited old.terms.one_up old.terms.two_up (record old { terms = t }) none_turned old.phase false old.lines.items old.memos.items marks false false has record {
           first = ap not (sym rest.calm.ticked);
           phase_kept = λ off. refl;
           values = refl;
-          lines_kept = λ off. refl;
+          lines_kept = λ off a n on has. refl;
           memos_kept = λ off. refl;
           marks_kept = λ off. parts.sets;
           normal_kept = λ off. refl;

@@ -1,5 +1,5 @@
 -- One condition is run: what it leaves, and that it is stepped by that.
-use Rattle.std.proofs.Common.{◌≡◌, ℕ, suc, ◌+◌, ◌-◌, ◌^◌, ◌<◌, ◌≤◌, min, Bool, true, length, slice_get, set, Some, sym, ap, subst, ◌∙◌, arith}
+use Rattle.std.proofs.Common.{◌≡◌, ℕ, suc, ◌+◌, ◌^◌, ◌<◌, ◌≤◌, Bool, length, slice_get, set, Some, sym, ap, subst, ◌∙◌, arith}
 use Rattle.std.proofs.lemmas.List.{length-set}
 use Rattle.std.proofs.lemmas.Option.{slice_get_within}
 use Rattle.ecam_spec.specs.Book.{Book}
@@ -14,7 +14,6 @@ use Rattle.term_eval.specs.NodeState.{NodesStand, Within, first_wake}
 use Rattle.term_eval.specs.Due.{staying, IsDue}
 use Rattle.term_eval.specs.Woken.{Operand}
 use Rattle.term_eval.specs.Shown.{Shows}
-use Rattle.wakes.specs.Marks.{is_marked}
 use Rattle.condition_codes.specs.Places.{nodes_before}
 use Rattle.fwc_lane.specs.declared.terms.Terms.{Terms}
 use Rattle.fwc_lane.specs.TermsFit.{TermsFit}
@@ -36,28 +35,32 @@ pub record RunsOne (i start : ℕ) (p : Placed) (truth : Bool) (due : ℕ) (old 
   pub before : (j : ℕ) → j < p.at → cell_at new.cells.slots j ≡ cell_at old.cells.slots j
   pub behind : (j : ℕ) → p.at + slots p.tree ≤ j → cell_at new.cells.slots j ≡ cell_at old.cells.slots j
   pub len : length new.cells.slots ≡ length old.cells.slots
-  pub visits : new.cells.visits ≡ min (old.cells.visits + nodes p.tree) (2 ^ 64 - 1)
+  pub visits : new.cells.visits ≡ old.cells.visits
   pub truths : new.truths.items ≡ set old.truths.items i truth
   pub dues : new.dues ≡ set old.dues i due
 
 -- once it was run with some cells and nodes, and then noted
 module _ (i start : ℕ) (p : Placed) (truth : Bool) (due : ℕ) (old new : Terms) (n : NodeMemory) (m : Memory)
-    (rest : new ≡ record old { nodes = n; cells = new.cells; truths = new.truths; dues = new.dues }) (slots_same : new.cells.slots ≡ m.slots) where
+    (rest : new ≡ record old { nodes = n; cells = m; truths = new.truths; dues = new.dues }) where
   same-nodes : new.nodes ≡ n
   same-nodes = ap (λ (t : Terms). t.nodes) rest
+
+  same-cells : new.cells ≡ m
+  same-cells = ap (λ (t : Terms). t.cells) rest
 
   pub noted : Within start (start + nodes p.tree) p.at (p.at + slots p.tree) old.nodes n
       → ((j : ℕ) → j < p.at → cell_at m.slots j ≡ cell_at old.cells.slots j)
       → ((j : ℕ) → p.at + slots p.tree ≤ j → cell_at m.slots j ≡ cell_at old.cells.slots j)
-      → length m.slots ≡ length old.cells.slots → m.visits ≡ old.cells.visits → new.cells.visits ≡ min (m.visits + nodes p.tree) (2 ^ 64 - 1)
+      → length m.slots ≡ length old.cells.slots → m.visits ≡ old.cells.visits
       → new.truths.items ≡ set old.truths.items i truth → new.dues ≡ set old.dues i due → RunsOne i start p truth due old new
-  noted within before behind len visits counted truths dues = record {
-    rest = subst (λ own. new ≡ record old { nodes = own; cells = new.cells; truths = new.truths; dues = new.dues }) (sym same-nodes) rest;
+  noted within before behind len visits truths dues = record {
+    rest = subst (λ own. new ≡ record old { nodes = own; cells = new.cells; truths = new.truths; dues = new.dues }) (sym same-nodes)
+        (subst (λ own. new ≡ record old { nodes = n; cells = own; truths = new.truths; dues = new.dues }) (sym same-cells) rest);
     within = subst (Within start (start + nodes p.tree) p.at (p.at + slots p.tree) old.nodes) (sym same-nodes) within;
-    before = λ j lt. ap (λ cs. cell_at cs j) slots_same ∙ before j lt;
-    behind = λ j le. ap (λ cs. cell_at cs j) slots_same ∙ behind j le;
-    len = ap length slots_same ∙ len;
-    visits = counted ∙ ap (λ v. min (v + nodes p.tree) (2 ^ 64 - 1)) visits;
+    before = λ j lt. ap (λ (q : Memory). cell_at q.slots j) same-cells ∙ before j lt;
+    behind = λ j le. ap (λ (q : Memory). cell_at q.slots j) same-cells ∙ behind j le;
+    len = ap (λ (q : Memory). length q.slots) same-cells ∙ len;
+    visits = ap (λ (q : Memory). q.visits) same-cells ∙ visits;
     truths = truths;
     dues = dues;
   }
@@ -68,7 +71,7 @@ module _ (i start : ℕ) (p : Placed) (truth : Bool) (due : ℕ) (old new : Term
     truth_is = told;
     next = next;
     wakes = wakes ∙ ap (λ (q : NodeMemory). first_wake q.wakes p.at (slots p.tree)) (sym same-nodes);
-    stands = subst (Stand w (suc k) p.tree p.at) (sym slots_same) stands;
+    stands = subst (λ (q : Memory). Stand w (suc k) p.tree p.at q.slots) (sym same-cells) stands;
     kept = subst (NodesStand w k p.tree p.at start) (sym same-nodes) kept;
   }
 
@@ -79,27 +82,28 @@ run-fits b i start p truth due old new runs fits = subst (TermsFit b) (sym runs.
   wakes = runs.within.slots ∙ fits.wakes;
   askers = fits.askers;
   slots = runs.len ∙ fits.slots;
-  visits = omega (arith, runs.visits);
+  visits = omega (arith, runs.visits, fits.visits);
   truths = ap length runs.truths ∙ length-set old.truths.items i truth ∙ fits.truths;
   dues = ap length runs.dues ∙ length-set old.dues i due ∙ fits.dues;
   woken_room = fits.woken_room;
   stirred_room = fits.stirred_room;
+  stirs = fits.stirs;
   watch = fits.watch;
 }
 
-pub run-steps : (b : Book) (env : Env) (k i : ℕ) (p : Placed) (truth : Bool) (due : ℕ) (old new : Terms) → k < 2 ^ 63 → slice_get (places b) i ≡ Some p → TermsFit b old → is_marked old.woken i ≡ true
+pub run-steps : (b : Book) (env : Env) (k i : ℕ) (p : Placed) (truth : Bool) (due : ℕ) (old new : Terms) → k < 2 ^ 63 → slice_get (places b) i ≡ Some p → TermsFit b old
     → RunsOne i (nodes_before (places b) i) p truth due old new
     → ((w : World) (hit : Operand → Bool) → Shows env w k → TellsMoved hit w k p → IsLeft w hit k i (nodes_before (places b) i) p old
     → IsRun w k (nodes_before (places b) i) p new truth due)
     → StepsTerm (places b) env k i p old new truth
-run-steps b env k i p truth due old new small here fits woken runs told =
+run-steps b env k i p truth due old new small here fits runs told =
     let inside : i < length (places b) = slice_get_within (places b) i p here in
     record {
       truth = λ worlds hit visited at shows tells half. (told (worlds i) hit shows tells (half.left i p (omega arith) at)).truth_is;
       stands = λ worlds hit visited at apart shows tells half.
           let is = told (worlds i) hit shows tells (half.left i p (omega arith) at) in
           half-step (places b) worlds k i p at apart old new truth due runs.before runs.behind runs.within runs.truths runs.dues
-          (ap (λ (t : Terms). t.woken) runs.rest) (ap (λ (t : Terms). t.stirred) runs.rest) runs.visits hit visited small tells woken
+          (ap (λ (t : Terms). t.woken) runs.rest) (ap (λ (t : Terms). t.stirred) runs.rest) runs.visits hit visited small tells
           (omega (arith, inside, fits.truths)) (omega (arith, inside, fits.dues))
           is.stands is.kept is.wakes is.truth_is is.next half;
     }

@@ -5,7 +5,7 @@ use Rattle.ecam_spec.specs.Past.{Signal, previous}
 use Rattle.ecam_spec.specs.Book.{Book}
 use Rattle.ecam_spec.specs.History.{Moment}
 use Rattle.ecam_spec.specs.Situation as situation
-use Rattle.ecam_spec.specs.Situation.{strokes_in, value_in, computer_up, phase_in, condition_in, present_in, active_in, waiting_in, starred_in, up_in, world_where, flight_world, alert_world, known_below, world}
+use Rattle.ecam_spec.specs.Situation.{phase_in, condition_in, present_in, active_in, waiting_in, starred_in, up_in, world_where, flight_world, alert_world, known_below, world}
 use Rattle.ecam_spec.proofs.WorldLaws.{known-at}
 use Rattle.ecam_kinds.specs.declared.phase.Phase.{Phase}
 use Rattle.alert_truth.specs.Alerts.{present, active, waiting, starred, up}

@@ -1,7 +1,6 @@
 -- One condition more is stepped: run where it may turn, and left as it is where it doesn't. The others, whose nodes and slots are
 -- their own, are as they were.
-use Rattle.std.proofs.Common.{◌≡◌, ◌≢◌, ℕ, zero, suc, ◌+◌, ◌-◌, ◌^◌, ◌<◌, ◌≤◌, min, Bool, true, false, not, ◌&&◌, ◌||◌, cond, List, length, slice_get, slice_index, get_or, set, Some, AllPairs, refl, sym, ap, subst, ◌∙◌, inl, inr, arith, eqb}
-use Rattle.std.specs.Option.{option_map_or}
+use Rattle.std.proofs.Common.{◌≡◌, ◌≢◌, ℕ, zero, suc, ◌+◌, ◌^◌, ◌<◌, ◌≤◌, Bool, true, false, not, ◌&&◌, ◌||◌, List, length, slice_get, slice_index, get_or, set, Some, AllPairs, refl, sym, ap, subst, ◌∙◌, inl, inr, arith, eqb}
 use Rattle.std.proofs.Math.Nat.{eq-or-lt_of_le}
 use Rattle.std.proofs.lemmas.List.{get_or-set_same, get_or-set_other}
 use Rattle.std.proofs.lemmas.Option.{slice_get_within}
@@ -26,7 +25,7 @@ use Rattle.wakes.specs.Marks.{is_marked}
 use Rattle.condition_codes.specs.Places.{nodes_before}
 use Rattle.fwc_lane.specs.declared.terms.Terms.{Terms}
 use Rattle.fwc_lane.specs.TermsFit.{TermsFit}
-use Rattle.fwc_lane.specs.Visits.{nodes_woken, visits_below}
+use Rattle.fwc_lane.specs.Visits.{IsCounted}
 use Rattle.fwc_lane.proofs.Askers.{nodes-apart}
 use Rattle.fwc_lane.proofs.Hears.{waits-by, heard-same}
 use Rattle.fwc_lane.proofs.NodeFrames.{waits-same, wake-same, ends-before}
@@ -59,10 +58,10 @@ moved-asked w hit k h j start p t tells is =
     (heard-same (moved w k) hit p.tree (λ i x asks. sym (tells.each i x asks))) is.nodes
 
 -- one that isn't stirred is as it was asked
-pub calm-asked : (w : World) (hit : Operand → Bool) (k j start : ℕ) (p : Placed) (t : Terms) → k < 2 ^ 63 → TellsMoved hit w k p → IsLeft w hit k j start p t → is_marked t.stirred j ≡ false
+pub rest-asked : (w : World) (hit : Operand → Bool) (k j start : ℕ) (p : Placed) (t : Terms) → k < 2 ^ 63 → TellsMoved hit w k p → IsLeft w hit k j start p t → is_marked t.stirred j ≡ false
     → IsAsked w k j start p t
-calm-asked w hit zero j start p t small tells left off = absurd (let w : ⊥ = (let clash : true ≡ false = sym (left.stirs refl) ∙ off in cc) in w)
-calm-asked w hit (suc h) j start p t small tells left off =
+rest-asked w hit zero j start p t small tells left off = absurd (let w : ⊥ = (let clash : true ≡ false = sym (left.stirs refl) ∙ off in cc) in w)
+rest-asked w hit (suc h) j start p t small tells left off =
     let is = left.later h refl in
     let calm = is.calm off in
     let waits = moved-asked w hit (suc h) h j start p t tells is in
@@ -76,97 +75,42 @@ calm-asked w hit (suc h) j start p t small tells left off =
       next = subst (IsDue (staying w (suc h)) p.tree (suc h)) (sym wakes) (unstirred-due w h p.tree p.at start t.nodes small left.short waits later);
     }
 
--- and so is one that isn't woken
-not-stirred : (w : World) (hit : Operand → Bool) (k j start : ℕ) (p : Placed) (t : Terms) → IsLeft w hit k j start p t → is_marked t.woken j ≡ false → is_marked t.stirred j ≡ false
-not-stirred w hit zero j start p t left off = absurd (let w : ⊥ = (let clash : true ≡ false = sym (left.first refl) ∙ off in cc) in w)
-not-stirred w hit (suc h) j start p t left off = (left.later h refl).stirs off
-
-pub rest-asked : (w : World) (hit : Operand → Bool) (k j start : ℕ) (p : Placed) (t : Terms) → k < 2 ^ 63 → TellsMoved hit w k p → IsLeft w hit k j start p t → is_marked t.woken j ≡ false
-    → IsAsked w k j start p t
-rest-asked w hit k j start p t small tells left off = calm-asked w hit k j start p t small tells left (not-stirred w hit k j start p t left off)
-
--- which holds where it held
-pub calm-holds : (w : World) (hit : Operand → Bool) (k h j start : ℕ) (p : Placed) (t : Terms) → k < 2 ^ 63 → k ≡ suc h → TellsMoved hit w k p → IsLeft w hit k j start p t → is_marked t.stirred j ≡ false
+-- and holds where it held
+pub rest-holds : (w : World) (hit : Operand → Bool) (k h j start : ℕ) (p : Placed) (t : Terms) → k < 2 ^ 63 → k ≡ suc h → TellsMoved hit w k p → IsLeft w hit k j start p t → is_marked t.stirred j ≡ false
     → holds w p.tree h ≡ holds w p.tree k
-calm-holds w hit k h j start p t small e tells left off = sym (left.later h e).told ∙ (calm-asked w hit k j start p t small tells left off).told
-
-pub rest-holds : (w : World) (hit : Operand → Bool) (k h j start : ℕ) (p : Placed) (t : Terms) → k < 2 ^ 63 → k ≡ suc h → TellsMoved hit w k p → IsLeft w hit k j start p t → is_marked t.woken j ≡ false
-    → holds w p.tree h ≡ holds w p.tree k
-rest-holds w hit k h j start p t small e tells left off = calm-holds w hit k h j start p t small e tells left (not-stirred w hit k j start p t left off)
+rest-holds w hit k h j start p t small e tells left off = sym (left.later h e).told ∙ (rest-asked w hit k j start p t small tells left off).told
 
 module _ (ps : List Placed) (worlds : ℕ → World) (k i : ℕ) (p : Placed) (here : slice_get ps i ≡ Some p) where
-  -- what the condition adds to the visits
-  nodes-is : (b : Bool) → woken (worlds i) p.tree k ≡ b → nodes_woken ps worlds k i ≡ cond b (nodes p.tree) 0
-  nodes-is b is =
-      ap (λ o. option_map_or (λ (q : Placed). cond (woken (worlds i) q.tree k) (nodes q.tree) 0) o 0) here ∙ ap (λ c. cond c (nodes p.tree) 0) is
-
-  below-next : (b : Bool) → woken (worlds i) p.tree k ≡ b → visits_below ps worlds k (suc i) ≡ visits_below ps worlds k i + cond b (nodes p.tree) 0
-  unfolding visits_below
-  below-next b is = ap (λ n. visits_below ps worlds k i + n) (nodes-is b is)
-
   own-at : (t : Terms) (j : ℕ) (q : Placed) → j ≡ i → slice_get ps j ≡ Some q → IsAsked (worlds i) k i (nodes_before ps i) p t → IsAsked (worlds j) k j (nodes_before ps j) q t
   own-at t j q at is asked =
       let same : p ≡ q = let both : Some p ≡ Some q = sym here ∙ ap (slice_get ps) (sym at) ∙ is in cc in
       subst (λ n. IsAsked (worlds n) k n (nodes_before ps n) q t) (sym at) (subst (λ r. IsAsked (worlds i) k i (nodes_before ps i) r t) same asked)
 
-  -- what is left alone
-  pub half-rest : (hit : Operand → Bool) (visited : ℕ) (t : Terms) → k < 2 ^ 63 → TellsMoved hit (worlds i) k p → is_marked t.woken i ≡ false → HalfStepped ps worlds hit k i visited t
+  own-mark : (t : Terms) (j : ℕ) (q : Placed) → j ≡ i → slice_get ps j ≡ Some q → is_marked t.woken i ≡ woken (worlds i) p.tree k → is_marked t.woken j ≡ woken (worlds j) q.tree k
+  own-mark t j q at is own =
+      let same : p ≡ q = let both : Some p ≡ Some q = sym here ∙ ap (slice_get ps) (sym at) ∙ is in cc in
+      subst (λ n. is_marked t.woken n ≡ woken (worlds n) q.tree k) (sym at) (subst (λ (r : Placed). is_marked t.woken i ≡ woken (worlds i) r.tree k) same own)
+
+  -- those up to it are marked that the moment wakes
+  marks-next : (hit : Operand → Bool) (visited : ℕ) (t : Terms) → k < 2 ^ 63 → TellsMoved hit (worlds i) k p → HalfStepped ps worlds hit k i visited t
+      → (j : ℕ) (q : Placed) → j < suc i → slice_get ps j ≡ Some q → is_marked t.woken j ≡ woken (worlds j) q.tree k
+  marks-next hit visited t small tells half j q lt is = elim (eq-or-lt_of_le (let le : j ≤ i = omega arith in le)) [
+    | inl same ↦ own-mark t j q same is (sym (marked-is (worlds i) hit k i (nodes_before ps i) p t small tells (half.left i p (omega arith) here)))
+    | inr less ↦ half.marks j q less is
+  ]
+
+  -- what isn't stirred is left alone
+  pub half-rest : (hit : Operand → Bool) (visited : ℕ) (t : Terms) → k < 2 ^ 63 → TellsMoved hit (worlds i) k p → is_marked t.stirred i ≡ false → HalfStepped ps worlds hit k i visited t
       → HalfStepped ps worlds hit k (suc i) visited t
-  half-rest hit visited t small tells off half =
-      let mine = half.left i p (omega arith) here in
-      let rests : woken (worlds i) p.tree k ≡ false = marked-is (worlds i) hit k i (nodes_before ps i) p t small tells mine ∙ off in
-      record {
-        stepped = λ j q lt is. elim (eq-or-lt_of_le (let le : j ≤ i = omega arith in le)) [
-          | inl same ↦ own-at t j q same is (rest-asked (worlds i) hit k i (nodes_before ps i) p t small tells mine off)
-          | inr less ↦ half.stepped j q less is
-        ];
-        left = λ j q le is. half.left j q (omega arith) is;
-        counted = let more = below-next false rests in omega (arith, more, half.counted);
-      }
-
-  -- what is woken and isn't stirred: its nodes are counted
-  module _ (old new : Terms) (counted : new ≡ record old { cells = new.cells }) (slots_same : new.cells.slots ≡ old.cells.slots) where
-    asked-too : (j : ℕ) (q : Placed) → IsAsked (worlds j) k j (nodes_before ps j) q old → IsAsked (worlds j) k j (nodes_before ps j) q new
-    asked-too j q was = subst (IsAsked (worlds j) k j (nodes_before ps j) q) (sym counted) record {
-      stands = subst (Stand (worlds j) (suc k) q.tree q.at) (sym slots_same) was.stands;
-      nodes = was.nodes;
-      wakes = was.wakes;
-      told = was.told;
-      next = was.next;
-    }
-
-    left-too : (hit : Operand → Bool) (j : ℕ) (q : Placed) → IsLeft (worlds j) hit k j (nodes_before ps j) q old → IsLeft (worlds j) hit k j (nodes_before ps j) q new
-    left-too hit j q was = subst (IsLeft (worlds j) hit k j (nodes_before ps j) q) (sym counted) record {
-      short = was.short;
-      stands = subst (Stand (worlds j) k q.tree q.at) (sym slots_same) was.stands;
-      first = was.first;
-      stirs = was.stirs;
-      later = λ h e.
-          let is = was.later h e in (record {
-            due = is.due;
-            told = is.told;
-            next = is.next;
-            marks = is.marks;
-            nodes = is.nodes;
-            stirs = is.stirs;
-            kept = is.kept;
-            calm = λ off. (let calm = is.calm off in (record { later = calm.later; wakes = calm.wakes; told = calm.told }));
-          });
-    }
-
-    pub half-calm : (hit : Operand → Bool) (visited : ℕ) → k < 2 ^ 63 → TellsMoved hit (worlds i) k p → is_marked old.woken i ≡ true → is_marked old.stirred i ≡ false
-        → new.cells.visits ≡ min (old.cells.visits + nodes p.tree) (2 ^ 64 - 1) → HalfStepped ps worlds hit k i visited old → HalfStepped ps worlds hit k (suc i) visited new
-    half-calm hit visited small tells on off visits half =
-        let mine = half.left i p (omega arith) here in
-        let wakes : woken (worlds i) p.tree k ≡ true = marked-is (worlds i) hit k i (nodes_before ps i) p old small tells mine ∙ on in
-        record {
-          stepped = λ j q lt is. elim (eq-or-lt_of_le (let le : j ≤ i = omega arith in le)) [
-            | inl same ↦ own-at new j q same is (asked-too i p (calm-asked (worlds i) hit k i (nodes_before ps i) p old small tells mine off))
-            | inr less ↦ asked-too j q (half.stepped j q less is)
-          ];
-          left = λ j q le is. left-too hit j q (half.left j q (omega arith) is);
-          counted = let more = below-next true wakes in omega (arith, more, half.counted, visits);
-        }
+  half-rest hit visited t small tells off half = record {
+    stepped = λ j q lt is. elim (eq-or-lt_of_le (let le : j ≤ i = omega arith in le)) [
+      | inl same ↦ own-at t j q same is (rest-asked (worlds i) hit k i (nodes_before ps i) p t small tells (half.left i p (omega arith) here) off)
+      | inr less ↦ half.stepped j q less is
+    ];
+    marks = marks-next hit visited t small tells half;
+    left = λ j q le is. half.left j q (omega arith) is;
+    counted = half.counted;
+  }
 
   -- what is run
   module _ (apart : AllPairs EndsBefore ps) (old new : Terms) (truth : Bool) (due : ℕ)
@@ -174,7 +118,7 @@ module _ (ps : List Placed) (worlds : ℕ → World) (k i : ℕ) (p : Placed) (h
       (behind : (j : ℕ) → p.at + slots p.tree ≤ j → cell_at new.cells.slots j ≡ cell_at old.cells.slots j)
       (within : Within (nodes_before ps i) (nodes_before ps i + nodes p.tree) p.at (p.at + slots p.tree) old.nodes new.nodes)
       (truths : new.truths.items ≡ set old.truths.items i truth) (dues : new.dues ≡ set old.dues i due) (marks : new.woken ≡ old.woken) (stirs : new.stirred ≡ old.stirred)
-      (visits : new.cells.visits ≡ min (old.cells.visits + nodes p.tree) (2 ^ 64 - 1)) where
+      (visits : new.cells.visits ≡ old.cells.visits) where
     truth-other : (j : ℕ) → j ≢ i → get_or new.truths.items j false ≡ get_or old.truths.items j false
     truth-other j ne = ap (λ ys. get_or ys j false) truths ∙ get_or-set_other old.truths.items i j truth false ne
 
@@ -219,7 +163,6 @@ module _ (ps : List Placed) (worlds : ℕ → World) (k i : ℕ) (p : Placed) (h
                 marks = same ∙ was.marks;
                 nodes = waits-same (worlds j) h (heard hit q.tree) q.tree q.at (nodes_before ps j) old.nodes new.nodes
                     (λ n low high. within.behind n (omega (arith, low, above))) (λ s low high. within.slots_behind s (omega (arith, low, ends))) was.nodes;
-                stirs = λ off. stays ∙ was.stirs (sym same ∙ off);
                 kept = λ off. due-other j ne ∙ was.kept (sym stays ∙ off);
                 calm = λ off.
                     let calm = was.calm (sym stays ∙ off) in (record {
@@ -230,13 +173,11 @@ module _ (ps : List Placed) (worlds : ℕ → World) (k i : ℕ) (p : Placed) (h
               });
         }
 
-    pub half-step : (hit : Operand → Bool) (visited : ℕ) → k < 2 ^ 63 → TellsMoved hit (worlds i) k p → is_marked old.woken i ≡ true → i < length old.truths.items → i < length old.dues
+    pub half-step : (hit : Operand → Bool) (visited : ℕ) → k < 2 ^ 63 → TellsMoved hit (worlds i) k p → i < length old.truths.items → i < length old.dues
         → Stand (worlds i) (suc k) p.tree p.at new.cells.slots → NodesStand (worlds i) k p.tree p.at (nodes_before ps i) new.nodes → due ≡ first_wake new.nodes.wakes p.at (slots p.tree)
         → truth ≡ holds (worlds i) p.tree k → IsDue (staying (worlds i) k) p.tree k due
         → HalfStepped ps worlds hit k i visited old → HalfStepped ps worlds hit k (suc i) visited new
-    half-step hit visited small tells on room room' stands kept first told next half =
-        let mine = half.left i p (omega arith) here in
-        let wakes : woken (worlds i) p.tree k ≡ true = marked-is (worlds i) hit k i (nodes_before ps i) p old small tells mine ∙ on in
+    half-step hit visited small tells room room' stands kept first told next half =
         let own : slice_index new.dues i ≡ due = ap (λ ys. slice_index ys i) dues ∙ get_or-set_same old.dues i due 0 room' in
         let asked : IsAsked (worlds i) k i (nodes_before ps i) p new = record {
           stands = stands;
@@ -250,8 +191,9 @@ module _ (ps : List Placed) (worlds : ℕ → World) (k i : ℕ) (p : Placed) (h
             | inl same ↦ own-at new j q same is asked
             | inr less ↦ earlier j q less is (half.stepped j q less is)
           ];
+          marks = λ j q lt is. ap (λ ws. is_marked ws j) marks ∙ marks-next hit visited old small tells half j q lt is;
           left = λ j q le is. later hit j q (omega arith) is (half.left j q (omega arith) is);
-          counted = let more = below-next true wakes in omega (arith, more, half.counted, visits);
+          counted = subst (λ ws. IsCounted ps visited ws new.cells.visits) (sym marks) (visits ∙ half.counted);
         }
 
 -- one line more

@@ -34,7 +34,9 @@ use Rattle.fwc_lane.specs.Scenes.{AreTurned}
 use Rattle.fwc_lane.specs.LaneStands.{WholeStands}
 use Rattle.fwc_lane.specs.Begun.{HasBegun}
 use Rattle.fwc_lane.specs.Given.{Lends, Came, AreBefore}
+use Rattle.fwc_lane.specs.LineFlags.{KeepsShown}
 use Rattle.fwc_lane.proofs.CrewMoments.{shown-told, cancelled-told}
+use Rattle.fwc_lane.proofs.LineOwners.{own-place, own-line}
 
 -- what is so of moment k is so of the one before moment k + 1
 pub of-last : (P : ℕ → Type 0) (k : ℕ) → P k → (j : ℕ) → suc k ≡ suc j → P j
@@ -50,7 +52,7 @@ pub record TurnedFrom (b : Book) (m : ℕ → Moment) (k : ℕ) (old : Lane) (t 
   pub first : t.first ≡ not old.ticked
   pub phase_kept : t.phase ≡ false → phase ≡ old.phase
   pub values : t.values ≡ others
-  pub lines_kept : t.lines ≡ false → lines ≡ old.lines.items
+  pub lines_kept : t.lines ≡ false → KeepsShown b old.marks.sets.shown old.lines.items lines
   pub memos_kept : t.memos ≡ false → memos ≡ old.memos.items
   pub marks_kept : t.marks ≡ false → marks.sets ≡ old.marks.sets
   pub normal_kept : t.normal ≡ false → calm ≡ was
@@ -67,14 +69,17 @@ pub value-before : (b : Book) (m : ℕ → Moment) (k : ℕ) (values : List (Opt
 unfolding value_before value_in
 value-before b m k values before j e p lt = before p lt ∙ ap (value_before (parameter_at b p) (words_in b m)) e
 
-pub are-turned : (b : Book) (m : ℕ → Moment) (k : ℕ) (one two : Bool) (old : Lane) (t : Turned) (phase : Phase) (values : Bool) (lines memos : List Bool) (marks : CrewMarks) (was calm : Bool)
-    → HasBegun b m k one two values old → TurnedFrom b m k old t phase values lines memos marks was calm → AreTurned b m k t
+pub are-turned : (b : Book) (m : ℕ → Moment) (k visited : ℕ) (one two : Bool) (old : Lane) (t : Turned) (phase : Phase) (values : Bool) (lines memos : List Bool) (marks : CrewMarks) (was calm : Bool)
+    → HasBegun b m k visited one two values old → TurnedFrom b m k old t phase values lines memos marks was calm → AreTurned b m k t
 unfolding previous
-are-turned b m k one two old t phase values lines memos marks was calm stands from = record {
+are-turned b m k visited one two old t phase values lines memos marks was calm stands from = record {
   first = first-is k old.ticked t.first stands.ticked from.first;
   phase = λ j e off. sym from.phase_is ∙ ap (λ (p : Phase). p.number) (from.phase_kept off) ∙ stands.phase j e;
   values = λ j e off p lt. stands.kept (sym from.values ∙ off) j e p lt;
-  lines = λ j e off i l is. sym (from.lines_are i l is) ∙ ap (λ fs. get_or fs i false) (from.lines_kept off) ∙ stands.lines j e i l is;
+  lines = λ j e off a lt on i l is.
+      let there = own-place b a i l lt is in
+      let lit = shown-told b m j old.marks (subst (λ n. MarksStand b (cockpit b m) n old.marks) e stands.marks) a lt ∙ on in
+      sym (from.lines_are _ l there) ∙ from.lines_kept off a _ lit (own-line b a i l lt is) ∙ stands.lines j e _ l there;
   memos = λ j e off i x is. sym (from.memos_are i x is) ∙ ap (λ fs. get_or fs i false) (from.memos_kept off) ∙ stands.memos j e i x is;
   shown = λ j e off a lt.
       sym (shown-told b m k marks from.marks_are a lt) ∙ ap (λ (s : MarkSets). get_or s.shown a false) (from.marks_kept off)
@@ -93,6 +98,15 @@ lends-from b m k v p a q o t params keys same came values = record {
   pressed = λ key is. ap (λ (ks : Keys). is_pressed ks key) same ∙ came.strokes.pressed key is;
   one_up = came.one_up;
   two_up = came.two_up;
+}
+
+-- the same came where the same computers are up
+pub came-with : (b : Book) (m : ℕ → Moment) (k : ℕ) (params : Params) (keys : Keys) (one two one' two' : Bool) → one' ≡ one → two' ≡ two → Came b m k params keys one two → Came b m k params keys one' two'
+came-with b m k params keys one two one' two' first second came = record {
+  words = came.words;
+  strokes = came.strokes;
+  one_up = first ∙ came.one_up;
+  two_up = second ∙ came.two_up;
 }
 
 -- the values of a moment, by the words so far
@@ -125,11 +139,11 @@ terms-after b m k visited t params keys kept one two same all came =
     }
 
 -- a moment has begun in a lane that stood for those before it
-pub has-begun : (b : Book) (m : ℕ → Moment) (k : ℕ) (one two turned : Bool) (old : Lane) (t : Terms) (values : Vec (Option ℤ) Global) (flags : Vec Bool Global) → WholeStands b m k old → Came b m k old.params old.keys one two
-    → BookHalf b m k 0 0 t.cells.visits t → ((p : ℕ) → p < length b.parameters → get_or values.items p None ≡ value_in b m p k) → (turned ≡ false → values.items ≡ old.values.items)
+pub has-begun : (b : Book) (m : ℕ → Moment) (k visited : ℕ) (one two turned : Bool) (old : Lane) (t : Terms) (values : Vec (Option ℤ) Global) (flags : Vec Bool Global) → WholeStands b m k old → Came b m k old.params old.keys one two
+    → BookHalf b m k 0 0 visited t → ((p : ℕ) → p < length b.parameters → get_or values.items p None ≡ value_in b m p k) → (turned ≡ false → values.items ≡ old.values.items)
     → ((p : ℕ) → get_or flags.items p false ≡ false → get_or values.items p None ≡ get_or old.values.items p None)
-    → (idle : Bool) → HasBegun b m k one two turned (record old { terms = t; values = values; turned = flags; idle = idle })
-has-begun b m k one two turned old t values flags was came half told kept stays idle = record {
+    → (idle : Bool) → HasBegun b m k visited one two turned (record old { terms = t; values = values; turned = flags; idle = idle })
+has-begun b m k visited one two turned old t values flags was came half told kept stays idle = record {
   came = came;
   values = told;
   kept = λ off j e p lt. sym (told p lt) ∙ ap (λ vs. get_or vs p None) (kept off) ∙ value-before b m k old.values.items was.values j e p lt;

@@ -1,8 +1,8 @@
 -- One node of a list after another is told what the operand reads for which they ask.
-use Rattle.std.proofs.Common.{◌≡◌, ◌≢◌, ℕ, zero, suc, ◌+◌, ◌<◌, Bool, true, false, ◌&&◌, ◌||◌, eqb, List, [], ◌∷◌, take, length, slice_get, None, Some, refl, sym, ap, subst, ◌∙◌, ◌⊎◌, inl, inr, arith}
-use Rattle.std.proofs.lemmas.Bool.{cases_eq, eqb-true, eq-eqb, ne_eqb}
+use Rattle.std.proofs.Common.{◌≡◌, ◌≢◌, ℕ, zero, suc, ◌+◌, ◌-◌, ◌^◌, ◌<◌, ◌≤◌, Bool, true, false, ◌&&◌, ◌||◌, eqb, List, [], ◌∷◌, take, length, slice_get, None, Some, refl, sym, ap, subst, ◌∙◌, ◌⊎◌, inl, inr, arith}
+use Rattle.std.proofs.lemmas.Bool.{cases_eq, eq-eqb, ne_eqb}
 use Rattle.std.proofs.lemmas.Option.{slice_get_within}
-use Rattle.std.proofs.Math.Bool.{and-true, or-false, or-true, or_assoc, or_comm}
+use Rattle.std.proofs.Math.Bool.{and-false, and-true, or-false, or-true, or_assoc, or_comm}
 use Rattle.ecam_spec.specs.Book.{Book, Tree}
 use Rattle.ecam_spec.specs.Term.{World}
 use Rattle.ecam_spec.specs.TermSize.{Placed, nodes, slots}
@@ -12,7 +12,7 @@ use Rattle.term_eval.specs.Asked.{Asks, AreAtoms, asked}
 use Rattle.term_eval.specs.Code.{IsCode, IsHeld}
 use Rattle.term_eval.specs.declared.code.Step.{Step}
 use Rattle.term_eval.proofs.Codes.{length-asked}
-use Rattle.term_eval.specs.Memory.{NodeMemory}
+use Rattle.term_eval.specs.Memory.{Memory, NodeMemory}
 use Rattle.term_eval.specs.NodeState.{state_at, NodesWait, Within, also, first_wake}
 use Rattle.term_eval.specs.Reading.{Reads}
 use Rattle.term_eval.specs.Woken.{Operand}
@@ -20,13 +20,15 @@ use Rattle.term_eval.specs.declared.reading.Reading.{Reading}
 use Rattle.wakes.specs.Marks.{is_marked, room}
 use Rattle.condition_codes.specs.IsAskers.{IsAsking}
 use Rattle.condition_codes.specs.Places.{nodes_before}
-use Rattle.condition_codes.specs.declared.codes.Codes.{Codes}
+use Rattle.condition_codes.specs.declared.codes.CodeTable.{CodeTable}
 use Rattle.condition_codes.specs.declared.askers.Asker.{Asker}
-use Rattle.fwc_lane.specs.Waking.{CanTurn, TurnsEach, Kept, is_listed}
+use Rattle.fwc_lane.specs.TermsFit.{AreWoken}
+use Rattle.fwc_lane.specs.Visits.{IsCounted}
+use Rattle.fwc_lane.specs.Waking.{CanTurn, TurnsEach, MarksEach, Kept, is_listed, is_asking}
 use Rattle.fwc_lane.proofs.FlagSteps.{left-false, right-false}
 use Rattle.fwc_lane.proofs.Askers.{nodes-apart, one-of}
 use Rattle.fwc_lane.proofs.Hears.{waits-by}
-use Rattle.fwc_lane.proofs.Listing.{listed-at, right-true}
+use Rattle.fwc_lane.proofs.Listing.{listed-at}
 use Rattle.fwc_lane.proofs.NodeFrames.{waits-apart, wake-apart, told-apart}
 
 pub turns-none : (b : Book) (reading : Reading) (nodes : NodeMemory) (stirred : List ℕ) → TurnsEach b [] reading nodes stirred nodes stirred
@@ -35,7 +37,6 @@ turns-none b reading nodes stirred = record {
   wakes = refl;
   same = refl;
   turns = λ j p is w h asked atoms so waits. waits;
-  stirs = λ j on. inl on;
   calm = λ j p is off. (record { calm = off; told = refl; due = refl });
   due = λ j p is none. refl;
 }
@@ -57,10 +58,10 @@ listed-asks b n asking each j p is i listed =
     (own.operand, subst (λ n. Asks p.tree n own.operand) found.4 (subst (λ (q : Placed). Asks q.tree found.1.node own.operand) same own.asks))
 
 -- the condition's nodes and slots are there
-pub is-held : (b : Book) (asking : List Asker) (codes : Codes) (old now : NodeMemory) (stirred : List ℕ) → CanTurn b asking codes old stirred
+pub is-held : (b : Book) (asking : List Asker) (codes : CodeTable) (old now : NodeMemory) (woken stirred : List ℕ) → CanTurn b asking codes old woken stirred
     → length now.states ≡ length old.states → length now.wakes ≡ length old.wakes
     → (j : ℕ) (p : Placed) (steps : List Step) (first : ℕ) → slice_get (places b) j ≡ Some p → IsCode p.tree p.at steps → first ≡ nodes_before (places b) j → IsHeld steps now p.tree p.at first
-is-held b asking codes old now stirred can states wakes j p steps first is code at = record {
+is-held b asking codes old now woken stirred can states wakes j p steps first is code at = record {
   code = code;
   nodes = omega (arith, can.states, states, at, nodes-apart (places b) j (length (places b)) p (slice_get_within (places b) j p is) is);
   slots = omega (arith, can.slots, wakes, range b j p is);
@@ -151,15 +152,6 @@ module _ (b : Book) (reading : Reading) (done more : List Asker) (a : Asker) (ol
         (subst (λ (r : Placed). NodesWait w h (λ i. is_listed done a.term i || asked i) r.tree r.at (nodes_before (places b) a.term) mid) (sym same)
         (subst (λ n. NodesWait w h (λ i. is_listed done n i || asked i) p.tree p.at (nodes_before (places b) n) mid) at (mid-waits j p is w h asked own so was))))))
 
-  stirs : (j : ℕ) → is_marked marks j ≡ true → (is_marked were j ≡ true) ⊎ ((i : ℕ) × (is_listed more j i ≡ true))
-  stirs j on = elim (one-of (is_marked are j) (turned && eqb a.term j) (sym (marked j) ∙ on)) [
-    | inl was ↦ elim (before.stirs j was) [
-      | inl once ↦ inl once
-      | inr (i, among) ↦ inr (i, then-listed j i among)
-    ]
-    | inr now ↦ inr (a.node, own-listed j (sym (eqb-true a.term j (right-true turned (eqb a.term j) now))))
-  ]
-
   calm : (j : ℕ) (p : Placed) → slice_get (places b) j ≡ Some p → is_marked marks j ≡ false → Kept j (nodes_before (places b) j) p old were new
   calm j p is off = by (cases_eq j a.term) where
     none : (is_marked are j || (turned && eqb a.term j)) ≡ false
@@ -197,7 +189,44 @@ module _ (b : Book) (reading : Reading) (done more : List Asker) (a : Asker) (ol
     wakes = within.slots ∙ before.wakes;
     same = rooms ∙ before.same;
     turns = turns;
-    stirs = stirs;
     calm = calm;
     due = due;
   }
+
+-- ---- their conditions are marked
+
+pub marks-none : (b : Book) (woken : List ℕ) (cells : Memory) → MarksEach b [] woken cells woken cells
+marks-none b woken cells = record {
+  same = refl;
+  marked = λ j. sym (or-false (is_marked woken j));
+  slots = refl;
+  most = λ le. le;
+  counts = λ visited counted. counted;
+}
+
+-- one more
+pub marks-more : (b : Book) (done more : List Asker) (term : ℕ) (woken mid marks : List ℕ) (cells was now : Memory)
+    → ((j : ℕ) → is_asking more j ≡ (is_asking done j || eqb term j)) → room marks ≡ room mid → ((j : ℕ) → is_marked marks j ≡ (eqb j term || is_marked mid j)) → now.slots ≡ was.slots
+    → (was.visits ≤ 2 ^ 64 - 1 → now.visits ≤ 2 ^ 64 - 1) → ((visited : ℕ) → IsCounted (places b) visited mid was.visits → IsCounted (places b) visited marks now.visits)
+    → MarksEach b done woken cells mid was → MarksEach b more woken cells marks now
+marks-more b done more term woken mid marks cells was now listed rooms marked slots most counts before = record {
+  same = rooms ∙ before.same;
+  marked = λ j.
+      marked j ∙ ap (λ c. eqb j term || c) (before.marked j) ∙ or_comm (eqb j term) (is_marked woken j || is_asking done j)
+      ∙ or_assoc (is_marked woken j) (is_asking done j) (eqb j term) ∙ ap (λ c. is_marked woken j || (is_asking done j || c)) (eqb-turn j term)
+      ∙ ap (λ c. is_marked woken j || c) (sym (listed j));
+  slots = slots ∙ before.slots;
+  most = λ le. most (before.most le);
+  counts = λ visited counted. counts visited (before.counts visited counted);
+}
+
+-- where each that was stirred was woken, so it is when one more is woken and is stirred too or not
+pub woken-more : (term : ℕ) (turned : Bool) (woken more stirred marks : List ℕ) → ((j : ℕ) → is_marked more j ≡ (eqb j term || is_marked woken j))
+    → ((j : ℕ) → is_marked marks j ≡ (is_marked stirred j || (turned && eqb term j))) → AreWoken woken stirred → AreWoken more marks
+woken-more term turned woken more stirred marks wakes stirs were j on = elim (cases_eq j term) [
+  | inl e ↦ wakes j ∙ ap (λ c. c || is_marked woken j) (eq-eqb j term e)
+  | inr ne ↦
+      let off : (turned && eqb term j) ≡ false = ap (λ c. turned && c) (sym (eqb-turn j term) ∙ ne_eqb j term ne) ∙ and-false turned in
+      let was : is_marked stirred j ≡ true = sym (stirs j ∙ ap (λ c. is_marked stirred j || c) off ∙ or-false (is_marked stirred j)) ∙ on in
+      wakes j ∙ ap (λ c. c || is_marked woken j) (ne_eqb j term ne) ∙ were j was
+]

@@ -1,24 +1,22 @@
 -- A zone whose inputs stay as they were stays as it was.
-use Rattle.std.proofs.Common.{◌≡◌, ℕ, suc, ◌+◌, ◌<◌, Bool, not, ◌&&◌, ◌==◌, List, [], ◌∷◌, ◌++◌, map, length, take, get_or, slice_get, Option, Some, None, cond, refl, sym, ap, ◌∙◌, inl, inr}
+use Rattle.std.proofs.Common.{◌≡◌, ℕ, suc, ◌<◌, Bool, true, false, not, ◌&&◌, ◌==◌, List, [], ◌∷◌, ◌++◌, map, length, get_or, slice_get, Option, Some, None, cond, refl, sym, ap, ◌∙◌, inl, inr}
 use Rattle.std.specs.Prelude.{filter, flat_map, find, ℤ}
 use Rattle.std.specs.List.{list_any}
 use Rattle.std.specs.Option.{option_and_then, option_or}
 use Rattle.std.proofs.lemmas.Bool.{cases_lt}
 use Rattle.std.proofs.lemmas.List.{get_or_past}
-use Rattle.std.proofs.lemmas.Option.{slice_get-get_or}
 use Rattle.std.proofs.lemmas.List.Elements.{All-filter, filter_agree}
 use Rattle.ecam_spec.specs.declared.kinds.Colour.TheVariants.{White}
 use Rattle.ecam_spec.specs.declared.kinds.Choice.TheVariants.{Auto, Page, Status}
 use Rattle.ecam_spec.specs.Book as plain
 use Rattle.ecam_spec.specs.Book.{Book, Line, Memo}
-use Rattle.ecam_spec.specs.BookTerms.{lines_of}
 use Rattle.ecam_spec.specs.Term.{holds, in_set}
 use Rattle.ecam_spec.specs.Value.{value}
 use Rattle.ecam_spec.specs.Picture.{row, zone}
 use Rattle.ecam_spec.specs.Places.{below, first_in}
 use Rattle.ecam_spec.specs.History.{Moment}
 use Rattle.ecam_spec.specs.Crew.{normal}
-use Rattle.ecam_spec.specs.LeftZone.{title_colour, alert_rows, left_rows, plain as plain_row}
+use Rattle.ecam_spec.specs.LeftZone.{LeftRow, title_colour, alert_rows, left_rows, plain as plain_row}
 use Rattle.ecam_spec.specs.RightZone.{right_rows}
 use Rattle.ecam_spec.specs.StatusPage.{status_rows, status_page}
 use Rattle.ecam_spec.specs.SystemDisplay.{page_rows, page_row, shown_value, called_page, display_rows}
@@ -27,7 +25,6 @@ use Rattle.ecam_spec.specs.Screen as screen
 use Rattle.ecam_spec.specs.Screen.{alert_numbers, order, cockpit, line_stands, shown_in, is_shown_in, cancelled_in, left_in, right_in, status_in, display}
 use Rattle.ecam_spec.proofs.CrewSteps.{shown-flags}
 use Rattle.ecam_spec.proofs.OrderLaws.{order-below, below-below}
-use Rattle.book_model.proofs.Getting.{get-piece}
 use Rattle.warning_display.proofs.Passing.{filter_told, any_told}
 
 -- two tests that agree on the members of a list keep the same of it
@@ -36,9 +33,13 @@ filter_same p q [] same = refl
 filter_same p q (x ∷ xs) same =
     ap (λ c. cond c (x ∷ filter p xs) (filter p xs)) (same 0 x refl) ∙ ap (λ ys. cond (q x) (x ∷ ys) ys) (filter_same p q xs (λ i y is. same (suc i) y is))
 
-pub flat_map_same : {X Y : Type 0} (f g : X → List Y) → ((x : X) → f x ≡ g x) → (xs : List X) → flat_map f xs ≡ flat_map g xs
-flat_map_same f g same [] = refl
-flat_map_same f g same (x ∷ xs) = ap (λ ys. ys ++ flat_map f xs) (same x) ∙ ap (λ ys. g x ++ ys) (flat_map_same f g same xs)
+-- two functions that agree on what passes a test make the same of those that pass it
+flat_map_passing : {X Y : Type 0} (f g : X → List Y) (p : X → Bool) → ((x : X) → p x ≡ true → f x ≡ g x) → (xs : List X) → flat_map f (filter p xs) ≡ flat_map g (filter p xs)
+flat_map_passing f g p same [] = refl
+flat_map_passing f g p same (x ∷ xs) = by (p x) refl (flat_map_passing f g p same xs) where
+  by : (on : Bool) → p x ≡ on → flat_map f (filter p xs) ≡ flat_map g (filter p xs) → flat_map f (cond on (x ∷ filter p xs) (filter p xs)) ≡ flat_map g (cond on (x ∷ filter p xs) (filter p xs))
+  by true e rest = ap (λ ys. ys ++ flat_map f (filter p xs)) (same x e) ∙ ap (λ ys. g x ++ ys) rest
+  by false e rest = rest
 
 pub map_same : {X Y : Type 0} (f g : X → Y) → ((x : X) → f x ≡ g x) → (xs : List X) → map f xs ≡ map g xs
 map_same f g same [] = refl
@@ -77,30 +78,29 @@ module _ (b : Book) (m : ℕ → Moment) (k j : ℕ) where
 
     -- ---- the left zone
 
-    module _ (stands : (i : ℕ) (l : Line) → slice_get (lines_of b.alerts) i ≡ Some l → line_stands b m k l ≡ line_stands b m j l) where
-      own-lines : (a : ℕ) → filter (line_stands b m k) (alert_at b a).lines ≡ filter (line_stands b m j) (alert_at b a).lines
-      own-lines a =
+    -- of the lines it goes by those whose alerts moment j shows
+    module _ (stands : (a : ℕ) → a < length b.alerts → is_shown_in b m a j ≡ true → (i : ℕ) (l : Line) → slice_get (alert_at b a).lines i ≡ Some l → line_stands b m k l ≡ line_stands b m j l) where
+      own-lines : (a : ℕ) → is_shown_in b m a j ≡ true → filter (line_stands b m k) (alert_at b a).lines ≡ filter (line_stands b m j) (alert_at b a).lines
+      own-lines a on =
           elim (cases_lt a (length b.alerts)) [
-            | inl lt ↦
-                filter_same (line_stands b m k) (line_stands b m j) (alert_at b a).lines
-                (λ i l is.
-                stands (length (flat_map (λ (x : plain.Alert). x.lines) (take a b.alerts)) + i) l
-                (get-piece (λ (x : plain.Alert). x.lines) b.alerts a i _ (alert_at b a) l refl (slice_get-get_or b.alerts a no_alert lt) is))
+            | inl lt ↦ filter_same (line_stands b m k) (line_stands b m j) (alert_at b a).lines (stands a lt on)
             | inr past ↦
                 let none : alert_at b a ≡ no_alert = get_or_past b.alerts a no_alert past in
                 ap (λ (x : plain.Alert). filter (line_stands b m k) x.lines) none ∙ sym (ap (λ (x : plain.Alert). filter (line_stands b m j) x.lines) none)
           ]
 
-      rows-kept : (a : ℕ) → alert_rows (line_stands b m k) a (alert_at b a) ≡ alert_rows (line_stands b m j) a (alert_at b a)
+      rows-kept : (a : ℕ) → is_shown_in b m a j ≡ true → alert_rows (line_stands b m k) a (alert_at b a) ≡ alert_rows (line_stands b m j) a (alert_at b a)
       unfolding alert_rows
-      rows-kept a = ap (λ ls. record { row = row (title_colour (alert_at b a).level) (alert_at b a).title; title_of = Some a } ∷ map (λ (l : Line). plain_row (row l.colour l.text)) ls) (own-lines a)
+      rows-kept a on = ap (λ ls. record { row = row (title_colour (alert_at b a).level) (alert_at b a).title; title_of = Some a } ∷ map (λ (l : Line). plain_row (row l.colour l.text)) ls) (own-lines a on)
 
       pub left-kept : shown_in b m k ≡ shown_in b m j → normal (cockpit b m) k ≡ normal (cockpit b m) j → left_in b m k ≡ left_in b m j
       unfolding left_in
       left-kept shown calm =
+          let some : shown_in b m j ≡ filter (λ a. is_shown_in b m a j) (order b) = shown-flags b m (λ a. is_shown_in b m a j) j (λ a lt. refl) in
+          let blocks : ℕ → ℕ → List LeftRow = λ i a. alert_rows (line_stands b m i) a (alert_at b a) in
           ap (λ xs. left_rows (flat_map (λ a. alert_rows (line_stands b m k) a (alert_at b a)) xs) (normal (cockpit b m) k) (screen.memo_rows b m (λ (x : Memo). x.left) k)) shown
           ∙ ap (λ rs. left_rows rs (normal (cockpit b m) k) (screen.memo_rows b m (λ (x : Memo). x.left) k))
-          (flat_map_same (λ a. alert_rows (line_stands b m k) a (alert_at b a)) (λ a. alert_rows (line_stands b m j) a (alert_at b a)) rows-kept (shown_in b m j))
+          (ap (flat_map (blocks k)) some ∙ flat_map_passing (blocks k) (blocks j) (λ a. is_shown_in b m a j) rows-kept (order b) ∙ ap (flat_map (blocks j)) (sym some))
           ∙ ap (λ n. left_rows (flat_map (λ a. alert_rows (line_stands b m j) a (alert_at b a)) (shown_in b m j)) n (screen.memo_rows b m (λ (x : Memo). x.left) k)) calm
           ∙ ap (left_rows (flat_map (λ a. alert_rows (line_stands b m j) a (alert_at b a)) (shown_in b m j)) (normal (cockpit b m) j)) (memos-kept (λ (x : Memo). x.left))
 

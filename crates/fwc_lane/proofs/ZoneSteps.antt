@@ -23,7 +23,7 @@ use Rattle.ecam_spec.specs.Screen as screen
 use Rattle.ecam_spec.specs.Screen.{order, cockpit, panel, attention, display, line_stands, shown_in, is_shown_in, cancelled_in, left_in, right_in, status_in}
 use Rattle.ecam_spec.specs.LampRows.{lamp_rows}
 use Rattle.ecam_spec.proofs.CrewSteps.{shown-flags}
-use Rattle.alert_truth.specs.TruthsState.{Unchanged}
+use Rattle.alert_truth.specs.TruthsState.{Unchanged, StarsStay}
 use Rattle.attention.specs.State.{lights_after}
 use Rattle.system_display.specs.Selecting.{IsKept}
 use Rattle.zone_rows.specs.Tracked.{TrackedRows}
@@ -82,23 +82,22 @@ module _ (b : Book) (m : ℕ → Moment) where
 
   -- ---- the right zone
 
-  -- what the alerts tell where they didn't change
-  module _ (k j : ℕ) (next : k ≡ suc j) (kept : Unchanged b (condition_in b m) (phase_in b m) k) where
-    pub starred-kept : (a : ℕ) → a < length b.alerts → starred_in b m a k ≡ starred_in b m a j
-    unfolding previous
-    starred-kept a lt = sym (starred-is b m a k) ∙ kept.starred a lt ∙ ap (previous _) next ∙ starred-is b m a j
+  -- which alerts are starred where no star turned, and which are active where no alert did
+  starred-kept : (k j : ℕ) → k ≡ suc j → StarsStay b (condition_in b m) (phase_in b m) k → (a : ℕ) → a < length b.alerts → starred_in b m a k ≡ starred_in b m a j
+  unfolding previous
+  starred-kept k j next kept a lt = sym (starred-is b m a k) ∙ kept.starred a lt ∙ ap (previous _) next ∙ starred-is b m a j
 
-    pub active-kept : (a : ℕ) → a < length b.alerts → active_in b m a k ≡ active_in b m a j
-    unfolding previous
-    active-kept a lt = sym (active-is b m a k) ∙ kept.active a lt ∙ ap (previous _) next ∙ active-is b m a j
+  active-kept : (k j : ℕ) → k ≡ suc j → Unchanged b (condition_in b m) (phase_in b m) k → (a : ℕ) → a < length b.alerts → active_in b m a k ≡ active_in b m a j
+  unfolding previous
+  active-kept k j next kept a lt = sym (active-is b m a k) ∙ kept.active a lt ∙ ap (previous _) next ∙ active-is b m a j
 
-  pub right-stays : (k : ℕ) (t : Turned) (truths : Bool) → AreTurned b m k t → (truths ≡ false) ↔ Unchanged b (condition_in b m) (phase_in b m) k → (t.first || (truths || t.memos)) ≡ false
+  pub right-stays : (k : ℕ) (t : Turned) (stars : Bool) → AreTurned b m k t → (stars ≡ false) ↔ StarsStay b (condition_in b m) (phase_in b m) k → (t.first || (stars || t.memos)) ≡ false
       → (count : ℕ) (s : TrackedRows) → ((j : ℕ) → k ≡ suc j → RightStands b m j s.rows count) → FillsRight (right_in b m k) count s s
-  right-stays zero t truths turned same off count s was = absurd (let on : t.first ≡ true = turned.first in let none : t.first ≡ false = left-false t.first _ off in let w : ⊥ = cc in w)
-  right-stays (suc j) t truths turned same off count s was =
+  right-stays zero t stars turned same off count s was = absurd (let on : t.first ≡ true = turned.first in let none : t.first ≡ false = left-false t.first _ off in let w : ⊥ = cc in w)
+  right-stays (suc j) t stars turned same off count s was =
       let rest = right-false t.first _ off in
-      let kept = same.0 (left-false truths _ rest) in
-      let zone : right_in b m (suc j) ≡ right_in b m j = right-kept b m (suc j) j (turned.memos j refl (right-false truths _ rest)) (starred-kept (suc j) j refl kept) in
+      let kept = same.0 (left-false stars _ rest) in
+      let zone : right_in b m (suc j) ≡ right_in b m j = right-kept b m (suc j) j (turned.memos j refl (right-false stars _ rest)) (starred-kept (suc j) j refl kept) in
       let stands = was j refl in
       subst (λ rows. FillsRight rows count s s) (sym zone) (record { rows = mends_kept 7 (right_zone (right_in b m j)) s stands.zone; beyond = stands.counted })
 

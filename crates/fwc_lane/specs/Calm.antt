@@ -27,8 +27,8 @@ pub record IsCalm (l : Lane) : Type 0 where
   pub normal : stands_normal l.marks.quiet_press l.marks.moments ≡ false
   pub changed : (i : ℕ) → i < PICTURE_ROWS → get_or l.changed i false ≡ false
 
--- nothing changes in the moment that hasn't ended, in a calm lane: no condition is due, and no key acts in it or was pressed in
--- the one before
+-- nothing changes in the moment that hasn't ended, in a calm lane: no condition is due, and no key acts in it or was pressed
+-- in the one before
 pub record RestsNow (l : Lane) : Type 0 where
   pub calm : IsCalm l
   pub dues : (j : ℕ) → j < length l.terms.dues → l.moments < slice_index l.terms.dues j
@@ -46,8 +46,8 @@ abbrev pub ValuesStay : Book → Params → Type 0
 ValuesStay b params = (words : ℕ → List BusWord) (k : ℕ) → ParamsStand b words k params
     → (p : ℕ) → p < length b.parameters → value (parameter_at b p) words k ≡ value_before (parameter_at b p) words k
 
--- nothing acts in the moment that hasn't ended, nor did in the one before, and the parts that this left stay as they are as long
--- as nothing does
+-- nothing acts in the moment that hasn't ended, nor did in the one before, and the parts that this left stay as they are as
+-- long as nothing does
 pub record IsIdle (l : Lane) : Type 0 where
   pub calm : IsCalm l
   pub pressed : NonePressed l.keys

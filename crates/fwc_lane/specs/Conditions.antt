@@ -21,7 +21,7 @@ use Rattle.term_eval.specs.Code.{IsShort}
 use Rattle.term_eval.specs.NodeState.{state_at, NodesWait, NodesStand, first_wake}
 use Rattle.term_eval.specs.Asked.{Asks, heard}
 use Rattle.term_eval.specs.Due.{staying, IsDue}
-use Rattle.term_eval.specs.Woken.{Operand, operands, moved}
+use Rattle.term_eval.specs.Woken.{Operand, operands, moved, woken}
 use Rattle.wakes.specs.Marks.{is_marked}
 use Rattle.condition_codes.specs.Places.{nodes_before}
 use Rattle.alert_truth.specs.declared.truths.Truths.{Truths}
@@ -29,12 +29,12 @@ use Rattle.alert_truth.specs.TruthsState.{HalfStand, TruthsStand}
 use Rattle.flight_phases.specs.State as flight_phases
 use Rattle.flight_phases.specs.declared.state.PhaseState.{PhaseState}
 use Rattle.fwc_lane.specs.declared.terms.Terms.{Terms}
-use Rattle.fwc_lane.specs.Visits.{visits_below, visits}
+use Rattle.fwc_lane.specs.Visits.{visits, IsCounted}
 
 -- ---- one condition
 
--- condition j, whose nodes start at a place, has been asked in moment k: its cells and its nodes stand for one moment more, and
--- its truth and when it turns are noted
+-- condition j, whose nodes start at a place, has been asked in moment k: its cells and its nodes stand for one moment more,
+-- and its truth and when it turns are noted
 pub record IsAsked (w : World) (k j start : ℕ) (p : Placed) (t : Terms) : Type 0 where
   pub stands : Stand w (suc k) p.tree p.at t.cells.slots
   pub nodes : NodesStand w k p.tree p.at start t.nodes
@@ -49,15 +49,14 @@ pub record IsUnstirred (w : World) (h due start : ℕ) (p : Placed) (t : Terms) 
   pub told : (state_at t.nodes.states start).told ≡ holds w p.tree h
 
 -- condition j waits to be asked in moment h + 1: what is noted of it is told of moment h, and it is marked where an operand
--- passes the test or where it is due. Of its nodes those have been asked that ask for such an operand, and it is stirred where it
--- may turn by that
+-- passes the test or where it is due. Of its nodes those have been asked that ask for such an operand. Where it isn't
+-- stirred, it is due when it was, which is later, and its first node tells what it told
 pub record IsWaiting (w : World) (hit : Operand → Bool) (h j start : ℕ) (p : Placed) (t : Terms) : Type 0 where
   pub due : ℕ
   pub told : slice_index_or t.truths.items j false ≡ holds w p.tree h
   pub next : IsDue (staying w h) p.tree h due
   pub marks : is_marked t.woken j ≡ (list_any hit (operands p.tree) || (due == suc h))
   pub nodes : NodesWait w h (heard hit p.tree) p.tree p.at start t.nodes
-  pub stirs : is_marked t.woken j ≡ false → is_marked t.stirred j ≡ false
   pub kept : is_marked t.stirred j ≡ false → slice_index t.dues j ≡ due
   pub calm : is_marked t.stirred j ≡ false → IsUnstirred w h due start p t
 
@@ -71,20 +70,21 @@ pub record IsLeft (w : World) (hit : Operand → Bool) (k j start : ℕ) (p : Pl
 
 -- ---- some conditions
 
--- in moment k, which hasn't ended, those below i have been stepped, and the others haven't. So many nodes were visited
--- before the moment, and since then those of the conditions that it woke
+-- in moment k, which hasn't ended, those below i have been stepped, of which those are marked that it wakes, and the others
+-- haven't. So many nodes were visited before the moment, and since then those of all that are marked
 pub record HalfStepped (ps : List Placed) (worlds : ℕ → World) (hit : Operand → Bool) (k i visited : ℕ) (t : Terms) : Type 0 where
   pub stepped : (j : ℕ) (p : Placed) → j < i → slice_get ps j ≡ Some p → IsAsked (worlds j) k j (nodes_before ps j) p t
+  pub marks : (j : ℕ) (p : Placed) → j < i → slice_get ps j ≡ Some p → is_marked t.woken j ≡ woken (worlds j) p.tree k
   pub left : (j : ℕ) (p : Placed) → i ≤ j → slice_get ps j ≡ Some p → IsLeft (worlds j) hit k j (nodes_before ps j) p t
-  pub counted : t.cells.visits ≡ min (visited + visits_below ps worlds k i) (2 ^ 64 - 1)
+  pub counted : IsCounted ps visited t.woken t.cells.visits
 
 -- of what the condition names, the operands that pass the test are those that moved
 pub record TellsMoved (hit : Operand → Bool) (w : World) (k : ℕ) (p : Placed) : Type 0 where
   pub any : list_any hit (operands p.tree) ≡ list_any (moved w k) (operands p.tree)
   pub each : (i : ℕ) (x : Operand) → Asks p.tree i x → hit x ≡ moved w k x
 
--- condition i of some was stepped by moment k: wherever it is the next of them, and they have slots of their own, the answer is
--- its truth, and it is stepped then
+-- condition i of some was stepped by moment k: wherever it is the next of them, and they have slots of their own, the answer
+-- is its truth, and it is stepped then
 pub record StepsTerm (ps : List Placed) (env : Env) (k i : ℕ) (p : Placed) (old new : Terms) (answer : Bool) : Type 0 where
   pub truth : (worlds : ℕ → World) (hit : Operand → Bool) (visited : ℕ) → slice_get ps i ≡ Some p
       → Shows env (worlds i) k → TellsMoved hit (worlds i) k p → HalfStepped ps worlds hit k i visited old
@@ -165,7 +165,8 @@ module _ (b : Book) (moments : ℕ → Moment) where
     pub left : (h : ℕ) → k ≡ suc h → (j : ℕ) (l : Line) → i ≤ j → slice_get (lines_of b.alerts) j ≡ Some l
         → slice_index_or flags j false ≡ line_stands b moments h l
 
-  -- the memos below i have been stepped. Of these the flags tell which hold, and of the others which held in the moment before
+  -- the memos below i have been stepped. Of these the flags tell which hold, and of the others which held in the moment
+  -- before
   pub record MemosHalf (k i visited : ℕ) (t : Terms) (flags : List Bool) : Type 0 where
     pub terms : BookHalf k (memos_from b + i) (suc (length b.alerts)) visited t
     pub told : (j : ℕ) (x : Memo) → j < i → slice_get b.memos j ≡ Some x

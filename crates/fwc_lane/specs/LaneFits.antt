@@ -12,8 +12,8 @@ use Rattle.fwc_lane.specs.TermsFit.{TermsFit}
 use Rattle.fwc_lane.specs.Calm.{IsCalm, IsIdle}
 use Rattle.fwc_lane.specs.declared.lane.Lane.{Lane}
 
--- its parts were made for the book, and have counted the same moments, and it is calm and idle where it says so. Nothing is said of
--- any history
+-- its parts were made for the book, and have counted the same moments, and it is calm and idle where it says so. Nothing is
+-- said of any history
 pub record LaneFits (b : Book) (l : Lane) : Type 0 where
   pub params : ParamsFit b l.params
   pub truths : TruthsFit b l.truths

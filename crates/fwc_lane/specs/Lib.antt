@@ -4,6 +4,7 @@ pub mod Waking
 pub mod Visits
 pub mod Conditions
 pub mod Given
+pub mod LineFlags
 pub mod PhaseTruths
 pub mod ChangedRows
 pub mod CrewStands

@@ -1,11 +1,11 @@
 -- What a moment has to show, and what of it is as in the moment before.
-use Rattle.std.specs.Prelude.{◌≡◌, ℕ, suc, ◌<◌, ◌≤◌, Bool, false, ◌||◌, ◌==◌, length, slice_index_or, slice_get, None, Some}
+use Rattle.std.specs.Prelude.{◌≡◌, ℕ, suc, ◌<◌, ◌≤◌, Bool, true, false, ◌||◌, ◌==◌, length, slice_index_or, slice_get, None, Some}
 use Rattle.ecam_spec.specs.Book.{Book, Line, Memo}
 use Rattle.ecam_spec.specs.BookTerms.{lines_of}
 use Rattle.ecam_spec.specs.Term.{holds}
 use Rattle.ecam_spec.specs.Crew.{normal}
 use Rattle.ecam_spec.specs.History.{Moment}
-use Rattle.ecam_spec.specs.Situation.{value_in, phase_in, condition_in, world}
+use Rattle.ecam_spec.specs.Situation.{alert_at, value_in, phase_in, condition_in, world}
 use Rattle.ecam_spec.specs.Screen.{cockpit, attention, panel, line_stands, is_shown_in, cancelled_in}
 use Rattle.book_model.specs.Told.{TellsOf}
 use Rattle.system_display.specs.Pages.{AreShort}
@@ -44,13 +44,14 @@ pub record SceneStands (b : Book) (m : ℕ → Moment) (k : ℕ) (s : Scene) : T
   pub attention : AttentionStands b (attention b m) (suc k) s.attention.now
   pub selector : selecting.Stands (panel b m) (suc k) s.selector.now
 
--- what didn't turn in moment k is as it was in the moment before, of which there is one where it isn't the first
+-- what didn't turn in moment k is as it was in the moment before, of which there is one where it isn't the first. Of lines it
+-- speaks of those whose alerts the moment before showed
 pub record AreTurned (b : Book) (m : ℕ → Moment) (k : ℕ) (t : Turned) : Type 0 where
   pub first : t.first ≡ (k == 0)
   pub phase : (j : ℕ) → k ≡ suc j → t.phase ≡ false → phase_in b m k ≡ phase_in b m j
   pub values : (j : ℕ) → k ≡ suc j → t.values ≡ false → (p : ℕ) → p < length b.parameters → value_in b m p k ≡ value_in b m p j
-  pub lines : (j : ℕ) → k ≡ suc j → t.lines ≡ false → (i : ℕ) (l : Line) → slice_get (lines_of b.alerts) i ≡ Some l
-      → line_stands b m k l ≡ line_stands b m j l
+  pub lines : (j : ℕ) → k ≡ suc j → t.lines ≡ false → (a : ℕ) → a < length b.alerts → is_shown_in b m a j ≡ true
+      → (i : ℕ) (l : Line) → slice_get (alert_at b a).lines i ≡ Some l → line_stands b m k l ≡ line_stands b m j l
   pub memos : (j : ℕ) → k ≡ suc j → t.memos ≡ false → (i : ℕ) (x : Memo) → slice_get b.memos i ≡ Some x
       → holds (world b m) x.when k ≡ holds (world b m) x.when j
   pub shown : (j : ℕ) → k ≡ suc j → t.marks ≡ false → (a : ℕ) → a < length b.alerts → is_shown_in b m a k ≡ is_shown_in b m a j

@@ -1,5 +1,5 @@
 -- When what a lane keeps of the conditions was made for a book.
-use Rattle.std.specs.Prelude.{◌≡◌, ◌≤◌, ◌-◌, ◌^◌, length}
+use Rattle.std.specs.Prelude.{◌≡◌, ℕ, ◌≤◌, ◌-◌, ◌^◌, true, List, length}
 use Rattle.ecam_spec.specs.Book.{Book}
 use Rattle.ecam_spec.specs.BookTerms.{terms_of, slots_in}
 use Rattle.book_model.specs.declared.draft.Draft.{Draft}
@@ -7,7 +7,7 @@ use Rattle.book_model.specs.Sealed.{the_book}
 use Rattle.book_model.specs.Conditions.{places}
 use Rattle.watch_lists.specs.declared.watch.Watch.{Watch}
 use Rattle.watch_lists.specs.Watching.{IsWatch}
-use Rattle.wakes.specs.Marks.{room}
+use Rattle.wakes.specs.Marks.{is_marked, room}
 use Rattle.condition_codes.specs.Places.{nodes_before}
 use Rattle.condition_codes.specs.IsCodes.{IsCodes}
 use Rattle.condition_codes.specs.IsAskers.{IsAskers}
@@ -17,7 +17,11 @@ use Rattle.fwc_lane.specs.declared.terms.Terms.{Terms}
 abbrev pub Watches : Book → Watch → Type 0
 Watches b w = (d : Draft) × (the_book d ≡ b) × IsWatch d w
 
--- it has room for the book's slots, nodes and conditions, and the codes and the lists are the book's.
+-- each condition that is stirred is woken
+abbrev pub AreWoken : List ℕ → List ℕ → Type 0
+AreWoken woken stirred = (j : ℕ) → is_marked stirred j ≡ true → is_marked woken j ≡ true
+
+-- it has room for the book's slots, nodes and conditions, the codes and the lists are the book's, and what is stirred is woken.
 -- Nothing is said of any history
 pub record TermsFit (b : Book) (t : Terms) : Type 0 where
   pub codes : IsCodes b t.codes
@@ -30,6 +34,7 @@ pub record TermsFit (b : Book) (t : Terms) : Type 0 where
   pub dues : length t.dues ≡ length (places b)
   pub woken_room : length (places b) ≤ room t.woken
   pub stirred_room : length (places b) ≤ room t.stirred
+  pub stirs : AreWoken t.woken t.stirred
   pub watch : Watches b t.watch
 
 -- all that is kept of the moments so far was taken over from another's

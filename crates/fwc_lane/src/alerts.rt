@@ -1,5 +1,5 @@
 // The alerts of a moment, in the book's order.
-ghost use Rattle.std.specs.Prelude.{◌≡◌, ◌<◌, ◌≤◌, ◌^◌, ◌+◌, ℕ, suc, true, false, length};
+ghost use Rattle.std.specs.Prelude.{◌≡◌, ◌<◌, ◌≤◌, ◌^◌, ◌+◌, ℕ, suc, length};
 ghost use Rattle.ecam_spec.specs.History.{Moment};
 ghost use Rattle.ecam_spec.specs.Situation.{condition_in, phase_in};
 ghost use Rattle.book_model.specs.Sealed.{the_book};
@@ -20,7 +20,7 @@ use term_eval::Env;
 
 /// Steps one alert and its condition by moment `now`. The condition sees the alerts before it in the book as they are in
 /// this moment, and no others. An alert that becomes active, or is active no longer, wakes the conditions that name it.
-fn step_anew(
+fn step_alert(
     terms: &mut Terms,
     truths: &mut Truths,
     book: &Book,
@@ -55,70 +55,10 @@ fn step_anew(
     wake_alert(terms, book, alert, other, active);
 }
 
-// Whether an alert keeps all that is told of it, since its condition is woken and not stirred and it isn't restless. If so the
-// condition's nodes are counted.
-#[inline(always)]
-fn keeps(terms: &mut Terms, truths: &Truths, book: &Book, alert: usize) -> bool
-    requires terms { TermsFit (the_book book.now) terms.old }
-    requires fits { TruthsFit (the_book book.now) truths.now }
-    requires alert { alert < length book.now.alerts.items }
-    ensures terms { TermsFit (the_book book.now) terms.new }
-    ensures kept { result ≡ false → terms.new ≡ terms.old }
-    ensures stands { result ≡ true → (m : ℕ → Moment) (now visits : ℕ) → now < 2 ^ 63
-        → AlertsHalf (the_book book.now) m now alert visits terms.old truths.now
-        → AlertsHalf (the_book book.now) m now (suc alert) visits terms.new truths.now }
-{
-    book.sealed();
-    let number = alert_number(alert);
-    if truths.restless().has(alert) {
-        return false;
-    }
-    if !terms.woken.has(number) {
-        return false;
-    }
-    if terms.stirred.has(number) {
-        return false;
-    }
-    let size = terms.codes.size(number);
-    terms.cells.count(size);
-    true
-}
-
-// Steps one alert, or keeps what is told of it.
-#[inline(always)]
-fn step_alert(
-    terms: &mut Terms,
-    truths: &mut Truths,
-    book: &Book,
-    alert: usize,
-    env: &Env<'_>,
-    now: u64,
-)
-    requires terms { TermsFit (the_book book.now) terms.old }
-    requires fits { TruthsFit (the_book book.now) truths.old }
-    requires values { length env.now.values.now ≡ length book.now.params.items }
-    requires alert { alert < length book.now.alerts.items }
-    requires first { 1 ≤ env.now.phase.number }
-    requires last { env.now.phase.number ≤ 10 }
-    requires now { now < 2 ^ 63 }
-    ensures terms { TermsFit (the_book book.now) terms.new }
-    ensures fits { TruthsFit (the_book book.now) truths.new }
-    ensures moments { truths.new.moments ≡ truths.old.moments }
-    ensures stands { (m : ℕ → Moment) (visits : ℕ) → Lends (the_book book.now) m now env.now
-        → env.now.phase.number ≡ phase_in (the_book book.now) m now
-        → AlertsHalf (the_book book.now) m now alert visits terms.old truths.old
-        → AlertsHalf (the_book book.now) m now (suc alert) visits terms.new truths.new }
-{
-    if keeps(terms, truths, book, alert) {
-        return;
-    }
-    step_anew(terms, truths, book, alert, env, now);
-}
-
-/// Steps by moment `now` the alerts that may change, and settles which are starred and up: those whose condition is woken,
-/// and those that are restless. The others are as they were, and aren't looked at. Its cost is a look for each 64 alerts and
-/// a few at each that may change, what the conditions cost that are woken, a few writes for each condition that an alert
-/// wakes, and, where an alert changed, a look at each and one at each secondary of the active ones.
+/// Steps by moment `now` the alerts that may change, which are those whose condition is stirred and those that are restless,
+/// and settles which are starred and up. The others are as they were, and aren't looked at. Its cost is a look for each 64
+/// alerts and a few at each that may change, what the conditions cost that are stirred, what an alert that changes wakes, and
+/// what it costs to settle.
 pub fn step_alerts(terms: &mut Terms, truths: &mut Truths, book: &Book, env: &Env<'_>, now: u64)
     requires terms { TermsFit (the_book book.now) terms.old }
     requires fits { TruthsFit (the_book book.now) truths.old }
@@ -147,14 +87,14 @@ pub fn step_alerts(terms: &mut Terms, truths: &mut Truths, book: &Book, env: &En
 {
     let end = book.alerts().len();
     let mut restless = next_restless(truths, book, 0);
-    let mut next = next_alert(&terms.woken, 0, restless);
+    let mut next = next_alert(&terms.stirred, 0, restless);
     while next < end {
         step_alert(terms, truths, book, next, env, now);
         next += 1;
         if restless < next {
             restless = next_restless(truths, book, next);
         }
-        next = next_alert(&terms.woken, next, restless);
+        next = next_alert(&terms.stirred, next, restless);
     }
     truths.settle(book);
 }

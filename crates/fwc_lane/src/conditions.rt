@@ -1,12 +1,11 @@
 // One condition of the book in one moment.
-ghost use Rattle.std.specs.Prelude.{◌≡◌, ◌+◌, ◌-◌, ◌<◌, ◌≤◌, ◌^◌, min, true, length, slice_get, slice_set, Some};
+ghost use Rattle.std.specs.Prelude.{◌≡◌, ◌<◌, ◌≤◌, ◌^◌, true, length, slice_get, slice_set, Some};
 ghost use Rattle.ecam_spec.specs.Book as plain;
 ghost use Rattle.ecam_spec.specs.TermNames.{IsWithin};
-ghost use Rattle.ecam_spec.specs.TermSize.{Placed, nodes};
+ghost use Rattle.ecam_spec.specs.TermSize.{Placed};
 ghost use Rattle.book_model.specs.View.{tree_in, placed_of};
 ghost use Rattle.book_model.specs.Conditions.{places};
 ghost use Rattle.wakes.specs.Marks.{is_marked};
-ghost use Rattle.condition_codes.specs.IsCodes.{IsCodes};
 ghost use Rattle.fwc_lane.specs.Conditions.{StepsTerm};
 ghost use Rattle.fwc_lane.specs.TermsFit.{TermsFit};
 
@@ -14,10 +13,9 @@ use crate::terms::Terms;
 use book_model::Term;
 use term_eval::{Env, Turn};
 
-/// Steps a condition by moment `now`, which has this number, and answers whether it holds in it. One that the moment doesn't
-/// wake holds where it held, and costs a look; one that is woken and can't turn holds where it held, for a few looks. One that
-/// may turn costs besides a look at each of its temporal nodes, and one at each node that turns and at those right above; in
-/// the first moment it costs a look at each of its nodes.
+/// Steps a condition by moment `now`, which has this number, and answers whether it holds in it. One that isn't stirred holds
+/// where it held, and costs two looks. One that is stirred costs a look at each of its temporal nodes, and one at each node
+/// that turns and at those right above; in the first moment a look at each of its nodes.
 #[inline(always)]
 pub fn step_term(terms: &mut Terms, number: usize, _term: &Term, env: &Env<'_>, now: u64) -> bool
     requires place { (b : plain.Book) × TermsFit b terms.old
@@ -36,7 +34,7 @@ pub fn step_term(terms: &mut Terms, number: usize, _term: &Term, env: &Env<'_>, 
 }
 
 /// The same of the condition that has this number. (The look stands where it is asked for, since many conditions that are
-/// asked aren't woken.)
+/// asked aren't stirred.)
 #[inline(always)]
 pub fn step_numbered(terms: &mut Terms, number: usize, env: &Env<'_>, now: u64) -> bool
     requires place { (b : plain.Book) × (p : Placed) × TermsFit b terms.old
@@ -51,23 +49,19 @@ pub fn step_numbered(terms: &mut Terms, number: usize, env: &Env<'_>, now: u64) 
         → IsWithin (length env.now.values.now) (length env.now.active.now) p.tree
         → StepsTerm (places b) env.now now number p terms.old terms.new result }
 {
-    if !terms.woken.has(number) {
-        return terms.truths[number];
-    }
     if !terms.stirred.has(number) {
-        terms.cells.count(terms.codes.size(number));
         return terms.truths[number];
     }
     run_term(terms, number, env, now)
 }
 
-// Steps one that the moment wakes.
+// Steps one that is stirred.
 #[inline(never)]
 fn run_term(terms: &mut Terms, number: usize, env: &Env<'_>, now: u64) -> bool
-    requires woken { is_marked terms.old.woken number ≡ true }
     requires place { (b : plain.Book) × (p : Placed) × TermsFit b terms.old
         × (slice_get (places b) number ≡ Some p)
         × IsWithin (length env.now.values.now) (length env.now.active.now) p.tree }
+    requires woken { is_marked terms.old.woken number ≡ true }
     requires first { 1 ≤ env.now.phase.number }
     requires last { env.now.phase.number ≤ 10 }
     requires now { now < 2 ^ 63 }
@@ -77,41 +71,34 @@ fn run_term(terms: &mut Terms, number: usize, env: &Env<'_>, now: u64) -> bool
         → IsWithin (length env.now.values.now) (length env.now.active.now) p.tree
         → StepsTerm (places b) env.now now number p terms.old terms.new result }
 {
-    let start = terms.codes.start(number);
-    let steps = terms.codes.code(number);
+    let codes = terms.codes.table();
+    let start = codes.start(number);
+    let steps = codes.code(number);
     if now == 0 {
         let turn = terms.cells.begin(&mut terms.nodes, steps, start, env);
         return note(terms, number, turn);
     }
-    let at = terms.codes.at(number);
-    let owners = terms.codes.owners(number);
+    let at = codes.at(number);
+    let owners = codes.owners(number);
     let turn = terms
         .cells
         .run(&mut terms.nodes, steps, start, owners, at, now);
     note(terms, number, turn)
 }
 
-// Keeps what one says that was run, and when it turns, counts its nodes, and answers what it says.
+// Keeps what one says that was run, and when it turns, and answers what it says.
 #[inline(always)]
 fn note(terms: &mut Terms, number: usize, turn: Turn) -> bool
-    requires codes { (b : plain.Book) × IsCodes b terms.old.codes × (number < length (places b)) }
     requires truths { number < length terms.old.truths.items }
     requires dues { number < length terms.old.dues }
     ensures holds { result ≡ turn.holds }
     ensures rest { terms.new ≡ record terms.old {
-      cells = terms.new.cells;
       truths = terms.new.truths;
       dues = terms.new.dues;
     } }
-    ensures slots { terms.new.cells.slots ≡ terms.old.cells.slots }
-    ensures visits { (b : plain.Book) (p : Placed) → IsCodes b terms.old.codes
-        → slice_get (places b) number ≡ Some p
-        → terms.new.cells.visits ≡ min (terms.old.cells.visits + nodes p.tree) (2 ^ 64 - 1) }
     ensures truths { terms.new.truths.items ≡ slice_set terms.old.truths.items number turn.holds }
     ensures dues { terms.new.dues ≡ slice_set terms.old.dues number turn.due }
 {
-    let size = terms.codes.size(number);
-    terms.cells.count(size);
     terms.truths[number] = turn.holds;
     terms.dues.set(number, turn.due);
     turn.holds

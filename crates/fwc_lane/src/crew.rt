@@ -39,7 +39,8 @@ fn enters(ticked: bool, was: u8, phase: u8) -> bool
     phase == 1 && ticked && was != 1
 }
 
-// Steps the crew's marks. Where no alert turned it looks at none, unless the crew does something.
+// Steps the crew's marks. Where no alert turned it looks at none, unless the crew does something, and else at the near ones
+// and those that are marked.
 fn step_marks(marks: &mut Marks, truths: &Truths, book: &Book, keys: &Keys, enters_one: bool)
     requires truths { TruthsFit (the_book book.now) truths.now }
     requires marks { MarksFit (the_book book.now) marks.old }
@@ -56,13 +57,28 @@ fn step_marks(marks: &mut Marks, truths: &Truths, book: &Book, keys: &Keys, ente
     ensures kept { marks.new.changed ≡ false → marks.new.sets ≡ marks.old.sets }
 {
     if truths.changed() {
-        marks.step(book, truths.up(), truths.waiting(), keys, enters_one);
+        marks.step_among(
+            book,
+            truths.up(),
+            truths.waiting(),
+            truths.near(),
+            keys,
+            enters_one,
+        );
         return;
     }
-    marks.step_still(book, truths.up(), truths.waiting(), keys, enters_one);
+    marks.step_still(
+        book,
+        truths.up(),
+        truths.waiting(),
+        truths.near(),
+        keys,
+        enters_one,
+    );
 }
 
-// Steps the lights and the sound. Where no alert turned, nor any mark, it looks at none, unless a press acknowledges.
+// Steps the lights and the sound. Where no alert turned, nor any mark, it looks at none, unless a press acknowledges, and
+// else at those that are near or were up, and at a press at those whose onset is open.
 fn step_attention(
     attention: &mut Attention,
     marks: &Marks,
@@ -88,15 +104,15 @@ fn step_attention(
         attention.new }
 {
     if is_either(truths.changed(), marks.changed()) {
-        attention.step(book, truths.up(), marks.shown(), keys);
+        attention.step_among(book, truths.up(), marks.shown(), truths.near(), keys);
         return;
     }
     attention.step_still(book, truths.up(), marks.shown(), keys);
 }
 
 /// Steps the crew's marks, the lights and the sound, and the selection by one moment. CLR and EMER CANC aim at the first
-/// alert that the moment before showed. Its cost is one look at the key of each page, and two at each alert where an alert
-/// turned or a key acts on them.
+/// alert that the moment before showed. Its cost is one look at the key of each page, and, where an alert turned or a key
+/// acts on them, a few for each 64 alerts and at each of which something is told or kept.
 pub fn step_crew(
     marks: &mut Marks,
     attention: &mut Attention,

@@ -35,9 +35,9 @@ fn kept_inputs(truths: &[bool]) -> PhaseInputs
     }
 }
 
-/// Steps the six inputs of the phase by moment `now`, where the phase that the environment lends is 1. Where none is woken
-/// they are what they were, for one look at the set of those that are and one at each truth; else the cost is a look at
-/// each, and what those cost that are woken.
+/// Steps the six inputs of the phase by moment `now`, where the phase that the environment lends is 1. Where none is stirred
+/// they are what they were, for one look at the set of those that are and one at each truth; else the cost is two looks at
+/// each, and what those cost that are stirred.
 fn step_inputs(terms: &mut Terms, book: &Book, env: &Env<'_>, now: u64) -> PhaseInputs
     requires fits { TermsFit (the_book book.now) terms.old }
     requires values { length env.now.values.now ≡ length book.now.params.items }
@@ -53,7 +53,7 @@ fn step_inputs(terms: &mut Terms, book: &Book, env: &Env<'_>, now: u64) -> Phase
         → BookHalf (the_book book.now) m now alerts_from 0 visits terms.new }
 {
     let inputs = book.phase_terms();
-    if inputs_rest(&terms.woken) {
+    if inputs_rest(&terms.stirred) {
         return kept_inputs(&terms.truths);
     }
     let gnd = step_term(terms, 0, &inputs.gnd, env, now);
@@ -74,7 +74,7 @@ fn step_inputs(terms: &mut Terms, book: &Book, env: &Env<'_>, now: u64) -> Phase
 
 /// Steps the inputs of the phase, and the phase, by moment `now`, and answers the phase. The environment lends phase 1 and
 /// no alert: the inputs may ask for neither. A phase that is another than it was wakes the conditions that name it. Its cost
-/// is at most two looks at each input, what those cost that are woken, and a few writes for each condition that this wakes.
+/// is at most two looks at each input, what those cost that are stirred, and what the phase wakes.
 pub fn step_phase(
     terms: &mut Terms,
     state: &mut PhaseState,

@@ -7,6 +7,8 @@ ghost use Rattle.ecam_spec.specs.Replay.{is_tick, moment_of};
 ghost use Rattle.ecam_spec.specs.Keys.{IsEvent};
 ghost use Rattle.ecam_spec.specs.declared.kinds.Event.TheVariants.{Word};
 ghost use Rattle.book_model.specs.Sealed.{the_book};
+ghost use Rattle.term_eval.specs.CellState.{StandForNone};
+ghost use Rattle.fwc_lane.specs.TermsFit.{TermsFit};
 ghost use Rattle.fwc_lane.specs.LaneFits.{LaneFits, CanGoOn};
 ghost use Rattle.fwc_lane.specs.LaneStands.{LaneStands, WholeStands, AreUp};
 ghost use Rattle.fwc_lane.specs.Begun.{HasBegun};
@@ -36,7 +38,7 @@ use system_display::Selector;
 use term_eval::Env;
 
 /// What a computer holds of its era: the words and the keys so far, and of the last whole moment all that the next one
-/// goes by, with its picture. Memory is taken in `new` alone, and nothing grows with the history.
+/// goes by, with its picture. Memory is taken in `new` and `beside` alone, and nothing grows with the history.
 #[derive(Drop)]
 pub struct Lane {
     /// The words that the sources took last.
@@ -70,8 +72,8 @@ pub struct Lane {
     /// The last moment left all at rest: no alert is restless, no chime or NORMAL can end, and no row changed. Where it isn't
     /// set it says nothing.
     pub calm: bool,
-    /// The last moment changed nothing, and no key came since: where no value turns, no condition is due and no computer fails
-    /// or comes up, this one changes nothing either. Where it isn't set it says nothing.
+    /// The last moment changed nothing, and no key came since: where no value turns, no condition is due and no computer
+    /// fails or comes up, this one changes nothing either. Where it isn't set it says nothing.
     pub idle: bool,
     /// How many moments there were: the number of the one that hasn't ended.
     pub moments: u64,
@@ -92,10 +94,38 @@ impl Lane {
         ensures moments { IfOk result (λ l. l.moments ≡ 0) }
         ensures unvisited { IfOk result (λ l. l.terms.cells.visits ≡ 0) }
     {
+        let terms = Terms::new(alloc, book)?;
+        Lane::with(alloc, book, terms)
+    }
+
+    /// The same, beside another lane of the same book, with which it shares what nothing changes: by which code each condition
+    /// is stepped, and which nodes ask for what. An error is want of memory.
+    pub fn beside(alloc: Global, book: &Book, other: &Lane) -> Result<Lane, AllocError>
+        requires { LaneFits (the_book book.now) other.now }
+        ensures fits { IfOk result (LaneFits (the_book book.now)) }
+        ensures stands { IfOk result (λ l. (f : Flags)
+            → LaneStands (the_book book.now) (empty_era f) l) }
+        ensures moments { IfOk result (λ l. l.moments ≡ 0) }
+        ensures unvisited { IfOk result (λ l. l.terms.cells.visits ≡ 0) }
+    {
+        let terms = Terms::beside(alloc, book, &other.terms)?;
+        Lane::with(alloc, book, terms)
+    }
+
+    // The same, of conditions that no moment has stepped.
+    fn with(alloc: Global, book: &Book, terms: Terms) -> Result<Lane, AllocError>
+        requires fits { TermsFit (the_book book.now) terms }
+        requires stands { StandForNone terms.cells.slots }
+        requires visits { terms.cells.visits ≡ 0 }
+        ensures fits { IfOk result (LaneFits (the_book book.now)) }
+        ensures stands { IfOk result (λ l. (f : Flags)
+            → LaneStands (the_book book.now) (empty_era f) l) }
+        ensures moments { IfOk result (λ l. l.moments ≡ 0) }
+        ensures unvisited { IfOk result (λ l. l.terms.cells.visits ≡ 0) }
+    {
         let params = Params::new(alloc, book)?;
         let values = vec![in alloc; None; book.params().len()]?;
         let turned = vec![in alloc; false; book.params().len()]?;
-        let terms = Terms::new(alloc, book)?;
         let truths = Truths::new(alloc, book)?;
         let marks = Marks::new(alloc, book)?;
         let attention = Attention::new(alloc, book)?;
@@ -185,13 +215,16 @@ impl Lane {
     }
 
     /// Takes one event more, after which these computers are up. A word costs a look at the sources that listen to it, a
-    /// key one write or two; what becomes of the computers themselves changes nothing here. A Tick costs a look at each
-    /// condition and at the sources of the parameters that may have another value, two at each key, one at each node
-    /// of the conditions that the moment wakes, and a few looks at each alert, line and memo; a zone of the picture is filled
-    /// only where something that it shows turned. A Tick in which no parameter may have another value, no condition is due
-    /// and no key acts, after one that left all at rest, costs a few looks and writes, besides what the end of a moment costs
-    /// the parameters: it looks at no condition, alert, line, memo or row. After another such Tick, with no key between them
-    /// and the phase not timed, it costs eight looks and six counts in all.
+    /// key one write or two; what becomes of the computers themselves changes nothing here. A Tick costs a look for each 64
+    /// parameters, conditions and alerts, a write of a byte for each parameter, a look at the sources of those that may have
+    /// another value, three at each key where one is or was pressed, a few looks and writes for each node that asks for what
+    /// is another, and for the conditions that may turn by that a look at each temporal node and at each node that turns; in
+    /// the first moment one at each node of all. Of alerts, lines and memos it looks at those whose condition may turn, and,
+    /// where an alert turned or a key acts on them, at the alerts of which something is told or kept; a zone of the picture
+    /// is filled only where something that it shows turned. A Tick in which no parameter may have another value, no
+    /// condition is due and no key acts, after one that left all at rest, costs a few looks and writes, besides what the
+    /// end of a moment costs the parameters: it looks at no condition, alert, line, memo or row. After another such Tick,
+    /// with no key between them and the phase not timed, it costs eight looks and six counts in all.
     // (It stands in its caller, so that a word goes to its sources at once.)
     #[inline(always)]
     pub fn event(&mut self, book: &Book, event: &Event, one_up: bool, two_up: bool)
@@ -203,7 +236,7 @@ impl Lane {
         ensures stands { (e : Era) → AreUp (era_with e event.now) one_up two_up
             → LaneStands (the_book book.now) e self.old
             → LaneStands (the_book book.now) (era_with e event.now) self.new }
-        // A Tick visits the nodes of the conditions that its moment wakes, and of no others.
+        // A Tick counts the nodes of the conditions that its moment wakes, and of no others.
         ensures visits { (e : Era) → is_tick event.now ≡ true
             → AreUp (era_with e event.now) one_up two_up
             → LaneStands (the_book book.now) e self.old
@@ -232,8 +265,8 @@ impl Lane {
         }
     }
 
-    /// Whether any source of the book listens to a word's bus and label. A word to which none does leaves each lane of the book
-    /// as it is. Its cost is one look-up.
+    /// Whether any source of the book listens to a word's bus and label. A word to which none does leaves each lane of the
+    /// book as it is. Its cost is one look-up.
     #[inline(always)]
     pub fn hears(&self, book: &Book, bus: u8, bits: u32) -> bool
         requires { LaneFits (the_book book.now) self.now }
@@ -358,13 +391,13 @@ impl Lane {
             → ParamsStand (the_book book.now) words (suc k) self.new.params }
         ensures keys { (strokes : ℕ → List Stroke) (k : ℕ) → strokes (suc k) ≡ []
             → KeysStand strokes k self.old.keys → KeysStand strokes (suc k) self.new.keys }
-        ensures whole { (m : ℕ → Moment)
-            → HasBegun (the_book book.now) m self.old.moments one_up two_up values self.old
+        ensures whole { (m : ℕ → Moment) (visited : ℕ)
+            → HasBegun (the_book book.now) m self.old.moments visited one_up two_up values self.old
             → WholeStands (the_book book.now) m (suc self.old.moments) self.new }
-        ensures visits { (m : ℕ → Moment)
-            → HasBegun (the_book book.now) m self.old.moments one_up two_up values self.old
-            → self.new.terms.cells.visits ≡ min (self.old.terms.cells.visits
-            + visits (the_book book.now) m self.old.moments) (2 ^ 64 - 1) }
+        ensures visits { (m : ℕ → Moment) (visited : ℕ)
+            → HasBegun (the_book book.now) m self.old.moments visited one_up two_up values self.old
+            → self.new.terms.cells.visits
+            ≡ min (visited + visits (the_book book.now) m self.old.moments) (2 ^ 64 - 1) }
     {
         let lent = Env {
             values: &self.values,
@@ -381,6 +414,7 @@ impl Lane {
             &mut self.lines,
             &mut self.memos,
             book,
+            self.marks.shown(),
             &lent,
             self.phase,
             self.moments,

@@ -19,8 +19,8 @@ use book_model::Book;
 use term_eval::Env;
 
 /// Steps all memos by moment `now`: `flags` has, per memo, whether it holds, and before it of the moment before. Answers
-/// whether any flag turned. A memo whose condition isn't woken holds where it held, and isn't looked at. The cost is a look for
-/// each 64 memos, and what the conditions cost that are woken.
+/// whether any flag turned. A memo whose condition isn't stirred holds where it held, and isn't looked at. The cost is a look
+/// for each 64 memos, and what the conditions cost that are stirred.
 pub fn step_memos(
     terms: &mut Terms,
     flags: &mut Vec<bool>,
@@ -56,7 +56,7 @@ pub fn step_memos(
     let first = first_memo(book);
     let mut turned = false;
     let mut next = 0;
-    while let Some(memo) = next_memo(&terms.woken, book, next) {
+    while let Some(memo) = next_memo(&terms.stirred, book, next) {
         let holds = step_term(terms, first + memo, &book.memos()[memo].when, env, now);
         let other = set_flag(flags, memo, holds);
         turned = is_either(turned, other);

@@ -1,4 +1,4 @@
-// The next of some items that has a woken condition.
+// The next of some items that has a condition of a set.
 ghost use Rattle.std.specs.Prelude.{◌≡◌, ◌+◌, ◌<◌, ◌≤◌, ◌^◌, ℕ, true, false, length};
 ghost use Rattle.ecam_spec.specs.BookTerms.{lines_of};
 ghost use Rattle.book_model.specs.Sealed.{the_book};
@@ -22,23 +22,23 @@ pub fn next_restless(truths: &Truths, book: &Book, from: usize) -> usize
     next_or(truths.restless(), from, book.alerts().len())
 }
 
-/// The first alert from one on whose condition is woken; where there is none before the next restless one, that one. Its cost
-/// is a look for each 64 alerts that it goes over.
-pub fn next_alert(woken: &Marked, from: usize, restless: usize) -> usize
+/// The first alert from one on whose condition is in the set; where there is none before the next restless one, that one. Its
+/// cost is a look for each 64 alerts that it goes over.
+pub fn next_alert(set: &Marked, from: usize, restless: usize) -> usize
     requires few { restless < 2 ^ 32 }
     requires from { from ≤ restless }
     ensures from { from ≤ result }
     ensures within { result ≤ restless }
-    ensures none { NoneMarked woken.now (alerts_from + from) (alerts_from + result) }
+    ensures none { NoneMarked set.now (alerts_from + from) (alerts_from + result) }
 {
-    next_or(woken, 6 + from, 6 + restless) - 6
+    next_or(set, 6 + from, 6 + restless) - 6
 }
 
-/// Whether no input of the phase is woken. Its cost is a look for each 64 conditions up to the first that is woken.
-pub fn inputs_rest(woken: &Marked) -> bool
-    ensures { result ≡ true → NoneMarked woken.now 0 alerts_from }
+/// Whether no input of the phase is in the set. Its cost is a look for each 64 conditions up to the first that is.
+pub fn inputs_rest(set: &Marked) -> bool
+    ensures { result ≡ true → NoneMarked set.now 0 alerts_from }
 {
-    next_or(woken, 0, 6) == 6
+    next_or(set, 0, 6) == 6
 }
 
 /// Whether the set has no number. Its cost is a look for each 64 numbers up to the first that it has.
@@ -61,30 +61,31 @@ fn next_or(marked: &Marked, from: usize, end: usize) -> usize
     }
 }
 
-/// The first line from one on of which a condition is woken. Its cost is a look for each 64 conditions that it goes over.
-pub fn next_line(woken: &Marked, book: &Book, from: usize) -> Option<usize>
+/// The first line from one on of which a condition is in the set. Its cost is a look for each 64 conditions that it goes
+/// over.
+pub fn next_line(set: &Marked, book: &Book, from: usize) -> Option<usize>
     requires { from ≤ length (lines_of (the_book book.now).alerts) }
-    ensures { FindsNext woken.now (line_start (the_book book.now)) from
+    ensures { FindsNext set.now (line_start (the_book book.now)) from
         (length (lines_of (the_book book.now).alerts)) result }
 {
     book.sealed();
     let first = line_number(book, 0);
-    let term = woken.first_from(first + 2 * from)?;
+    let term = set.first_from(first + 2 * from)?;
     if term >= first_memo(book) {
         return None;
     }
     Some((term - first) / 2)
 }
 
-/// The first memo from one on whose condition is woken. Its cost is a look for each 64 memos that it goes over.
-pub fn next_memo(woken: &Marked, book: &Book, from: usize) -> Option<usize>
+/// The first memo from one on whose condition is in the set. Its cost is a look for each 64 memos that it goes over.
+pub fn next_memo(set: &Marked, book: &Book, from: usize) -> Option<usize>
     requires { from ≤ length book.now.memos.items }
-    ensures { FindsNext woken.now (memo_start (the_book book.now)) from
+    ensures { FindsNext set.now (memo_start (the_book book.now)) from
         (length book.now.memos.items) result }
 {
     let first = first_memo(book);
     let count = book.memos().len();
-    let term = woken.first_from(first + from)?;
+    let term = set.first_from(first + from)?;
     if term >= first + count {
         return None;
     }

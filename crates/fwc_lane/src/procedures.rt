@@ -12,12 +12,14 @@ ghost use Rattle.book_model.specs.Sealed.{the_book};
 ghost use Rattle.book_model.specs.Told.{TellsOf};
 ghost use Rattle.book_model.specs.Conditions.{places, lines_from, memos_from};
 ghost use Rattle.fwc_lane.specs.Conditions.{BookHalf, LinesWere, StepsLine};
+ghost use Rattle.fwc_lane.specs.LineFlags.{KeepsShown};
 ghost use Rattle.fwc_lane.specs.TermsFit.{TermsFit};
 
 use crate::conditions::step_numbered;
-use crate::flags::{is_either, set_flag};
+use crate::flags::is_either;
 use crate::next::next_line;
 use crate::numbers::line_number;
+use crate::shown_lines::note_line;
 use crate::terms::Terms;
 use book_model::Book;
 use term_eval::Env;
@@ -51,16 +53,19 @@ fn stands(when: bool, done: bool) -> bool
 }
 
 /// Steps all lines by moment `now`: `flags` has, per line, whether it stands, and before it of the moment before. Answers
-/// whether any flag turned. Lines of which no condition is woken stand where they stood, and aren't looked at. The cost is a
-/// look for each 64 conditions, a few for each line of which one is woken, and what those cost that are.
+/// whether the flag of any line turned whose alert is shown. Lines of which no condition is stirred stand where they stood,
+/// and aren't looked at. The cost is a look for each 64 conditions, a few for each line of which one is stirred, and what
+/// those cost that are. The alert of a line is sought only where its flag turned.
 pub fn step_lines(
     terms: &mut Terms,
     flags: &mut Vec<bool>,
     book: &Book,
+    shown: &[bool],
     env: &Env<'_>,
     now: u64,
 ) -> bool
     requires fits { TermsFit (the_book book.now) terms.old }
+    requires shown { length shown.now ≡ length book.now.alerts.items }
     requires flags { length flags.old.items ≡ length (lines_of (the_book book.now).alerts) }
     requires values { length env.now.values.now ≡ length book.now.params.items }
     requires active { length env.now.active.now ≡ length book.now.alerts.items }
@@ -83,15 +88,16 @@ pub fn step_lines(
         (suc (length (the_book book.now).alerts)) visits terms.old
         → BookHalf (the_book book.now) m now (memos_from (the_book book.now))
         (suc (length (the_book book.now).alerts)) visits terms.new }
-    ensures kept { result ≡ false → flags.new.items ≡ flags.old.items }
+    ensures kept { result ≡ false
+        → KeepsShown (the_book book.now) shown.now flags.old.items flags.new.items }
 {
     book.sealed();
     let first = line_number(book, 0);
     let mut turned = false;
     let mut next = 0;
-    while let Some(line) = next_line(&terms.woken, book, next) {
+    while let Some(line) = next_line(&terms.stirred, book, next) {
         let stands = step_line(terms, first + 2 * line, env, now);
-        let other = set_flag(flags, line, stands);
+        let other = note_line(flags, book, shown, line, stands);
         turned = is_either(turned, other);
         next = line + 1;
     }

@@ -26,9 +26,9 @@ use param_table::Params;
 use wakes::Wakes;
 
 impl Lane {
-    /// Whether it is known that nothing changes in the moment, after which these computers are up, since nothing did in the one
-    /// before: no key came, the same computers were up in it, no condition is due, no parameter may have another value, and no
-    /// word's freshness may end with it. Its cost is seven looks, and at most one more for each 64 parameters.
+    /// Whether it is known that nothing changes in the moment, after which these computers are up, since nothing did in the
+    /// one before: no key came, the same computers were up in it, no condition is due, no parameter may have another value,
+    /// and no word's freshness may end with it. Its cost is seven looks, and at most one more for each 64 parameters.
     #[inline(always)]
     pub(crate) fn idles(&self, book: &Book, one_up: bool, two_up: bool) -> bool
         requires fits { LaneFits (the_book book.now) self.now }
@@ -47,8 +47,8 @@ impl Lane {
             && self.params.is_still(book)
     }
 
-    /// Ends a moment in which nothing changes, after one in which nothing did: but for the numbers of moments all stays as that
-    /// left it.
+    /// Ends a moment in which nothing changes, after one in which nothing did: but for the numbers of moments all stays as
+    /// that left it.
     #[inline(always)]
     pub(crate) fn pass(&mut self, book: &Book)
         requires fits { LaneFits (the_book book.now) self.old }
@@ -174,8 +174,7 @@ fn whole(_rows: &[Row], _changed: &[bool])
 {}
 
 /// Whether a moment left all at rest: no alert is restless, no chime or NORMAL can end, and no row changed. Its cost is a
-/// look for each 64 alerts, a few more, and, where these tell of no change to come, a few at the flags of the rows, of which
-/// each takes in many at once.
+/// look for each 64 alerts, a few more, and, where these tell of no change to come, one at the flag of each row.
 pub fn leaves_calm(
     truths: &Truths,
     attention: &Attention,
@@ -195,5 +194,9 @@ pub fn leaves_calm(
 fn has_any(flags: &[bool; ROWS]) -> bool
     ensures { result ≡ false → (i : ℕ) → i < ROWS → get_or flags.now i false ≡ false }
 {
-    flags.contains(&true)
+    let mut any = false;
+    for row in 0..ROWS {
+        any |= flags[row];
+    }
+    any
 }

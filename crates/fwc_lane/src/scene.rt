@@ -17,7 +17,7 @@ pub struct Turned {
     pub phase: bool,
     /// The value of some parameter.
     pub values: bool,
-    /// Whether some procedure line stands.
+    /// Whether some procedure line stands whose alert the moment before showed.
     pub lines: bool,
     /// Whether some memo holds.
     pub memos: bool,

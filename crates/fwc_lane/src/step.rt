@@ -1,5 +1,5 @@
 // All conditions of a moment.
-ghost use Rattle.std.specs.Prelude.{◌≡◌, ◌<◌, ◌≤◌, ◌^◌, ◌+◌, ℕ, suc, false, length};
+ghost use Rattle.std.specs.Prelude.{◌≡◌, ◌<◌, ◌≤◌, ◌^◌, ◌+◌, ℕ, false, length};
 ghost use Rattle.ecam_spec.specs.BookTerms.{lines_of};
 ghost use Rattle.ecam_spec.specs.Term.{holds};
 ghost use Rattle.ecam_spec.specs.History.{Moment};
@@ -10,6 +10,7 @@ ghost use Rattle.book_model.specs.Told.{TellsOf};
 ghost use Rattle.alert_truth.specs.TruthsState.{TruthsFit};
 ghost use Rattle.fwc_lane.specs.Conditions.{ConditionsWait, ConditionsStepped};
 ghost use Rattle.fwc_lane.specs.Given.{Lends};
+ghost use Rattle.fwc_lane.specs.LineFlags.{KeepsShown};
 ghost use Rattle.fwc_lane.specs.TermsFit.{TermsFit};
 
 use crate::alerts::step_alerts;
@@ -27,15 +28,15 @@ use term_eval::Env;
 #[derive(Clone, Copy, Debug)]
 pub struct Stepped {
     pub phase: Phase,
-    /// Some line's flag turned.
+    /// The flag of some line turned whose alert is shown.
     pub lines: bool,
     /// Some memo's flag turned.
     pub memos: bool,
 }
 
-/// Steps the conditions of the book by moment `now`, in their order: those that are woken, while the others hold where they
-/// held. Its cost is a look at each alert, one for each 64 conditions, what those cost that are woken, and a few writes for
-/// each that the phase or an alert wakes.
+/// Steps the conditions of the book by moment `now`, in their order: those that are stirred, while the others hold where they
+/// held. Its cost is a look for each 64 conditions, what those cost that are stirred, what the phase and the alerts wake, and
+/// what it costs to step and settle the alerts.
 pub fn step_conditions(
     terms: &mut Terms,
     state: &mut PhaseState,
@@ -43,6 +44,7 @@ pub fn step_conditions(
     lines: &mut Vec<bool>,
     memos: &mut Vec<bool>,
     book: &Book,
+    shown: &[bool],
     env: &Env<'_>,
     was: Phase,
     now: u64,
@@ -50,6 +52,7 @@ pub fn step_conditions(
     requires terms { TermsFit (the_book book.now) terms.old }
     requires truths { TruthsFit (the_book book.now) truths.old }
     requires moments { truths.old.moments ≡ now }
+    requires shown { length shown.now ≡ length book.now.alerts.items }
     requires lines { length lines.old.items ≡ length (lines_of (the_book book.now).alerts) }
     requires memos { length memos.old.items ≡ length (the_book book.now).memos }
     requires values { length env.now.values.now ≡ length book.now.params.items }
@@ -81,7 +84,8 @@ pub fn step_conditions(
         lines.old.items memos.old.items
         → TellsOf memos.new.items (the_book book.now).memos
         (λ x. holds (world (the_book book.now) m) x.when now) }
-    ensures lines_kept { result.lines ≡ false → lines.new.items ≡ lines.old.items }
+    ensures lines_kept { result.lines ≡ false
+        → KeepsShown (the_book book.now) shown.now lines.old.items lines.new.items }
     ensures memos_kept { result.memos ≡ false → memos.new.items ≡ memos.old.items }
 {
     let phase = step_phase(terms, state, book, env, was, now);
@@ -91,7 +95,7 @@ pub fn step_conditions(
         active: truths.active(),
         ..*env
     };
-    let lines = step_lines(terms, lines, book, &whole, now);
+    let lines = step_lines(terms, lines, book, shown, &whole, now);
     let memos = step_memos(terms, memos, book, &whole, now);
     Stepped {
         phase,

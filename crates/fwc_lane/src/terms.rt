@@ -3,6 +3,8 @@ ghost use Rattle.std.specs.Prelude.{◌≡◌, ◌<◌, ◌^◌, length, IfOk};
 ghost use Rattle.ecam_spec.specs.Book as plain;
 ghost use Rattle.book_model.specs.Sealed.{the_book};
 ghost use Rattle.book_model.specs.Conditions.{places};
+ghost use Rattle.condition_codes.specs.IsCodes.{IsCodes};
+ghost use Rattle.condition_codes.specs.IsAskers.{IsAskers};
 ghost use Rattle.term_eval.specs.CellState.{StandForNone};
 ghost use Rattle.fwc_lane.specs.TermsFit.{TermsFit, TookTerms};
 
@@ -18,11 +20,11 @@ use watch_lists::Watch;
 /// remembers, what it said, and when it turns by itself; and of what they name what the lane has nowhere else.
 #[derive(Drop)]
 pub struct Terms {
-    /// The code by which each is stepped. Nothing changes it.
+    /// The code by which each is stepped. Nothing changes it, and lanes of one book may share it.
     pub codes: Codes,
     /// What is kept of the nodes of all, one code behind another.
     pub nodes: Nodes,
-    /// Which nodes ask for what. Nothing changes it.
+    /// Which nodes ask for what. Nothing changes it, and lanes of one book may share it.
     pub askers: Askers,
     /// What the conditions remember.
     pub cells: Cells,
@@ -30,10 +32,10 @@ pub struct Terms {
     pub truths: Vec<bool>,
     /// Per condition the moment in which it turns by itself.
     pub dues: Wakes,
-    /// The conditions that the moment that is stepped wakes. Between moments it says nothing.
+    /// The conditions that the moment which is stepped wakes, whose nodes are counted. Between moments it says nothing.
     pub woken: Marked,
-    /// Those of them that may turn: of which a temporal node is to be looked at, or the first node turned. Between moments it
-    /// says nothing.
+    /// Those of them that may turn, which alone are stepped: of which a temporal node is to be looked at, or the first node
+    /// turned. Between moments it says nothing.
     pub stirred: Marked,
     /// Which conditions name what. Nothing changes it.
     pub watch: Watch,
@@ -46,17 +48,39 @@ pub struct Terms {
 }
 
 impl Terms {
-    /// Of conditions that no moment has stepped. Its cost is a few writes a condition and a slot, and two visits of each
-    /// node. An error is want of memory.
+    /// Of conditions that no moment has stepped. Its cost is a few writes a condition and a slot, and at most six visits of
+    /// each node. An error is want of memory.
     pub fn new(alloc: Global, book: &Book) -> Result<Terms, AllocError>
         ensures fits { IfOk result (TermsFit (the_book book.now)) }
         ensures stands { IfOk result (λ t. StandForNone t.cells.slots) }
         ensures visits { IfOk result (λ t. t.cells.visits ≡ 0) }
     {
-        let count = condition_count(book);
         let codes = Codes::new(alloc, book)?;
-        let nodes = Nodes::new(alloc, codes.count(), book.slots())?;
-        let askers = Askers::new(alloc, book, &codes)?;
+        let askers = Askers::new(alloc, book, codes.table())?;
+        Terms::with(alloc, book, codes, askers)
+    }
+
+    /// The same, with the codes and the askers of another lane of the same book. Its cost is a few writes a condition, a node
+    /// and a slot. An error is want of memory.
+    pub fn beside(alloc: Global, book: &Book, other: &Terms) -> Result<Terms, AllocError>
+        requires { TermsFit (the_book book.now) other.now }
+        ensures fits { IfOk result (TermsFit (the_book book.now)) }
+        ensures stands { IfOk result (λ t. StandForNone t.cells.slots) }
+        ensures visits { IfOk result (λ t. t.cells.visits ≡ 0) }
+    {
+        Terms::with(alloc, book, other.codes.share()?, other.askers.share()?)
+    }
+
+    // The same, by these codes and askers.
+    fn with(alloc: Global, book: &Book, codes: Codes, askers: Askers) -> Result<Terms, AllocError>
+        requires codes { IsCodes (the_book book.now) codes }
+        requires askers { IsAskers (the_book book.now) askers }
+        ensures fits { IfOk result (TermsFit (the_book book.now)) }
+        ensures stands { IfOk result (λ t. StandForNone t.cells.slots) }
+        ensures visits { IfOk result (λ t. t.cells.visits ≡ 0) }
+    {
+        let count = condition_count(book);
+        let nodes = Nodes::new(alloc, codes.table().count(), book.slots())?;
         let cells = Cells::new(alloc, book.slots())?;
         let truths = vec![in alloc; false; count]?;
         let dues = Wakes::new(alloc, count)?;
@@ -90,7 +114,7 @@ impl Terms {
     }
 
     /// Takes over what is kept of the same book's conditions by another lane, but for the count of visits. Its cost is a
-    /// write a slot and a node and a few a condition.
+    /// write a node, two a slot, and a write a condition with the setting of its due moment.
     pub fn copy_from(&mut self, other: &Terms)
         requires { (b : plain.Book) × TermsFit b self.old × TermsFit b other.now }
         ensures fits { (b : plain.Book) → TermsFit b self.old → TermsFit b self.new }

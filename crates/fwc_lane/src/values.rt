@@ -19,8 +19,8 @@ use term_eval::Reading;
 
 /// Makes the values of the moment before those of the moment that hasn't ended, tells in `turned` which are other than they
 /// were, and answers whether any is. One that is wakes the conditions that name it. Its cost is a look for each 64
-/// parameters, a write of a byte for each, a look at each source of those that may have another value, a write for each of
-/// these conditions, and a look at each of their nodes that is told.
+/// parameters, a write of a byte for each, a look at each source of those that may have another value, and what `wake` costs
+/// for each that has.
 pub fn read_values(
     values: &mut Vec<Option<i64>>,
     turned: &mut Vec<bool>,

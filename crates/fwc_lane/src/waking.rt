@@ -1,30 +1,32 @@
 // Which conditions a moment wakes: all in the first, then those that are due, and those that name what is another.
-ghost use Rattle.std.specs.Prelude.{◌≡◌, ℕ, suc, ◌+◌, ◌-◌, ◌<◌, ◌≤◌, ◌^◌, ◌==◌, ◌&&◌, ◌||◌, not, nat_le, true, false, length, slice_index, MatchOption, if◌then◌else◌};
+ghost use Rattle.std.specs.Prelude.{◌≡◌, ℕ, suc, ◌+◌, ◌-◌, ◌<◌, ◌≤◌, ◌^◌, ◌==◌, ◌&&◌, ◌||◌, not, min, nat_le, true, false, length, slice_index, MatchOption, if◌then◌else◌};
 ghost use Rattle.ecam_spec.specs.Keys.{IsKey, key_number};
 ghost use Rattle.book_model.specs.Sealed.{the_book};
+ghost use Rattle.book_model.specs.Conditions.{places};
 ghost use Rattle.wakes.specs.Marks.{is_marked, room};
-ghost use Rattle.watch_lists.specs.Listed.{has_term};
+ghost use Rattle.condition_codes.specs.IsCodes.{IsCodes};
 ghost use Rattle.ecam_spec.specs.Book as plain;
 ghost use Rattle.term_eval.specs.declared.reading.Reading.TheVariants.{InPhase, Flag};
 ghost use Rattle.term_eval.specs.Reading.{IsReading};
 ghost use Rattle.term_eval.specs.Woken.{differ};
 ghost use Rattle.fwc_lane.specs.Strokes.{NonePressed};
-ghost use Rattle.fwc_lane.specs.TermsFit.{TermsFit, Watches};
-ghost use Rattle.fwc_lane.specs.Waking.{HasWoken, CanTurn, TurnsEach, NamesNone, ranged, key_turned};
-ghost use Rattle.fwc_lane.specs.Waking.{key_read};
+ghost use Rattle.fwc_lane.specs.TermsFit.{TermsFit, AreWoken, Watches};
+ghost use Rattle.fwc_lane.specs.Visits.{IsCounted};
+ghost use Rattle.fwc_lane.specs.Waking.{HasWoken, CanTurn, TurnsEach, MarksEach, NamesNone, ranged};
+ghost use Rattle.fwc_lane.specs.Waking.{key_turned, key_read};
 
 use crate::strokes::Strokes;
 use crate::terms::Terms;
 use book_model::Book;
-use condition_codes::{Asker, Codes};
+use condition_codes::{Asker, CodeTable};
 use ecam_kinds::{Key, Keys, Phase};
-use term_eval::{Nodes, Reading};
+use term_eval::{Cells, Nodes, Reading};
 use wakes::{Marked, Wakes};
 use watch_lists::Watch;
 
-/// Wakes the conditions that name the operand of this number, where it is another than it was, and tells their nodes that ask
-/// for it what it reads. Its cost is a write for each of these conditions, and a look at each of these nodes and at each that
-/// is told of one that turned; nothing where it is as it was.
+/// Wakes the conditions that name the operand of this number, where it is another than it was, counts the nodes of each that
+/// wasn't woken before, and tells their nodes that ask for it what it reads. Its cost is a few looks and writes for each of
+/// these nodes, and a look at each that is told of one that turned; nothing where it is as it was.
 #[inline(always)]
 pub fn wake(terms: &mut Terms, book: &Book, operand: usize, other: bool, reading: Reading)
     requires operand { operand < length (the_book book.now).parameters
@@ -36,48 +38,66 @@ pub fn wake(terms: &mut Terms, book: &Book, operand: usize, other: bool, reading
         terms.old terms.new }
 {
     if other {
-        mark_each(&mut terms.woken, terms.watch.listed(operand));
         turn_each(
             &mut terms.nodes,
+            &mut terms.cells,
+            &mut terms.woken,
             &mut terms.stirred,
-            &terms.codes,
+            terms.codes.table(),
             terms.askers.asking(operand),
             reading,
         );
     }
 }
 
-// Marks some numbers.
-fn mark_each(woken: &mut Marked, terms: &[usize])
-    requires { (j : ℕ) → has_term terms.now j ≡ true → j < room woken.old }
-    ensures room { room woken.new ≡ room woken.old }
-    ensures marks { (j : ℕ) → is_marked woken.new j
-        ≡ (is_marked woken.old j || has_term terms.now j) }
-{
-    for term in terms {
-        woken.mark(*term);
-    }
-}
-
-// Tells some nodes what the operand that they ask for reads, and marks the conditions that may turn by that.
+// Tells some nodes what the operand that they ask for reads, marks their conditions, and marks as stirred those of these that
+// may turn by that.
 #[inline(always)]
 fn turn_each(
     nodes: &mut Nodes,
+    cells: &mut Cells,
+    woken: &mut Marked,
     stirred: &mut Marked,
-    codes: &Codes,
+    codes: &CodeTable,
     asking: &[Asker],
     reading: Reading,
 )
-    requires can { (b : plain.Book) × CanTurn b asking.now codes.now nodes.old stirred.old }
+    requires can { (b : plain.Book)
+        × CanTurn b asking.now codes.now nodes.old woken.old stirred.old }
     requires reading { IsReading reading }
-    ensures { (b : plain.Book) → CanTurn b asking.now codes.now nodes.old stirred.old
+    ensures turns { (b : plain.Book)
+        → CanTurn b asking.now codes.now nodes.old woken.old stirred.old
         → TurnsEach b asking.now reading nodes.old stirred.old nodes.new stirred.new }
+    ensures marks { (b : plain.Book)
+        → CanTurn b asking.now codes.now nodes.old woken.old stirred.old
+        → MarksEach b asking.now woken.old cells.old woken.new cells.new }
+    ensures stirs { AreWoken woken.old stirred.old → AreWoken woken.new stirred.new }
 {
     for asker in asking {
+        mark_counted(woken, cells, codes, asker.term);
         let first = codes.start(asker.term);
         if nodes.turn(codes.code(asker.term), first, asker.node, reading) {
             stirred.mark(asker.term);
         }
+    }
+}
+
+// Marks a condition, and counts its nodes where it wasn't marked before.
+#[inline(always)]
+fn mark_counted(woken: &mut Marked, cells: &mut Cells, codes: &CodeTable, term: usize)
+    requires room { term < room woken.old }
+    requires codes { (b : plain.Book) × IsCodes b codes.now × (term < length (places b)) }
+    ensures room { room woken.new ≡ room woken.old }
+    ensures marks { (j : ℕ) → is_marked woken.new j ≡ (j == term || is_marked woken.old j) }
+    ensures slots { cells.new.slots ≡ cells.old.slots }
+    ensures most { cells.old.visits ≤ 2 ^ 64 - 1 → cells.new.visits ≤ 2 ^ 64 - 1 }
+    ensures counts { (b : plain.Book) (visited : ℕ) → IsCodes b codes.now
+        → term < length (places b)
+        → IsCounted (places b) visited woken.old cells.old.visits
+        → IsCounted (places b) visited woken.new cells.new.visits }
+{
+    if woken.put(term) {
+        cells.count(codes.size(term));
     }
 }
 
@@ -120,8 +140,8 @@ pub fn wake_alert(terms: &mut Terms, book: &Book, alert: usize, other: bool, act
 }
 
 /// Wakes the conditions that name a key which is pressed in the moment and was not in the one before, or the other way
-/// round. Its cost is three looks at each key, a write for each of these conditions, and a look at each of their nodes that is
-/// told; nothing where no key is or was pressed, and two reads where no condition of the book names a key.
+/// round. Its cost is three looks at each key, and what `wake` costs for each that turned; nothing where no key is or was
+/// pressed, and two reads where no condition of the book names a key.
 pub fn wake_keys(terms: &mut Terms, book: &Book, keys: &Strokes)
     requires fits { TermsFit (the_book book.now) terms.old }
     ensures fits { TermsFit (the_book book.now) terms.new }
@@ -243,53 +263,87 @@ pub fn wake_computers(terms: &mut Terms, book: &Book, one_up: bool, two_up: bool
     wake(terms, book, first + 1, two, Reading::Flag(two_up));
 }
 
-/// Begins to gather the conditions that moment `now` wakes, each of which is stirred too: all in the first, else those that are
-/// due, and these are due no more until they are stepped. Its cost is two writes for each 64 conditions, and a few for each
-/// that is due.
+/// Begins to gather the conditions that moment `now` wakes, each of which is stirred too: all in the first, else those that
+/// are due; the others are due when they were. The nodes of each are counted. Its cost is at most two writes for each 64
+/// conditions, and a few for each that it wakes.
 pub fn wake_first(
     woken: &mut Marked,
     stirred: &mut Marked,
     dues: &mut Wakes,
+    cells: &mut Cells,
+    codes: &CodeTable,
     count: usize,
     now: u64,
 )
+    requires codes { (b : plain.Book) × IsCodes b codes.now × (count ≡ length (places b)) }
     requires room { count ≤ room woken.old }
     requires stirred_room { count ≤ room stirred.old }
     requires dues { length dues.old ≡ count }
     requires now { now < 2 ^ 63 }
     ensures room { room woken.new ≡ room woken.old }
     ensures stirred_room { room stirred.new ≡ room stirred.old }
-    ensures same { (j : ℕ) → j < count → is_marked stirred.new j ≡ is_marked woken.new j }
+    ensures same { (j : ℕ) → is_marked stirred.new j ≡ is_marked woken.new j }
     ensures len { length dues.new ≡ length dues.old }
     ensures first { now ≡ 0 → (j : ℕ) → j < count → is_marked woken.new j ≡ true }
     ensures marks { (h : ℕ) → now ≡ suc h → (j : ℕ) → j < count
         → is_marked woken.new j ≡ nat_le (slice_index dues.old j) now }
-    ensures dues { (j : ℕ) → j < count → is_marked woken.new j ≡ false
+    ensures dues { (j : ℕ) → is_marked woken.new j ≡ false
         → slice_index dues.new j ≡ slice_index dues.old j }
+    ensures slots { cells.new.slots ≡ cells.old.slots }
+    ensures most { cells.old.visits ≤ 2 ^ 64 - 1 → cells.new.visits ≤ 2 ^ 64 - 1 }
+    ensures counts { (b : plain.Book) (visited : ℕ) → IsCodes b codes.now
+        → count ≡ length (places b) → cells.old.visits ≡ min visited (2 ^ 64 - 1)
+        → IsCounted (places b) visited woken.new cells.new.visits }
 {
     woken.clear();
     stirred.clear();
     if now == 0 {
-        mark_all(woken, count);
-        mark_all(stirred, count);
+        wake_all(woken, stirred, cells, codes, count);
         return;
     }
-    wake_due(woken, stirred, dues, now);
+    wake_due(woken, stirred, dues, cells, codes, now);
 }
 
-// Marks all numbers below this.
-fn mark_all(woken: &mut Marked, count: usize)
-    requires { count ≤ room woken.old }
+// Marks all conditions below this number in both sets, and counts their nodes.
+fn wake_all(
+    woken: &mut Marked,
+    stirred: &mut Marked,
+    cells: &mut Cells,
+    codes: &CodeTable,
+    count: usize,
+)
+    requires codes { (b : plain.Book) × IsCodes b codes.now × (count ≡ length (places b)) }
+    requires room { count ≤ room woken.old }
+    requires stirred_room { count ≤ room stirred.old }
+    requires same { (j : ℕ) → is_marked stirred.old j ≡ is_marked woken.old j }
     ensures room { room woken.new ≡ room woken.old }
+    ensures stirred_room { room stirred.new ≡ room stirred.old }
+    ensures same { (j : ℕ) → is_marked stirred.new j ≡ is_marked woken.new j }
     ensures marks { (j : ℕ) → j < count → is_marked woken.new j ≡ true }
+    ensures slots { cells.new.slots ≡ cells.old.slots }
+    ensures most { cells.old.visits ≤ 2 ^ 64 - 1 → cells.new.visits ≤ 2 ^ 64 - 1 }
+    ensures counts { (b : plain.Book) (visited : ℕ) → IsCodes b codes.now
+        → count ≡ length (places b)
+        → IsCounted (places b) visited woken.old cells.old.visits
+        → IsCounted (places b) visited woken.new cells.new.visits }
 {
     for term in 0..count {
-        woken.mark(term);
+        mark_counted(woken, cells, codes, term);
+        stirred.mark(term);
     }
 }
 
-// Marks the numbers that are due in both sets, and gives them the key of what is never due.
-fn wake_due(woken: &mut Marked, stirred: &mut Marked, dues: &mut Wakes, now: u64)
+// Marks the conditions that are due in both sets, and counts their nodes. The others are due when they were.
+fn wake_due(
+    woken: &mut Marked,
+    stirred: &mut Marked,
+    dues: &mut Wakes,
+    cells: &mut Cells,
+    codes: &CodeTable,
+    now: u64,
+)
+    requires codes { (b : plain.Book) × IsCodes b codes.now
+        × (length dues.old ≡ length (places b)) }
     requires room { length dues.old ≤ room woken.old }
     requires stirred_room { length dues.old ≤ room stirred.old }
     requires none { (j : ℕ) → is_marked woken.old j ≡ false }
@@ -303,11 +357,18 @@ fn wake_due(woken: &mut Marked, stirred: &mut Marked, dues: &mut Wakes, now: u64
         → is_marked woken.new j ≡ nat_le (slice_index dues.old j) now }
     ensures dues { (j : ℕ) → is_marked woken.new j ≡ false
         → slice_index dues.new j ≡ slice_index dues.old j }
+    ensures slots { cells.new.slots ≡ cells.old.slots }
+    ensures most { cells.old.visits ≤ 2 ^ 64 - 1 → cells.new.visits ≤ 2 ^ 64 - 1 }
+    ensures counts { (b : plain.Book) (visited : ℕ) → IsCodes b codes.now
+        → length dues.old ≡ length (places b)
+        → IsCounted (places b) visited woken.old cells.old.visits
+        → IsCounted (places b) visited woken.new cells.new.visits }
 {
-    while let Some(term) = dues.first(now) {
-        woken.mark(term);
-        stirred.mark(term);
-        dues.set(term, u64::MAX);
+    while let Some(next) = dues.first(now) {
+        mark_counted(woken, cells, codes, next);
+        stirred.mark(next);
+        // So that it isn't found again.
+        dues.set(next, u64::MAX);
     }
 }
 

@@ -61,10 +61,10 @@ pub fn draw_left(
 }
 
 // Whether anything that the right zone shows turned.
-fn right_turned(turned: Turned, truths: bool) -> bool
-    ensures { result ≡ (turned.first || (truths || turned.memos)) }
+fn right_turned(turned: Turned, stars: bool) -> bool
+    ensures { result ≡ (turned.first || (stars || turned.memos)) }
 {
-    turned.first || truths || turned.memos
+    turned.first || stars || turned.memos
 }
 
 /// R1 to R7. Answers how many rows stand beyond them.
@@ -85,7 +85,7 @@ pub fn draw_right(
         → FillsRight (right_in (the_book book.now) m k) result
         (tracked picture.old.rows changed.old) (tracked picture.new.rows changed.new) }
 {
-    if !right_turned(turned, scene.truths.changed()) {
+    if !right_turned(turned, scene.truths.stars_turned()) {
         return was;
     }
     fill_right(book, scene.truths.starred(), scene.memos, picture, changed)

@@ -48,6 +48,7 @@ one-event false up more old new most on off = none-visited (visited old) (visite
 pub visited-event : (b : Book) (h : List Event) (e : Event) (old new : Pair) → PairFits b old → flags_of old ≡ flags_after h
     → (is_tick e ≡ true → Visits old.one_up (tick_visits b h) old.one new.one × Visits old.two_up (tick_visits b h) old.two new.two)
     → (is_tick e ≡ false → NoVisits old new) → HaveVisited (event_visits b h e) old new
+unfolding PairFits
 visited-event b h e old new fits flags on off = record {
   one = subst (λ (f : Flags). visited new.one ≡ min (visited old.one + cond (is_tick e && f.one) (tick_visits b h) 0) (2 ^ 64 - 1)) flags
       (one-event (is_tick e) old.one_up (tick_visits b h) old.one new.one fits.one.terms.visits (λ t. (on t).0) (λ t. (off t).0));
@@ -57,7 +58,7 @@ visited-event b h e old new fits flags on off = record {
 
 -- before any
 pub visited-none : (b : Book) (old new : Pair) → PairFits b old → NoVisits old new → HaveVisited (history_visits b []) old new
-unfolding visits_before
+unfolding visits_before PairFits
 visited-none b old new fits none = record {
   one = none-visited (visited old.one) (visited new.one) fits.one.terms.visits none.0;
   two = none-visited (visited old.two) (visited new.two) fits.two.terms.visits none.1;

@@ -1,3 +1,5 @@
+pub mod Writing
+pub mod Fitting
 pub mod Histories
 pub mod Accounts
 pub mod Titles

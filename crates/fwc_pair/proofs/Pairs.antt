@@ -69,6 +69,7 @@ or-turned false false = refl
 -- a computer that fails isn't asked any more, and the other stands as before
 pub failed : (b : Book) (h : List Event) (n : ℕ) (old new : Pair) → new ≡ cond (n == 1) (record old { one_up = false }) (record old { two_up = false })
     → UpStand b (era h) old → UpStand b (begun h (Fail n)) new
+unfolding UpStand
 failed b h n old new is up =
     let down : UpStand b (era h) (cond (n == 1) (record old { one_up = false }) (record old { two_up = false })) =
     elim (n == 1) as (λ c. UpStand b (era h) (cond c (record old { one_up = false }) (record old { two_up = false }))) [
@@ -226,6 +227,7 @@ module _ (b : Book) (h : List Event) where
       → (mid.one_up ≡ true → LaneStands b (era_with (begun h x) x) new.one) → (mid.two_up ≡ true → LaneStands b (era_with (begun h x) x) new.two)
       → (is_tick x ≡ false → new.face ≡ old.face) → (is_tick x ≡ false → new.changed ≡ old.changed)
       → (is_tick x ≡ true → ShowsUp (picture_of old.face) mid.one_up mid.two_up new) → PairStands b (h ++ x ∷ []) new
+  unfolding UpStand
   went-on x old mid new st fits flags same first second face rows shows =
       let now = faced x (is_tick x) refl old mid new st flags first second face rows shows in
       let into : era_with (begun h x) x ≡ era (h ++ x ∷ []) = sym (era_next h x) in
@@ -243,7 +245,7 @@ module _ (b : Book) (h : List Event) where
 
   -- a word to which no source listens leaves the pair as it is
   pub unheard : (bus bits : ℕ) (p : Pair) → PairStands b h p → ((l : Lane) (e : Era) → LaneStands b e l → LaneStands b (era_with e (Word bus bits)) l) → PairStands b (h ++ Word bus bits ∷ []) p
-  unfolding flags_with
+  unfolding flags_with UpStand
   unheard bus bits p st kept =
       let x = Word bus bits in
       let on : begun h x ≡ era h = goes-on h x refl in
@@ -254,7 +256,7 @@ module _ (b : Book) (h : List Event) where
 
   -- the end of a record is no event
   pub ended : (p : Pair) → PairStands b (h ++ End ∷ []) p → PairStands b h p
-  unfolding flags_with era_with
+  unfolding flags_with era_with UpStand
   ended p st =
       let kept : era (h ++ End ∷ []) ≡ era h = era_goes_on h End refl in
       record {
@@ -276,7 +278,7 @@ none-changed i within = get_or-replicate 36 i false false within
 
 pub begins : (b : Book) (p : Pair) → PairFits b p → flags_of p ≡ both_up → picture_of p.face ≡ blank → p.changed ≡ replicate 36 false
     → ((f : Flags) → LaneStands b (empty_era f) p.one) → ((f : Flags) → LaneStands b (empty_era f) p.two) → PairStands b [] p
-unfolding flags_after last_picture tick_count row_changed
+unfolding flags_after last_picture tick_count row_changed UpStand
 begins b p fits up face rows one two = record {
   fits = fits;
   flags = up;

@@ -14,21 +14,29 @@ abbrev pub flags_of : Pair → Flags
 flags_of p = record { one = p.one_up; two = p.two_up }
 
 -- its lanes were made for the book, those that are up have counted the same moments, and no row is told as changed where none
--- is known to have. Nothing is said of any history
-pub record PairFits (b : Book) (p : Pair) : Type 0 where
+-- is known to have
+pub record FitsByParts (b : Book) (p : Pair) : Type 0 where
   pub one : LaneFits b p.one
   pub two : LaneFits b p.two
   pub together : p.one_up ≡ true → p.two_up ≡ true → p.two.moments ≡ p.one.moments
   pub still : p.still ≡ true → NoneChanged p.changed
 
+-- the pair fits the book. Nothing is said of any history
+unfoldable pub PairFits : Book → Pair → Type 0
+PairFits b p = FitsByParts b p
+
 -- how many whole moments the first computer that is up has counted
 abbrev pub moments_of : Pair → ℕ
 moments_of p = if p.one_up then p.one.moments else (if p.two_up then p.two.moments else 0)
 
--- each computer that is up stands for the era; of one that is down nothing is asked
-pub record UpStand (b : Book) (e : Era) (p : Pair) : Type 0 where
+-- each computer that is up stands for the era
+pub record EachStands (b : Book) (e : Era) (p : Pair) : Type 0 where
   pub one : p.one_up ≡ true → LaneStands b e p.one
   pub two : p.two_up ≡ true → LaneStands b e p.two
+
+-- so do those that are up; of one that is down nothing is asked
+unfoldable pub UpStand : Book → Era → Pair → Type 0
+UpStand b e p = EachStands b e p
 
 -- the flags tell which computers are up after the history, the face is the picture of its last
 -- Tick, blank without one, `changed` tells which rows that Tick changed, and each computer that

@@ -22,8 +22,9 @@ use ecam_kinds::{Event, Picture, ROWS};
 use fwc_lane::Lane;
 use std::alloc::{AllocError, Global};
 
-/// Two computers that run side by side, each on memory of its own. While one is up, the failure of the other changes
-/// nothing. Memory is taken in `new` alone, and nothing grows with the history.
+/// Two computers that run side by side. They read one copy of the codes by which conditions are stepped, and of which nodes
+/// ask for what, which nothing changes; all else each has on memory of its own. While one is up, the failure of the other
+/// changes nothing. Memory is taken in `new` alone, and nothing grows with the history.
 #[derive(Drop)]
 pub struct Pair {
     /// Computer 1, and computer 2. What one that is down holds has no bearing.
@@ -46,9 +47,11 @@ impl Pair {
         ensures fits { IfOk result (PairFits (the_book book.now)) }
         ensures stands { IfOk result (PairStands (the_book book.now) []) }
     {
+        let one = Lane::new(alloc, book)?;
+        let two = Lane::beside(alloc, book, &one)?;
         Ok(Pair {
-            one: Lane::new(alloc, book)?,
-            two: Lane::new(alloc, book)?,
+            one,
+            two,
             one_up: true,
             two_up: true,
             face: Picture::blank(),
@@ -91,7 +94,7 @@ impl Pair {
         // The end of a record is no event of a history.
         ensures end { event.now ≡ End → (h : List Event) → PairStands (the_book book.now) h self.old
             → PairStands (the_book book.now) h self.new }
-        // A Tick visits, on each computer that is up, the nodes of the conditions that its moment wakes, and of no others.
+        // A Tick counts, on each computer that is up, the nodes of the conditions that its moment wakes, and of no others.
         ensures visits { (h : List Event) → PairStands (the_book book.now) h self.old
             → is_tick event.now ≡ true
             → Visits self.old.one_up (tick_visits (the_book book.now) h) self.old.one self.new.one

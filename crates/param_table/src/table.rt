@@ -94,17 +94,26 @@ impl Params {
             → ParamsStand (the_book book.now) old k self.old
             → ParamsStand (the_book book.now) new k self.new }
     {
-        if book.last_listener(bus, bits).is_none() {
+        let last = book.last_listener(bus, bits);
+        if last.is_none() {
             return;
         }
         let word = Word::new(bits);
         if word.odd() {
-            receive(&mut self.held, &self.rules, book, self.clock, bus, &word);
+            receive(
+                &mut self.held,
+                &self.rules,
+                book,
+                self.clock,
+                bus,
+                &word,
+                last,
+            );
         }
     }
 
-    /// Whether any source of the book listens to a word's bus and label. A word to which none does leaves each table of the book
-    /// as it is. Its cost is one look-up.
+    /// Whether any source of the book listens to a word's bus and label. A word to which none does leaves each table of the
+    /// book as it is. Its cost is one look-up.
     #[inline(always)]
     pub fn listens(&self, book: &Book, bus: u8, bits: u32) -> bool
         requires { ParamsFit (the_book book.now) self.now }
@@ -134,9 +143,9 @@ impl Params {
         self.held.look_at_due(self.clock);
     }
 
-    /// Whether it is known that the end of the moment changes nothing but the clock: no parameter may have another value than in
-    /// the moment before, and the freshness of no word may end with this one. Its cost is three looks, and at most one more for
-    /// each 64 parameters.
+    /// Whether it is known that the end of the moment changes nothing but the clock: no parameter may have another value than
+    /// in the moment before, and the freshness of no word may end with this one. Its cost is three looks, and at most one
+    /// more for each 64 parameters.
     #[inline(always)]
     pub fn is_still(&self, _book: &Book) -> bool
         requires { ParamsFit (the_book _book.now) self.now }

@@ -1,8 +1,9 @@
 // A word comes to the sources that listen to it.
-ghost use Rattle.std.specs.Prelude.{◌≡◌, ℕ, ◌/◌, ◌<◌, false, is_some, length, slice_index_or, None, IsTrue, All, if◌then◌else◌};
-ghost use Rattle.ecam_spec.specs.Word.{is_odd};
+ghost use Rattle.std.specs.Prelude.{◌≡◌, ℕ, ◌*◌, ◌/◌, ◌<◌, false, is_some, length, slice_index_or, None, IsTrue, All, if◌then◌else◌};
+ghost use Rattle.ecam_spec.specs.Word.{is_odd, label};
 ghost use Rattle.ecam_spec.specs.KeepsLimits.{IsSoundParameter};
 ghost use Rattle.book_model.specs.Sealed.{the_book};
+ghost use Rattle.book_model.specs.SourcePlaces.{listens, last_below};
 ghost use Rattle.wakes.specs.Marks.{is_marked};
 ghost use Rattle.param_table.specs.Taking.{takes_at};
 ghost use Rattle.param_table.specs.Rules.{AreRules};
@@ -15,31 +16,35 @@ use crate::rules::{Rule, entry};
 use arinc_words::Word;
 use book_model::Book;
 
-/// A word of odd parity comes: each source that listens to its bus and label, and names its SDI or none, takes it.
+/// A word of odd parity comes, with the last place of a source that listens to its bus and label: each source that listens to
+/// them, and names its SDI or none, takes it.
 #[inline(always)]
 pub fn receive(
     held: &mut Held,
     rules: &[Option<Rule>],
     book: &Book,
     clock: u32,
-    bus: u8,
+    _bus: u8,
     word: &Word,
+    last: Option<u16>,
 )
+    requires last { last ≡ last_below (listens (the_book book.now).parameters _bus (label word.now))
+        (3 * length (the_book book.now).parameters) }
     requires odd { IsTrue (is_odd word.now) }
     requires sound { All IsSoundParameter (the_book book.now).parameters }
     requires rules { AreRules (the_book book.now).parameters rules.now }
     requires fits { HeldFits (the_book book.now).parameters clock held.old }
     ensures fits { HeldFits (the_book book.now).parameters clock held.new }
     ensures received { (q : ℕ) → slice_index_or held.new.received.items.items q None
-        ≡ (if takes_at (the_book book.now).parameters (record { bus = bus; bits = word.now }) q
+        ≡ (if takes_at (the_book book.now).parameters (record { bus = _bus; bits = word.now }) q
         then entry clock word.now (slice_index_or rules.now q None)
         else slice_index_or held.old.received.items.items q None) }
     ensures renews { Renews clock held.old held.new }
     ensures others { (p : ℕ) → ((q : ℕ) → q / 3 ≡ p → takes_at (the_book book.now).parameters
-        (record { bus = bus; bits = word.now }) q ≡ false)
+        (record { bus = _bus; bits = word.now }) q ≡ false)
         → is_marked held.new.changed p ≡ is_marked held.old.changed p }
 {
-    let mut next = book.last_listener(bus, word.bits());
+    let mut next = last;
     while let Some(place) = next {
         let place = usize::from(place);
         visit(held, rules, book, clock, place, word);

@@ -7,7 +7,7 @@ use Rattle.ecam_spec.specs.History.{era}
 use Rattle.ecam_spec.specs.Replay.{moment_of}
 use Rattle.fwc_lane.specs.LaneStands.{LaneStands}
 use Rattle.fwc_lane.specs.declared.lane.Lane.{Lane}
-use Rattle.fwc_pair.specs.PairState.{PairStands, moments_of}
+use Rattle.fwc_pair.specs.PairState.{UpStand, PairStands, moments_of}
 use Rattle.fwc_pair.specs.declared.pair.Pair.{Pair}
 
 module _ (b : Book) (h : List Event) where
@@ -16,6 +16,7 @@ module _ (b : Book) (h : List Event) where
 
   counted-by : (p : Pair) → PairStands b h p → (one two : Bool) → p.one_up ≡ one → p.two_up ≡ two
       → (if one then p.one.moments else (if two then p.two.moments else 0)) ≤ length (era h).moments
+  unfolding UpStand
   counted-by p st true two e f = omega (arith, lane-counts p.one (st.up.one e))
   counted-by p st false true e f = omega (arith, lane-counts p.two (st.up.two f))
   counted-by p st false false e f = omega arith

@@ -19,7 +19,7 @@ use Rattle.replay_core.specs.Loading.{BookHas, IsUnopened, Unloaded, HasLoaded, 
 use Rattle.view_spec.specs.Places.{number_place}
 use Rattle.replay_core.specs.Play.{ShowsInPart, Plays, uncounted, Shown}
 use Rattle.replay_core.specs.Answers.{ByBookAlone, ByBook, ByReading, ByRecord, ByNumber, LacksNumber, BookTold, BookUntold}
-use Rattle.replay_core.specs.ReadEndings.{Endings, ShowsWhole, ShowsUpTo, showing, HasNumber, ExplainsInPart, ExplainsNothing, BreaksOff, explaining}
+use Rattle.replay_core.specs.ReadEndings.{Endings, ShowsWhole, ShowsUpTo, showing, HasNumber, ExplainsInPart, Explains, ExplainsNothing, BreaksOff, explaining}
 use Rattle.replay_core.specs.Outcomes.{outcome_of, refusal_of}
 use Rattle.replay_core.specs.declared.load.Loaded.{Loaded}
 use Rattle.replay_core.specs.declared.load.Unready.{Unready}
@@ -185,6 +185,15 @@ module _ (a c : ShelfCall) (name record' : Text) (b : Book) (on : Follows a c na
     unexplained (Record g) plays kept = record {
       count = count;
       both = of-both a c name record' b on _ (ExplainsNothing out g) (λ text h. record { fault_is = h.fault_is; kept = kept; took = h.took }) plays;
+    }
+
+    -- and then the standings were written
+    pub explained : (n : ℕ) → Plays c dropped b silent pair record' no_limit (Ok n)
+        → ((h : List Event) → PairStands b h pair → Writes out (standing_lines b h))
+        → ByReading (joined a c) out Opened name record' (explaining out) outcomes.Done
+    explained n plays whole = record {
+      count = count;
+      both = of-both a c name record' b on _ (Explains out) (λ text h. record { faultless = h.faultless; written = whole (events text no_limit) h.stands; spent = h.spent }) plays;
     }
 
     -- and then a prefix of the standings was written

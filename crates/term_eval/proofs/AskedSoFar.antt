@@ -1,4 +1,4 @@
--- Which nodes count as asked while the temporal nodes of a condition are gone through, from the last to the first.
+-- Which nodes count as updated while the temporal nodes of a condition are gone through, from the last to the first.
 use Rattle.std.proofs.Common.{◌≡◌, ℕ, suc, ◌<◌, ◌≤◌, Bool, true, false, not, ◌||◌, leb, Option, refl, sym, ◌∙◌, ap}
 use Rattle.std.specs.Option.{option_map_or}
 use Rattle.std.specs.List.{slice_get}
@@ -17,7 +17,7 @@ use Rattle.term_eval.proofs.Hearing.{AsBefore, wait-same, heard-is, atom-still, 
 abbrev pub temporal_at : Tree → ℕ → ℕ → Bool
 temporal_at c at i = option_map_or (λ (x : Part). is_temporal x.tree) (slice_get (parts at 0 c) i) false
 
--- every node has been asked but the temporal ones before a place
+-- every node has been updated but the temporal ones before a place
 abbrev pub gone : Tree → ℕ → ℕ → ℕ → Bool
 gone c at m i = not (temporal_at c at i) || leb m i
 
@@ -39,12 +39,12 @@ gone-ahead c at m i x heads temporal ahead = gone-temporal c at m i x heads temp
 -- ---- at the start none was gone through
 
 module _ (w : World) (h : ℕ) (c : Tree) (at first : ℕ) where
-  -- an atom counts as asked where it doesn't hear of what moves
+  -- an atom counts as updated where it doesn't hear of what moves
   heard-same : (m i : ℕ) (x : Part) → Heads c at i x → i < m → AsBefore w h (heard (moved w (suc h)) c) (gone c at m) i x
   heard-same m i x heads ahead gate = by (is_temporal x.tree) (heard (moved w (suc h)) c i) refl refl where
-    by : (b asked : Bool) → is_temporal x.tree ≡ b → heard (moved w (suc h)) c i ≡ asked →
+    by : (b updated : Bool) → is_temporal x.tree ≡ b → heard (moved w (suc h)) c i ≡ updated →
         own_says w h (gone c at m i) x.tree ≡ own_says w h (heard (moved w (suc h)) c i) x.tree
-    by true asked temporal is =
+    by true updated temporal is =
         ap (λ b. own_says w h b x.tree)
         (gone-ahead c at m i x heads temporal ahead ∙ sym (heard-is (moved w (suc h)) c at i x heads ∙ deaf (moved w (suc h)) x.at x.tree temporal))
     by false true temporal is = ap (λ b. own_says w h b x.tree) (gone-untimed c at m i x heads temporal ∙ sym is)

@@ -25,7 +25,8 @@ use Rattle.term_eval.proofs.Frames.{Stand-same, StandAll-same}
 use Rattle.term_eval.proofs.Members.{how_many, counted, length-many}
 use Rattle.term_eval.proofs.Inside.{node_at, inside, nodes-is, slots-is, OwnCell, open-cells, close-cells}
 use Rattle.term_eval.proofs.PartLaws.{parts-is, parts-count}
-use Rattle.term_eval.proofs.FirstKinds.{FirstHolds, right, Apart, cells-apart, wakes-same, wakes-both, Woken, woken}
+use Rattle.term_eval.proofs.FirstKinds.{FirstHolds, right, Apart, cells-apart, Woken, woken}
+use Rattle.term_eval.proofs.FirstWake.{first-same, first-splits}
 use Rattle.term_eval.proofs.AskedNode.{Asked, is-asked}
 
 -- what is kept of a part that was asked
@@ -160,8 +161,8 @@ module _ (env : Env) (c : Tree) (cs : Trees) (at p up : ℕ) (s m t : Run) (some
   unfolding StandAll nodes slots many holds parts
   after-more = record {
     due =
-        let same = wakes-same m.wakes t.wakes (at + slots c) (slots_of cs) first.frame.wakes_behind in
-        omega (arith, first.due, rest.due, same, wakes-both t.wakes at (slots c) (slots_of cs));
+        let same = first-same m.wakes t.wakes (at + slots c) (slots_of cs) first.frame.wakes_behind in
+        omega (arith, first.due, rest.due, same, first-splits t.wakes at (slots c) (slots_of cs));
     frame = record {
       nodes = first.frame.nodes ∙ rest.frame.nodes;
       slots = first.frame.slots ∙ rest.frame.slots;
@@ -311,7 +312,7 @@ module _ (env : Env) (c : Tree) (at p up : ℕ) (s m : Run) (names : IsWithin (l
 
   pub after-node : After env c at p up s t
   after-node = record {
-    due = omega (arith, due, a.due, wakes.first, wakes-same m.wakes t.wakes (inside at c) (slots_of (children c)) (λ i low. wakes.others i (inr low)));
+    due = omega (arith, due, a.due, wakes.first, first-same m.wakes t.wakes (inside at c) (slots_of (children c)) (λ i low. wakes.others i (inr low)));
     frame = record {
       nodes = asked.nodes ∙ a.frame.nodes;
       slots = wakes.len ∙ a.frame.slots;

@@ -19,7 +19,7 @@ use Rattle.term_eval.specs.Begin.{unasked_from, ask_over, AllCanAsk}
 use Rattle.term_eval.proofs.Codes.{length-code}
 use Rattle.term_eval.proofs.PartLaws.{says-before, said-before}
 use Rattle.term_eval.proofs.Dues.{due-of}
-use Rattle.term_eval.proofs.FirstKinds.{wakes-most}
+use Rattle.term_eval.proofs.FirstWake.{first-most}
 use Rattle.term_eval.proofs.Cleared.{cleared-len, cleared-before, cleared-within, cleared-behind}
 use Rattle.term_eval.proofs.AskedTree.{Done, After}
 use Rattle.term_eval.proofs.AskedCode.{over}
@@ -60,7 +60,7 @@ module _ (env : Env) (steps : List Step) (m : Memory) (n : NodeMemory) (c : Tree
 
   module _ (t : Run) (a : After env c at first 0 (start first (length steps) m n) t) where
     pub is-first : t.due ≡ first_wake t.wakes at (slots c)
-    is-first = omega (arith, a.due, wakes-most t.wakes at (slots c))
+    is-first = omega (arith, a.due, first-most t.wakes at (slots c))
 
     pub within : Within first (first + nodes c) at (at + slots c) n (record { states = t.states; wakes = t.wakes })
     within = record {
@@ -92,11 +92,3 @@ module _ (env : Env) (steps : List Step) (m : Memory) (n : NodeMemory) (c : Tree
     due w d =
         subst (IsDue (staying w 0) c 0) (sym is-first)
         (due-of w 0 c at t.wakes (omega arith) ready.held.code.short (λ i x heads temporal. (d.parts.each i x heads).wake temporal))
-
--- lists that are equal to those that are kept
-pub same-run : (s t : Run) → s.states ≡ t.states → s.wakes ≡ t.wakes → s.cells ≡ t.cells → s.due ≡ t.due → s ≡ t
-same-run s t states wakes cells due =
-    ap (λ l. record { states = l; wakes = s.wakes; cells = s.cells; due = s.due }) states
-    ∙ ap (λ l. record { states = t.states; wakes = l; cells = s.cells; due = s.due }) wakes
-    ∙ ap (λ l. record { states = t.states; wakes = t.wakes; cells = l; due = s.due }) cells
-    ∙ ap (λ n. record { states = t.states; wakes = t.wakes; cells = t.cells; due = n }) due

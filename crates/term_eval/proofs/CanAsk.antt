@@ -6,7 +6,7 @@ use Rattle.ecam_spec.specs.TermNames.{IsWithin, AreWithin}
 use Rattle.term_eval.specs.declared.env.Env.{Env}
 use Rattle.term_eval.specs.declared.code.Step.{Step}
 use Rattle.term_eval.specs.Code.{code, codes, step}
-use Rattle.term_eval.specs.Run.{HasSlot}
+use Rattle.term_eval.specs.Run.{SlotWithin}
 use Rattle.term_eval.specs.Begin.{Has, CanAsk, AllCanAsk}
 use Rattle.term_eval.proofs.Codes.{nodes-some, length-code}
 use Rattle.term_eval.proofs.Inside.{node_at}
@@ -46,7 +46,7 @@ module _ (env : Env) (states wakes cells : ℕ) where
   has (risen c) at p up r = omega (arith, r.range)
   has (latched a b) at p up r = omega (arith, r.range)
 
-  slot : (c : Tree) (at p up : ℕ) → Room c at p up → HasSlot wakes (node_at at c)
+  slot : (c : Tree) (at p up : ℕ) → Room c at p up → SlotWithin wakes (node_at at c)
   unfolding slots
   slot (constant b) at p up r = tt
   slot (discrete x) at p up r = tt

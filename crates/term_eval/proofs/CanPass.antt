@@ -8,7 +8,7 @@ use Rattle.term_eval.specs.declared.code.Step.{Step}
 use Rattle.term_eval.specs.Memory.{Memory, NodeMemory}
 use Rattle.term_eval.specs.Code.{IsReady, owners}
 use Rattle.term_eval.specs.Parts.{Part, parts, Heads, is_temporal}
-use Rattle.term_eval.specs.Run.{HasSlot, CanPass}
+use Rattle.term_eval.specs.Run.{SlotWithin, CanPass}
 use Rattle.term_eval.proofs.Inside.{node_at}
 use Rattle.term_eval.proofs.NodeKinds.{own-slot}
 use Rattle.term_eval.proofs.PartLaws.{step_of, parts-code, parts-count, parts-ends, slots-within}
@@ -42,7 +42,7 @@ owns c at m slot (x ∷ xs) place j i is =
     (ap (λ b. slice_get (cond b (m ∷ owners (m + 1) (map step_of xs)) (owners (m + 1) (map step_of xs))) j) (sym (has-slot x.tree x.at)) ∙ is)
 
 -- what a look at it asks for is there
-has-cell : (at cells : ℕ) (c : Tree) → at < cells → HasSlot cells (node_at at c)
+has-cell : (at cells : ℕ) (c : Tree) → at < cells → SlotWithin cells (node_at at c)
 has-cell at cells (constant b) less = tt
 has-cell at cells (discrete x) less = tt
 has-cell at cells (valid x) less = tt
@@ -75,6 +75,6 @@ module _ (steps : List Step) (m : Memory) (n : NodeMemory) (c : Tree) (at first 
         within = omega (arith, size, stands-over o.part.tree o.temporal, parts-ends at 0 c i o.part o.heads);
         room = omega (arith, within.1, some, o.own, ready.held.slots);
         has =
-            subst (λ (s : Step). HasSlot (length m.slots) s.node) (sym (heads-node c at steps ready.held.code i o.part o.heads))
+            subst (λ (s : Step). SlotWithin (length m.slots) s.node) (sym (heads-node c at steps ready.held.code i o.part o.heads))
             (has-cell o.part.at (length m.slots) o.part.tree (omega (arith, within.1, some, ready.range)));
       }

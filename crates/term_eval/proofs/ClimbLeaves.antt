@@ -9,15 +9,15 @@ use Rattle.term_eval.specs.declared.code.Step.{Step}
 use Rattle.term_eval.specs.Memory.{NodeMemory}
 use Rattle.term_eval.specs.Woken.{differ}
 use Rattle.term_eval.specs.Code.{IsHeld}
-use Rattle.term_eval.specs.Climb.{Climbed, climb, count_with, gate_says, go_on, node_of, told_as, counted}
+use Rattle.term_eval.specs.Climb.{Climbed, climb, count_with, gate_says, go_on, step_at, told_as, counted}
 use Rattle.term_eval.specs.Parts.{Part, Heads}
-use Rattle.term_eval.specs.NodeState.{state_at}
+use Rattle.term_eval.specs.NodeState.{state_at, unasked}
 use Rattle.term_eval.proofs.PartLaws.{slots-within}
 use Rattle.term_eval.proofs.CodeParts.{heads-one, heads-within, heads-node, heads-up, slots-rise, slot-of}
 use Rattle.term_eval.proofs.ClimbSteps.{told_in, counted_in, climb-same, climb-first, climb-above}
 
--- Nothing changed but nodes from a place on up to one of them, and slots from one place up to another. Where nothing is stirred no slot
--- did, and the first node says what it said
+-- Nothing changed but nodes from a place on up to one of them, and slots from one place up to another. Where nothing is
+-- stirred no slot did, and the first node says what it said
 pub record LeavesOthers (at first i end : ℕ) (n : NodeMemory) (done : Climbed) : Type 0 where
   pub nodes : length done.states ≡ length n.states
   pub slots : length done.wakes ≡ length n.wakes
@@ -26,8 +26,8 @@ pub record LeavesOthers (at first i end : ℕ) (n : NodeMemory) (done : Climbed)
   pub quiet : done.stirs ≡ false → done.wakes ≡ n.wakes
   pub first_told : done.stirs ≡ false → (state_at done.states first).told ≡ (state_at n.states first).told
 
-module _ (at first i end : ℕ) (steps : List Step) (ups : (j : ℕ) → j ≤ i → (node_of steps j).up ≤ j)
-    (stops : (j count slot : ℕ) → j < i → gate_says (node_of steps j).node count ≡ Err slot → (at ≤ slot) × (slot < end)) where
+module _ (at first i end : ℕ) (steps : List Step) (ups : (j : ℕ) → j ≤ i → (step_at steps j).up ≤ j)
+    (stops : (j count slot : ℕ) → j < i → gate_says (step_at steps j).node count ≡ Err slot → (at ≤ slot) × (slot < end)) where
   none-left : (states : List NodeState) (wakes : List ℕ) →
       LeavesOthers at first i end (record { states = states; wakes = wakes }) (record { states = states; wakes = wakes; stirs = false })
   none-left states wakes = record {
@@ -44,7 +44,7 @@ module _ (at first i end : ℕ) (steps : List Step) (ups : (j : ℕ) → j ≤ i
   set-leaves j s states value within out =
       let other : s ≢ first + j
       = λ e. elim out [ inl l ↦ (let f : ⊥ = omega arith in f) | inr r ↦ (let f : ⊥ = omega arith in f) ] in
-      get_or-set_other states (first + j) s value (record { count = 0; told = false }) other
+      get_or-set_other states (first + j) s value unasked other
 
   told-leaves : (j : ℕ) (holds : Bool) (states : List NodeState) (wakes : List ℕ) → j ≤ i →
       LeavesOthers at first i end (record { states = states; wakes = wakes }) (record { states = told_in first j holds states; wakes = wakes; stirs = true })
@@ -76,18 +76,17 @@ module _ (at first i end : ℕ) (steps : List Step) (ups : (j : ℕ) → j ≤ i
   counted-told j above holds states before room =
       let told = told_in first j holds states in
       let other : first ≢ first + j = λ e. (let f : ⊥ = omega arith in f) in
-      let new : NodeState = record { count = 0; told = false } in
       let value = counted (count_with (state_at told (first + above)).count holds) (state_at told (first + above)) in
       let long : length told ≡ length states = length-set states (first + j) (told_as holds (state_at states (first + j))) in
-      let own : state_at told first ≡ state_at states first = get_or-set_other states (first + j) first (told_as holds (state_at states (first + j))) new other in
+      let own : state_at told first ≡ state_at states first = get_or-set_other states (first + j) first (told_as holds (state_at states (first + j))) unasked other in
       elim (cases_lt 0 above) [
         | inl some ↦
             (let apart : first ≢ first + above = λ e. (let f : ⊥ = omega arith in f) in
-            ap (λ (s : NodeState). s.told) (get_or-set_other told (first + above) first value new apart ∙ own))
+            ap (λ (s : NodeState). s.told) (get_or-set_other told (first + above) first value unasked apart ∙ own))
         | inr top ↦
             (let here : first ≡ first + above = omega arith in
             ap (λ k. (state_at (slice_set told (first + above) value) k).told) here
-            ∙ ap (λ (s : NodeState). s.told) (get_or-set_same told (first + above) value new (omega arith))
+            ∙ ap (λ (s : NodeState). s.told) (get_or-set_same told (first + above) value unasked (omega arith))
             ∙ ap (λ k. (state_at told k).told) (sym here)
             ∙ ap (λ (s : NodeState). s.told) own)
       ]
@@ -98,7 +97,7 @@ module _ (at first i end : ℕ) (steps : List Step) (ups : (j : ℕ) → j ≤ i
       LeavesOthers at first i end (record { states = states; wakes = wakes }) (climb fuel steps first j holds states wakes)
 
   leaving-above : (fuel : ℕ) → Leaving fuel → (j above : ℕ) (holds : Bool) (states : List NodeState) (wakes : List ℕ) → j ≤ i → first + i < length states → above < j →
-      (says : Result Bool ℕ) → gate_says (node_of steps above).node (count_with (state_at (told_in first j holds states) (first + above)).count holds) ≡ says →
+      (says : Result Bool ℕ) → gate_says (step_at steps above).node (count_with (state_at (told_in first j holds states) (first + above)).count holds) ≡ says →
       LeavesOthers at first i end (record { states = states; wakes = wakes })
       (go_on says (λ says. climb fuel steps first above says (counted_in first j above holds states) wakes)
       (λ slot. record { states = counted_in first j above holds states; wakes = slice_set wakes slot 0; stirs = true }))
@@ -136,17 +135,17 @@ module _ (at first i end : ℕ) (steps : List Step) (ups : (j : ℕ) → j ≤ i
   leaving-more fuel rest j holds states wakes within room false is =
       subst (LeavesOthers at first i end (record { states = states; wakes = wakes })) (sym (climb-same fuel steps first j holds states wakes is)) (none-left states wakes)
   leaving-more fuel rest j holds states wakes within room true is =
-      elim (cases_lt 0 (node_of steps j).up) [
+      elim (cases_lt 0 (step_at steps j).up) [
         | inl some ↦
-            (let above : ℕ = j - (node_of steps j).up in
+            (let above : ℕ = j - (step_at steps j).up in
             let far = ups j within in
             let before : above < j = omega arith in
-            let up : (node_of steps j).up + above ≡ j = omega arith in
+            let up : (step_at steps j).up + above ≡ j = omega arith in
             subst (LeavesOthers at first i end (record { states = states; wakes = wakes })) (sym (climb-above fuel steps first j above holds states wakes is up before))
             (leaving-above fuel rest j above holds states wakes within room before
-            (gate_says (node_of steps above).node (count_with (state_at (told_in first j holds states) (first + above)).count holds)) refl))
+            (gate_says (step_at steps above).node (count_with (state_at (told_in first j holds states) (first + above)).count holds)) refl))
         | inr top ↦
-            (let alone : (node_of steps j).up ≡ 0 = omega arith in
+            (let alone : (step_at steps j).up ≡ 0 = omega arith in
             subst (LeavesOthers at first i end (record { states = states; wakes = wakes })) (sym (climb-first fuel steps first j holds states wakes is alone))
             (told-leaves j holds states wakes within))
       ]
@@ -157,8 +156,8 @@ module _ (at first i end : ℕ) (steps : List Step) (ups : (j : ℕ) → j ≤ i
   leaving (suc fuel) j holds states wakes within room =
       leaving-more fuel (leaving fuel) j holds states wakes within room (differ (state_at states (first + j)).told holds) refl
 
--- a climb leaves all that stands behind the node that it starts from, with the slots from this node's place on, and all outside the
--- condition
+-- a climb leaves all that stands behind the node that it starts from, with the slots from this node's place on, and all
+-- outside the condition
 pub climb-leaves : (c : Tree) (at first i : ℕ) (x : Part) (n : NodeMemory) (steps : List Step) (now : Bool) → IsHeld steps n c at first → Heads c at i x →
     LeavesOthers at first i x.at n (climb (suc i) steps first i now n.states n.wakes)
 unfolding Leaving
@@ -169,7 +168,7 @@ climb-leaves c at first i x n steps now ready heads =
     (λ j low.
     let one = heads-one c at j (omega arith) in
     let far = heads-up c at j one.0 one.1 in
-    let up : (node_of steps j).up ≡ one.0.up = ap (λ (s : Step). s.up) (heads-node c at steps ready.code j one.0 one.1) in
+    let up : (step_at steps j).up ≡ one.0.up = ap (λ (s : Step). s.up) (heads-node c at steps ready.code j one.0 one.1) in
     omega arith)
     (λ j count slot above is.
     let one = heads-one c at j (omega arith) in

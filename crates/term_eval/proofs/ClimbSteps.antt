@@ -5,7 +5,7 @@ use Rattle.std.specs.Prelude.{slice_set}
 use Rattle.std.proofs.lemmas.Bool.Decides.{nat_tests}
 use Rattle.term_eval.specs.declared.nodes.NodeState.{NodeState}
 use Rattle.term_eval.specs.declared.code.Step.{Step}
-use Rattle.term_eval.specs.Climb.{climb, count_with, gate_says, go_on, node_of, told_as, counted}
+use Rattle.term_eval.specs.Climb.{climb, count_with, gate_says, go_on, step_at, told_as, counted}
 use Rattle.term_eval.specs.NodeState.{state_at, one_if}
 use Rattle.term_eval.specs.Woken.{differ}
 
@@ -25,21 +25,21 @@ unfolding climb
 climb-same n steps first i holds states wakes same = rw same refl
 
 pub climb-first : (n : ℕ) (steps : List Step) (first i : ℕ) (holds : Bool) (states : List NodeState) (wakes : List ℕ) →
-    differ (state_at states (first + i)).told holds ≡ true → (node_of steps i).up ≡ 0 →
+    differ (state_at states (first + i)).told holds ≡ true → (step_at steps i).up ≡ 0 →
     climb (suc n) steps first i holds states wakes ≡ record { states = told_in first i holds states; wakes = wakes; stirs = true }
 unfolding climb
 climb-first n steps first i holds states wakes turns top = rw turns (rw top refl)
 
 pub climb-above : (n : ℕ) (steps : List Step) (first i above : ℕ) (holds : Bool) (states : List NodeState) (wakes : List ℕ) →
-    differ (state_at states (first + i)).told holds ≡ true → (node_of steps i).up + above ≡ i → above < i →
+    differ (state_at states (first + i)).told holds ≡ true → (step_at steps i).up + above ≡ i → above < i →
     climb (suc n) steps first i holds states wakes
-    ≡ go_on (gate_says (node_of steps above).node (count_with (state_at (told_in first i holds states) (first + above)).count holds))
+    ≡ go_on (gate_says (step_at steps above).node (count_with (state_at (told_in first i holds states) (first + above)).count holds))
     (λ says. climb n steps first above says (counted_in first i above holds states) wakes)
     (λ slot. record { states = counted_in first i above holds states; wakes = slice_set wakes slot 0; stirs = true })
 unfolding climb
 climb-above n steps first i above holds states wakes turns up before =
-    let below : eqb (node_of steps i).up 0 ≡ false = grind (arith, nat_tests) in
-    let is : i - (node_of steps i).up ≡ above = omega arith in
+    let below : eqb (step_at steps i).up 0 ≡ false = grind (arith, nat_tests) in
+    let is : i - (step_at steps i).up ≡ above = omega arith in
     rw turns (rw below (rw is refl))
 
 -- one child more or less is counted, while there are few

@@ -1,4 +1,4 @@
--- A node that was asked is told, and with it those above it that turn: each node of the condition is kept then.
+-- A node that was updated is told, and with it those above it that turn: each node of the condition is kept then.
 use Rattle.std.proofs.Common.{◌≡◌, ◌≢◌, ℕ, suc, ◌+◌, ◌<◌, ◌^◌, Bool, true, false, List, length, refl, sym, ◌∙◌, ap, subst, arith}
 use Rattle.std.specs.Prelude.{slice_index}
 use Rattle.std.specs.List.{slice_get}
@@ -16,29 +16,31 @@ use Rattle.term_eval.specs.NodeState.{state_at, says, said, IsKept, NodesWait, a
 use Rattle.term_eval.proofs.PartLaws.{parts-ends, slots-within}
 use Rattle.term_eval.proofs.NodeKinds.{is_gate, own-slot}
 use Rattle.term_eval.proofs.CodeParts.{heads-within, heads-node}
-use Rattle.term_eval.proofs.Telling.{ToTell, Given, told}
+use Rattle.term_eval.proofs.TellingParts.{ToTell, Given}
+use Rattle.term_eval.proofs.Telling.{told}
 
 -- what is kept of nodes after a climb
 abbrev pub kept_by : Climbed → NodeMemory
 kept_by done = record { states = done.states; wakes = done.wakes }
 
--- node i, which heads x, is about to be told: each other is kept, and so is this one, but that it is looked at again when it has to
--- be once it was told
-pub record IsToBeTold (w : World) (h : ℕ) (asked : ℕ → Bool) (c : Tree) (at first i : ℕ) (x : Part) (n : NodeMemory) : Type 0 where
-  pub others : (j : ℕ) (y : Part) → Heads c at j y → j ≢ i → IsKept w h asked y first j n
-  pub told : (state_at n.states (first + i)).told ≡ says w h asked x.tree i
-  pub count : (state_at n.states (first + i)).count ≡ said w h asked (children x.tree) (i + 1)
+-- node i, which heads x, is about to be told: each other is kept, and so is this one, but that it is looked at again when
+-- it has to be once it was told
+pub record IsToBeTold (w : World) (h : ℕ) (updated : ℕ → Bool) (c : Tree) (at first i : ℕ) (x : Part) (n : NodeMemory) : Type 0 where
+  pub others : (j : ℕ) (y : Part) → Heads c at j y → j ≢ i → IsKept w h updated y first j n
+  pub told : (state_at n.states (first + i)).told ≡ says w h updated x.tree i
+  pub count : (state_at n.states (first + i)).count ≡ said w h updated (children x.tree) (i + 1)
   pub wake : is_temporal x.tree ≡ true → slice_index n.wakes x.at ≡ own_due w x.tree (suc h)
 
--- once an atom or a temporal node, before which no temporal one has been asked, was told whether it holds in moment h + 1, all wait
-pub climbed : (w : World) (h : ℕ) (asked : ℕ → Bool) (c : Tree) (at first i : ℕ) (x : Part) (n : NodeMemory) (steps : List Step) (now : Bool) →
+-- once an atom or a temporal node, before which no temporal one has been updated, was told whether it holds in moment h +
+-- 1, all wait
+pub climbed : (w : World) (h : ℕ) (updated : ℕ → Bool) (c : Tree) (at first i : ℕ) (x : Part) (n : NodeMemory) (steps : List Step) (now : Bool) →
     IsHeld steps n c at first → length n.states < 2 ^ 64 → Heads c at i x → is_gate x.tree ≡ false → now ≡ holds w x.tree (suc h) →
-    ((j : ℕ) (y : Part) → j < i → Heads c at j y → is_temporal y.tree ≡ true → asked j ≡ false) →
-    IsToBeTold w h asked c at first i x n →
-    NodesWait w h (also i asked) c at first (kept_by (climb (suc i) steps first i now n.states n.wakes))
-climbed w h asked c at first i x n steps now ready few heads own is free before j y there =
+    ((j : ℕ) (y : Part) → j < i → Heads c at j y → is_temporal y.tree ≡ true → updated j ≡ false) →
+    IsToBeTold w h updated c at first i x n →
+    NodesWait w h (also i updated) c at first (kept_by (climb (suc i) steps first i now n.states n.wakes))
+climbed w h updated c at first i x n steps now ready few heads own is free before j y there =
     let start = climb (suc i) steps first i now n.states n.wakes in
-    let mine : ToTell w h asked steps first i x.at n start few x = record {
+    let mine : ToTell w h updated steps first i x.at n start few x = record {
       told = before.told;
       count = before.count;
       wake = before.wake;
@@ -46,7 +48,7 @@ climbed w h asked c at first i x n steps now ready few heads own is free before 
       ends = refl;
       starts = ap (λ b. climb (suc i) steps first i b n.states n.wakes) is;
     } in
-    let given : (k : ℕ) (z : Part) → Heads c at k z → Given w h asked steps first i x.at n start few k z = λ k z of_it.
+    let given : (k : ℕ) (z : Part) → Heads c at k z → Given w h updated steps first i x.at n start few k z = λ k z of_it.
     (record {
       step = heads-node c at steps ready.code k z of_it;
       room = (let ends = parts-ends at 0 c k z of_it in let room = ready.nodes in omega arith);
@@ -58,9 +60,9 @@ climbed w h asked c at first i x n steps now ready few heads own is free before 
       free = λ above. free k z above of_it;
       kept = before.others k z of_it;
       own = λ here.
-          subst (ToTell w h asked steps first i x.at n start few)
+          subst (ToTell w h updated steps first i x.at n start few)
           (same_Some x z (sym heads ∙ ap (slice_get (parts at 0 c)) (sym here) ∙ of_it)) mine;
     }) in
-    subst (λ k. IsKept w h (also i asked) y first k (kept_by start)) (let e : 0 + j ≡ j = omega arith in e)
-    (told w h asked steps first i x.at n start few c at (heads-within c at i x heads)
-    (λ k z of_it. subst (λ m. Given w h asked steps first i x.at n start few m z) (let e : k ≡ 0 + k = omega arith in e) (given k z of_it)) j y there)
+    subst (λ k. IsKept w h (also i updated) y first k (kept_by start)) (let e : 0 + j ≡ j = omega arith in e)
+    (told w h updated steps first i x.at n start few c at (heads-within c at i x heads)
+    (λ k z of_it. subst (λ m. Given w h updated steps first i x.at n start few m z) (let e : k ≡ 0 + k = omega arith in e) (given k z of_it)) j y there)

@@ -8,7 +8,7 @@ use Rattle.ecam_spec.specs.TermSize.{nodes, slots, children}
 use Rattle.term_eval.specs.declared.code.Step.{Step}
 use Rattle.term_eval.specs.Memory.{NodeMemory}
 use Rattle.term_eval.specs.Code.{IsCode, IsHeld}
-use Rattle.term_eval.specs.Climb.{gate_says, node_of, CanClimb}
+use Rattle.term_eval.specs.Climb.{gate_says, step_at, CanClimb}
 use Rattle.term_eval.specs.Parts.{Part, parts, parts_of, Heads, is_temporal}
 use Rattle.term_eval.proofs.Inside.{node_at, inside}
 use Rattle.term_eval.proofs.PartLaws.{step_of, for-tree, parts-is, parts-count, parts-code, get-left, get-right, split, slots-within, slots-within_of}
@@ -32,7 +32,7 @@ pub heads-step : (c : Tree) (at : ℕ) (steps : List Step) → IsCode c at steps
 heads-step c at steps is j y heads =
     ap (λ l. slice_get l j) (is.is ∙ parts-code at 0 c) ∙ slice_get-map step_of (parts at 0 c) j ∙ ap (option_map step_of) heads
 
-pub heads-node : (c : Tree) (at : ℕ) (steps : List Step) → IsCode c at steps → (j : ℕ) (y : Part) → Heads c at j y → node_of steps j ≡ step_of y
+pub heads-node : (c : Tree) (at : ℕ) (steps : List Step) → IsCode c at steps → (j : ℕ) (y : Part) → Heads c at j y → step_at steps j ≡ step_of y
 heads-node c at steps is j y heads = get_or_from_slice_get steps j (step_of y) _ (heads-step c at steps is j y heads)
 
 -- the slots of temporal nodes rise with their numbers

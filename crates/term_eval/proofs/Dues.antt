@@ -1,5 +1,5 @@
 -- A condition is due when the first of its temporal nodes is due by its own.
-use Rattle.std.proofs.Common.{◌≡◌, ℕ, zero, suc, ◌+◌, ◌-◌, ◌<◌, ◌≤◌, ◌^◌, min, true, List, refl, sym, ◌∙◌, ap, subst, arith}
+use Rattle.std.proofs.Common.{◌≡◌, ℕ, suc, ◌+◌, ◌-◌, ◌<◌, ◌≤◌, ◌^◌, min, true, List, refl, sym, ◌∙◌, ap, subst, arith}
 use Rattle.std.specs.Prelude.{slice_index}
 use Rattle.ecam_spec.specs.Past.{last, start_of}
 use Rattle.ecam_spec.proofs.PastAgree.{start_of-below, last-below}
@@ -13,6 +13,7 @@ use Rattle.term_eval.specs.Settles.{Settles, SettlesAll}
 use Rattle.term_eval.specs.Code.{IsShort, AreShort}
 use Rattle.term_eval.specs.NodeState.{first_wake}
 use Rattle.term_eval.specs.Parts.{Part, Heads, is_temporal}
+use Rattle.term_eval.proofs.FirstWake.{first-most, first-splits, first-before}
 use Rattle.term_eval.proofs.Inside.{inside}
 use Rattle.term_eval.proofs.PartLaws.{for-tree, slots-within}
 use Rattle.term_eval.proofs.Short.{shorts}
@@ -20,40 +21,6 @@ use Rattle.term_eval.proofs.Below.{Each, EachOf, own, inner, front, rest, whole}
 use Rattle.term_eval.proofs.Settling.{settles-none, settles-more}
 use Rattle.term_eval.proofs.SettlingKinds.{settles-kind}
 use Rattle.term_eval.proofs.Staying.{holds-staying, still-staying}
-
--- ---- the first of some wakes
-
-first-most : (wakes : List ℕ) (at n : ℕ) → first_wake wakes at n ≤ never
-unfolding first_wake
-first-most wakes at zero = omega arith
-first-most wakes at (suc n) = omega (arith, first-most wakes (at + 1) n)
-
--- it is the first of those in the front and those behind them
-pub first-splits : (wakes : List ℕ) (at m n : ℕ) → first_wake wakes at (m + n) ≡ min (first_wake wakes at m) (first_wake wakes (at + m) n)
-unfolding first_wake
-first-splits wakes at zero n =
-    let none : 0 + n ≡ n = omega arith in
-    let here : at + 0 ≡ at = omega arith in
-    let e : first_wake wakes at n ≡ min never (first_wake wakes at n) = omega (arith, first-most wakes at n) in
-    ap (first_wake wakes at) none ∙ e ∙ sym (ap (λ a. min never (first_wake wakes a n)) here)
-first-splits wakes at (suc m) n =
-    let more : suc m + n ≡ suc (m + n) = omega arith in
-    let next : at + 1 + m ≡ at + suc m = omega arith in
-    let e : min (slice_index wakes at) (min (first_wake wakes (at + 1) m) (first_wake wakes (at + 1 + m) n)) ≡
-    min (min (slice_index wakes at) (first_wake wakes (at + 1) m)) (first_wake wakes (at + 1 + m) n) = omega arith in
-    ap (first_wake wakes at) more
-    ∙ ap (min (slice_index wakes at)) (first-splits wakes (at + 1) m n)
-    ∙ e
-    ∙ ap (λ a. min (min (slice_index wakes at) (first_wake wakes (at + 1) m)) (first_wake wakes a n)) next
-
--- none of them is before it
-pub first-before : (wakes : List ℕ) (at n d : ℕ) → d < n → first_wake wakes at n ≤ slice_index wakes (at + d)
-unfolding first_wake
-first-before wakes at zero d within = absurd (let w : ⊥ = omega arith in w)
-first-before wakes at (suc n) zero within = let here : at + 0 ≡ at = omega arith in rw here (omega arith)
-first-before wakes at (suc n) (suc d) within =
-    let there : at + suc d ≡ at + 1 + d = omega arith in
-    rw there (omega (arith, first-before wakes (at + 1) n d (omega (arith, within))))
 
 slots-some : (c : Tree) → is_temporal c ≡ true → 1 ≤ slots c
 unfolding slots is_temporal

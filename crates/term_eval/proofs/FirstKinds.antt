@@ -1,5 +1,5 @@
 -- What a node that is asked in the first moment says, keeps and is due, kind by kind.
-use Rattle.std.proofs.Common.{◌≡◌, ◌≢◌, ℕ, zero, suc, ◌+◌, ◌<◌, ◌≤◌, ◌⊎◌, min, Bool, true, false, not, List, [], ◌∷◌, eqb, leb, ltb, length, inl, inr, refl, sym, ◌∙◌, ap, arith}
+use Rattle.std.proofs.Common.{◌≡◌, ◌≢◌, ℕ, suc, ◌+◌, ◌<◌, ◌≤◌, ◌⊎◌, min, Bool, true, false, not, List, [], ◌∷◌, eqb, leb, ltb, length, inl, inr, refl, sym, ◌∙◌, ap, arith}
 use Rattle.std.specs.Prelude.{slice_set, slice_index}
 use Rattle.std.proofs.lemmas.List.{length-set, get_or-set_same, get_or-set_other}
 use Rattle.std.proofs.lemmas.Bool.{lt-ltb, le-ltb}
@@ -24,6 +24,7 @@ use Rattle.term_eval.specs.Begin.{answer, wakes_after}
 use Rattle.term_eval.proofs.Members.{how_many, counted, all_hold, any_holds, length-many}
 use Rattle.term_eval.proofs.Atoms.{steps-constant, steps-discrete, steps-valid, steps-compared, steps-in_phase, steps-alert, steps-press, steps-computer}
 use Rattle.term_eval.proofs.NodeSteps.{confirm_truth, confirm_cell, confirm_due, hold_truth, hold_cell, hold_due, rise_truth, latch_truth}
+use Rattle.term_eval.proofs.FirstWake.{first-most, first-same}
 use Rattle.term_eval.proofs.Inside.{node_at, inside, OwnCell}
 
 -- ---- how many children hold
@@ -136,28 +137,7 @@ cells-apart (held c n) at cells count first = apart-set at cells _
 cells-apart (risen c) at cells count first = apart-set at cells _
 cells-apart (latched s r) at cells count first = apart-set at cells _
 
--- ---- the first of the wakes of some slots
-
-pub wakes-most : (wakes : List ℕ) (at n : ℕ) → first_wake wakes at n ≤ never
-unfolding first_wake
-wakes-most wakes at zero = omega arith
-wakes-most wakes at (suc n) = omega (arith, wakes-most wakes (at + 1) n)
-
-pub wakes-same : (old new : List ℕ) (at n : ℕ) → ((i : ℕ) → at ≤ i → slice_index new i ≡ slice_index old i) → first_wake new at n ≡ first_wake old at n
-unfolding first_wake
-wakes-same old new at zero same = refl
-wakes-same old new at (suc n) same = ap (λ m. min m (first_wake new (at + 1) n)) (same at (omega arith)) ∙ ap (min (slice_index old at)) (wakes-same old new (at + 1) n (λ i low. same i (omega arith)))
-
-pub wakes-both : (wakes : List ℕ) (at n m : ℕ) → first_wake wakes at (n + m) ≡ min (first_wake wakes at n) (first_wake wakes (at + n) m)
-unfolding first_wake
-wakes-both wakes at zero m =
-    let e : at + 0 ≡ at = omega arith in
-    let f : 0 + m ≡ m = omega arith in
-    rw e (rw f (omega (arith, wakes-most wakes at m)))
-wakes-both wakes at (suc n) m =
-    let e : suc n + m ≡ suc (n + m) = omega arith in
-    let f : at + suc n ≡ at + 1 + n = omega arith in
-    rw e (rw f (omega (arith, wakes-both wakes (at + 1) n m)))
+-- ---- the first of the wakes, once a node's own is written
 
 pub record Woken (c : Tree) (at : ℕ) (wakes new : List ℕ) (due : ℕ) : Type 0 where
   pub len : length new ≡ length wakes
@@ -171,7 +151,7 @@ woken-atom c at wakes still place size = record {
   len = refl;
   others = λ i away. refl;
   own = λ is. absurd (let w : ⊥ = cc in w);
-  first = rw place (rw size (omega (arith, wakes-most wakes at (slots_of (children c)))));
+  first = rw place (rw size (omega (arith, first-most wakes at (slots_of (children c)))));
 }
 
 woken-slot : (c : Tree) (at : ℕ) (wakes : List ℕ) (due : ℕ) → inside at c ≡ at + 1 → slots c ≡ suc (slots_of (children c)) → at < length wakes → Woken c at wakes (slice_set wakes at due) due
@@ -184,7 +164,7 @@ woken-slot c at wakes due place size within =
       others = rw place others;
       own = λ is. own;
       first = rw place (rw size (ap (λ n. min n (first_wake (slice_set wakes at due) (at + 1) (slots_of (children c)))) own
-          ∙ ap (min due) (wakes-same wakes (slice_set wakes at due) (at + 1) (slots_of (children c)) (λ i low. others i (inr low)))));
+          ∙ ap (min due) (first-same wakes (slice_set wakes at due) (at + 1) (slots_of (children c)) (λ i low. others i (inr low)))));
     }
 
 pub woken : (c : Tree) (at : ℕ) (wakes : List ℕ) (cells : List Cell) (count : ℕ) → at + slots c ≤ length wakes →

@@ -1,4 +1,4 @@
--- An atom that doesn't hear of an operand that moves says what it said, so it may count as asked.
+-- An atom that doesn't hear of an operand that moves says what it said, so it may count as updated.
 use Rattle.std.proofs.Common.{◌≡◌, ℕ, suc, ◌+◌, Bool, true, false, ◌||◌, map, inl, inr, Option, Some, option_map, refl, sym, ◌∙◌, ap}
 use Rattle.std.specs.Option.{option_map_or}
 use Rattle.std.specs.List.{slice_get}

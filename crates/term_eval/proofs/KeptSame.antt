@@ -1,4 +1,4 @@
--- What is kept of a node rests on its own state and slot, and on which of the nodes below it were asked.
+-- What is kept of a node rests on its own state and slot, and on which of the nodes below it were updated.
 use Rattle.std.proofs.Common.{◌≡◌, ◌≢◌, ℕ, zero, suc, ◌+◌, ◌<◌, ◌≤◌, Bool, true, false, List, ◌∷◌, ◌++◌, length, eqb, inl, inr, Some, refl, sym, ◌∙◌, ap, subst, arith}
 use Rattle.std.specs.Prelude.{slice_index, ◌||◌}
 use Rattle.std.specs.List.{slice_get}
@@ -13,24 +13,24 @@ use Rattle.term_eval.specs.NodeState.{state_at, IsKept, Wakes, SayTheSame, also}
 use Rattle.term_eval.proofs.Inside.{inside, nodes-is}
 use Rattle.term_eval.proofs.PartLaws.{parts-is, get-left, get-right, split, says-by, said-by}
 
-pub also-own : (i : ℕ) (asked : ℕ → Bool) → also i asked i ≡ true
-also-own i asked = ap (λ b. b || asked i) (let e : eqb i i ≡ true = grind (arith, nat_tests) in e)
+pub also-own : (i : ℕ) (updated : ℕ → Bool) → also i updated i ≡ true
+also-own i updated = ap (λ b. b || updated i) (let e : eqb i i ≡ true = grind (arith, nat_tests) in e)
 
-pub also-other : (i : ℕ) (asked : ℕ → Bool) (j : ℕ) → j ≢ i → also i asked j ≡ asked j
-also-other i asked j other = ap (λ b. b || asked j) (let e : eqb j i ≡ false = grind (arith, nat_tests) in e)
+pub also-other : (i : ℕ) (updated : ℕ → Bool) (j : ℕ) → j ≢ i → also i updated j ≡ updated j
+also-other i updated j other = ap (λ b. b || updated j) (let e : eqb j i ≡ false = grind (arith, nat_tests) in e)
 
 -- ---- by its own state and slot
 
-pub kept-same : (w : World) (h : ℕ) (asked : ℕ → Bool) (x : Part) (first i : ℕ) (old new : NodeMemory) →
+pub kept-same : (w : World) (h : ℕ) (updated : ℕ → Bool) (x : Part) (first i : ℕ) (old new : NodeMemory) →
     state_at new.states (first + i) ≡ state_at old.states (first + i) → (is_temporal x.tree ≡ true → slice_index new.wakes x.at ≡ slice_index old.wakes x.at) →
-    IsKept w h asked x first i old → IsKept w h asked x first i new
-kept-same w h asked x first i old new state slot is = record {
+    IsKept w h updated x first i old → IsKept w h updated x first i new
+kept-same w h updated x first i old new state slot is = record {
   told = ap (λ s. s.told) state ∙ is.told;
   count = ap (λ s. s.count) state ∙ is.count;
-  wake = λ temporal. subst (λ wake. Wakes w h asked x.tree i wake (asked i)) (sym (slot temporal)) (is.wake temporal);
+  wake = λ temporal. subst (λ wake. Wakes w h updated x.tree i wake (updated i)) (sym (slot temporal)) (is.wake temporal);
 }
 
--- ---- by whom was asked
+-- ---- by whom was updated
 
 pub same-by : (w : World) (h : ℕ) (old new : ℕ → Bool) (cs : Trees) (p : ℕ) → ((i : ℕ) → p ≤ i → i < p + nodes_of cs → new i ≡ old i) →
     SayTheSame w h old cs p → SayTheSame w h new cs p

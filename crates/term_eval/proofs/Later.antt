@@ -1,4 +1,5 @@
--- A condition that is left alone: its due moment stays right, and it is woken exactly where an operand moves or the moment is due.
+-- A condition that is left alone: its due moment stays right, and it is woken exactly where an operand moves or the moment
+-- is due.
 use Rattle.std.proofs.Common.{◌≡◌, ℕ, suc, ◌-◌, ◌<◌, ◌≤◌, ◌^◌, min, Bool, true, false, not, ◌||◌, List, eqb, inl, inr, refl, sym, ◌∙◌, ap, arith}
 use Rattle.std.specs.List.{list_any}
 use Rattle.std.specs.Option.{option_eq}

@@ -1,5 +1,5 @@
--- A temporal node that is left, since those right below it keep their truths and it isn't due: it holds where it held, and its cell
--- stands on as it is.
+-- A temporal node that is left, since those right below it keep their truths and it isn't due: it holds where it held, and
+-- its cell stands on as it is.
 use Rattle.std.proofs.Common.{◌≡◌, ℕ, suc, ◌<◌, ◌^◌, Bool, true, false, List, [], ◌∷◌, sym, ◌∙◌, ap}
 use Rattle.ecam_spec.specs.Book.{Tree, constant, discrete, valid, compared, in_phase, alert, press, computer, negation, all, any, at_least, confirmed, held, risen, latched}
 use Rattle.ecam_spec.specs.Term.{World, holds, truths}

@@ -19,11 +19,15 @@ pub mod Climbing
 pub mod NodeKinds
 pub mod KeptSame
 pub mod ClimbSteps
+pub mod TellingParts
+pub mod TellingBeside
 pub mod Telling
 pub mod CodeParts
 pub mod ClimbLeaves
 pub mod Asking
 pub mod Turning
+pub mod FirstWake
+pub mod SameRun
 pub mod Dues
 pub mod Below
 pub mod SettlingKinds

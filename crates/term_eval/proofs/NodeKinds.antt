@@ -19,7 +19,7 @@ is_gate _ = false
 
 pub data Kind (c : Tree) : Type 0 where
   an_atom : is_temporal c ≡ false → children c ≡ none → Kind c
-  a_gate : is_temporal c ≡ false → ((w : World) (h : ℕ) (asked : Bool) (at count : ℕ) → gate_says (node_at at c) count ≡ Ok (spoken w h asked c count)) → Kind c
+  a_gate : is_temporal c ≡ false → ((w : World) (h : ℕ) (updated : Bool) (at count : ℕ) → gate_says (node_at at c) count ≡ Ok (spoken w h updated c count)) → Kind c
   a_temporal : is_temporal c ≡ true → ((at : ℕ) → inside at c ≡ at + 1) → ((at count : ℕ) → gate_says (node_at at c) count ≡ Err at) → is_gate c ≡ false → Kind c
 
 pub kind-of : (c : Tree) → Kind c
@@ -32,10 +32,10 @@ kind-of (in_phase set) = an_atom refl refl
 kind-of (alert a) = an_atom refl refl
 kind-of (press key) = an_atom refl refl
 kind-of (computer n) = an_atom refl refl
-kind-of (negation c) = a_gate refl (λ w h asked at count. refl)
-kind-of (all cs) = a_gate refl (λ w h asked at count. refl)
-kind-of (any cs) = a_gate refl (λ w h asked at count. refl)
-kind-of (at_least n cs) = a_gate refl (λ w h asked at count. refl)
+kind-of (negation c) = a_gate refl (λ w h updated at count. refl)
+kind-of (all cs) = a_gate refl (λ w h updated at count. refl)
+kind-of (any cs) = a_gate refl (λ w h updated at count. refl)
+kind-of (at_least n cs) = a_gate refl (λ w h updated at count. refl)
 kind-of (confirmed c n) = a_temporal refl (λ at. refl) (λ at count. refl) refl
 kind-of (held c n) = a_temporal refl (λ at. refl) (λ at count. refl) refl
 kind-of (risen c) = a_temporal refl (λ at. refl) (λ at count. refl) refl
@@ -52,24 +52,24 @@ own-inside c at temporal =
     by (a_temporal temporal is says own) = is at
 
 -- what is no gate says by itself
-pub spoken-own : (w : World) (h : ℕ) (asked : Bool) (c : Tree) (count : ℕ) → is_gate c ≡ false → spoken w h asked c count ≡ own_says w h asked c
+pub spoken-own : (w : World) (h : ℕ) (updated : Bool) (c : Tree) (count : ℕ) → is_gate c ≡ false → spoken w h updated c count ≡ own_says w h updated c
 unfolding is_gate
-spoken-own w h asked (constant b) count own = refl
-spoken-own w h asked (discrete x) count own = refl
-spoken-own w h asked (valid x) count own = refl
-spoken-own w h asked (compared x op n) count own = refl
-spoken-own w h asked (in_phase set) count own = refl
-spoken-own w h asked (alert a) count own = refl
-spoken-own w h asked (press key) count own = refl
-spoken-own w h asked (computer n) count own = refl
-spoken-own w h asked (negation c) count own = absurd (let e : ⊥ = cc in e)
-spoken-own w h asked (all cs) count own = absurd (let e : ⊥ = cc in e)
-spoken-own w h asked (any cs) count own = absurd (let e : ⊥ = cc in e)
-spoken-own w h asked (at_least n cs) count own = absurd (let e : ⊥ = cc in e)
-spoken-own w h asked (confirmed c n) count own = refl
-spoken-own w h asked (held c n) count own = refl
-spoken-own w h asked (risen c) count own = refl
-spoken-own w h asked (latched s r) count own = refl
+spoken-own w h updated (constant b) count own = refl
+spoken-own w h updated (discrete x) count own = refl
+spoken-own w h updated (valid x) count own = refl
+spoken-own w h updated (compared x op n) count own = refl
+spoken-own w h updated (in_phase set) count own = refl
+spoken-own w h updated (alert a) count own = refl
+spoken-own w h updated (press key) count own = refl
+spoken-own w h updated (computer n) count own = refl
+spoken-own w h updated (negation c) count own = absurd (let e : ⊥ = cc in e)
+spoken-own w h updated (all cs) count own = absurd (let e : ⊥ = cc in e)
+spoken-own w h updated (any cs) count own = absurd (let e : ⊥ = cc in e)
+spoken-own w h updated (at_least n cs) count own = absurd (let e : ⊥ = cc in e)
+spoken-own w h updated (confirmed c n) count own = refl
+spoken-own w h updated (held c n) count own = refl
+spoken-own w h updated (risen c) count own = refl
+spoken-own w h updated (latched s r) count own = refl
 
 pub no-gate : (c : Tree) → is_temporal c ≡ true → is_gate c ≡ false
 unfolding is_temporal is_gate

@@ -1,5 +1,5 @@
--- A pass over the temporal nodes of a condition, from the last to the first: those that were gone through have been asked, and their
--- cells stand for one moment more.
+-- A pass over the temporal nodes of a condition, from the last to the first: those that were gone through have been
+-- updated, and their cells stand for one moment more.
 use Rattle.std.proofs.Common.{◌≡◌, ◌≢◌, ℕ, suc, ◌+◌, ◌-◌, ◌<◌, ◌≤◌, ◌^◌, Bool, true, false, not, ◌||◌, List, [], ◌∷◌, cond, length, inl, inr, Some, None, refl, sym, ◌∙◌, ap, subst, arith}
 use Rattle.std.specs.Prelude.{slice_index, slice_set}
 use Rattle.std.specs.List.{slice_get}
@@ -31,7 +31,7 @@ use Rattle.term_eval.proofs.ClimbSteps.{climb-same}
 use Rattle.term_eval.proofs.Climbing.{IsToBeTold, climbed, kept_by}
 use Rattle.term_eval.proofs.Left.{left-unturned, left-cell}
 use Rattle.term_eval.proofs.Told.{right, FirstHolds, apart}
-use Rattle.term_eval.proofs.Owned.{Place, behind, temporals, place-heads, place-slot, place-next, slots-apart}
+use Rattle.term_eval.proofs.Owned.{Place, behind, temporal_count, place-heads, place-slot, place-next, slots-apart}
 use Rattle.term_eval.proofs.PartCells.{untimed-cell, open-parts}
 use Rattle.term_eval.proofs.Short.{short-part}
 use Rattle.term_eval.proofs.Hearing.{wait-same}
@@ -73,7 +73,7 @@ module _ (w : World) (h : ℕ) (c : Tree) (at first : ℕ) where
       ]
     ]
 
-  -- a temporal node of which all children were asked is told
+  -- a temporal node of which all children were updated is told
   gone-told : (m : ℕ) (x : Part) → Heads c at m x → is_temporal x.tree ≡ true → (s : Run) → NodesWait w h (also m (gone c at (m + 1))) c at first (nodes_of_run s) →
       NodesWait w h (gone c at m) c at first (nodes_of_run s)
   gone-told m x heads temporal s waits =
@@ -126,7 +126,7 @@ module _ (w : World) (h : ℕ) (c : Tree) (at first : ℕ) where
 -- ---- a node that is left, and one that is looked at
 
 module _ (w : World) (h : ℕ) (c : Tree) (at first : ℕ) (steps : List Step) (small : suc h < 2 ^ 63) where
-  -- all that stands below a node has been asked when it is its turn
+  -- all that stands below a node has been updated when it is its turn
   below-asked : (m : ℕ) (x : Part) → ((i : ℕ) → m + 1 ≤ i → i < m + 1 + nodes_of (children x.tree) → gone c at (m + 1) i ≡ true)
   below-asked m x i low high = gone-through c at (m + 1) i low
 
@@ -205,7 +205,7 @@ module _ (w : World) (h : ℕ) (c : Tree) (at first : ℕ) (steps : List Step) (
         let mid = slice_set s.wakes x.at due in
         let len : length mid ≡ length s.wakes = length-set s.wakes x.at due in
         let n : NodeMemory = record { states = s.states; wakes = mid } in
-        let now = run.says (suc h) s.cells count set (node_at x.at x.tree) in
+        let now = run.temporal_says (suc h) s.cells count set (node_at x.at x.tree) in
         let ready : IsHeld steps n c at first = record { code = room.nodes.code; nodes = room.nodes.nodes; slots = omega (arith, len, room.nodes.slots) } in
         let set-wake : slice_index mid x.at ≡ due = get_or-set_same s.wakes x.at due _ (omega (arith, within.1, some, room.nodes.slots)) in
         let told : IsToBeTold w h (gone c at (m + 1)) c at first m x n = record {
@@ -269,6 +269,6 @@ module _ (w : World) (h : ℕ) (c : Tree) (at first : ℕ) (steps : List Step) (
       let next = place-next c at m slot x xs place in
       let f = framed (suc h) steps first c at xs (m + 1) (behind x.tree slot) s next room due in
       gone-step m slot x xs s (is_temporal x.tree) refl place
-      (room-still (suc h) steps first c at (behind x.tree slot) (temporals xs) s (over (suc h) steps first c at (m + 1) (behind x.tree slot) xs s) f room)
+      (room-still (suc h) steps first c at (behind x.tree slot) (temporal_count xs) s (over (suc h) steps first c at (m + 1) (behind x.tree slot) xs s) f room)
       (omega (arith, f.nodes, few))
       (gone-over xs (m + 1) (behind x.tree slot) s next room few due waits stand)

@@ -88,18 +88,18 @@ unfolding FollowIn Follow
 follow c at = subst (λ l. Follow at l (at + slots c)) (append-nil (parts at 0 c)) (for-tree FollowIn FollowOf follow-node follow-none follow-more c at 0 (at + slots c) [] refl)
 
 -- how many of some parts are temporal
-unfoldable pub temporals : List Part → ℕ
-temporals [] = 0
-temporals (x ∷ xs) = cond (is_temporal x.tree) (suc (temporals xs)) (temporals xs)
+unfoldable pub temporal_count : List Part → ℕ
+temporal_count [] = 0
+temporal_count (x ∷ xs) = cond (is_temporal x.tree) (suc (temporal_count xs)) (temporal_count xs)
 
 one-more : (b : Bool) (slot n end : ℕ) → cond b (suc slot) slot + n ≡ end → slot + cond b (suc n) n ≡ end
 one-more true slot n end is = omega (arith, is)
 one-more false slot n end is = is
 
-pub many-slots : (slot end : ℕ) (xs : List Part) → Follow slot xs end → slot + temporals xs ≡ end
-unfolding Follow temporals
+pub many-slots : (slot end : ℕ) (xs : List Part) → Follow slot xs end → slot + temporal_count xs ≡ end
+unfolding Follow temporal_count
 many-slots slot end [] f = omega (arith, f)
-many-slots slot end (x ∷ xs) f = one-more (is_temporal x.tree) slot (temporals xs) end (many-slots (behind x.tree slot) end xs f.1)
+many-slots slot end (x ∷ xs) f = one-more (is_temporal x.tree) slot (temporal_count xs) end (many-slots (behind x.tree slot) end xs f.1)
 
 -- some parts of a condition are those from a place on, and so are their slots
 pub record Place (c : Tree) (at m slot : ℕ) (xs : List Part) : Type 0 where

@@ -253,45 +253,45 @@ slots-within_of at up cs i x is = let l = for-trees LiesIn LiesOf lies-node lies
 
 -- ---- what nodes say
 
--- what a node says by whether it was asked, and how many of its children say that they hold
+-- what a node says by whether it was updated, and how many of its children say that they hold
 abbrev pub spoken : World → ℕ → Bool → Tree → ℕ → Bool
-spoken w h was_asked (constant b) count = own_says w h was_asked (constant b)
-spoken w h was_asked (discrete x) count = own_says w h was_asked (discrete x)
-spoken w h was_asked (valid x) count = own_says w h was_asked (valid x)
-spoken w h was_asked (compared x op n) count = own_says w h was_asked (compared x op n)
-spoken w h was_asked (in_phase set) count = own_says w h was_asked (in_phase set)
-spoken w h was_asked (alert a) count = own_says w h was_asked (alert a)
-spoken w h was_asked (press key) count = own_says w h was_asked (press key)
-spoken w h was_asked (computer n) count = own_says w h was_asked (computer n)
-spoken w h was_asked (negation c) count = eqb count 0
-spoken w h was_asked (all cs) count = eqb count (many cs)
-spoken w h was_asked (any cs) count = ltb 0 count
-spoken w h was_asked (at_least n cs) count = leb n count
-spoken w h was_asked (confirmed c n) count = own_says w h was_asked (confirmed c n)
-spoken w h was_asked (held c n) count = own_says w h was_asked (held c n)
-spoken w h was_asked (risen c) count = own_says w h was_asked (risen c)
-spoken w h was_asked (latched s r) count = own_says w h was_asked (latched s r)
+spoken w h was_updated (constant b) count = own_says w h was_updated (constant b)
+spoken w h was_updated (discrete x) count = own_says w h was_updated (discrete x)
+spoken w h was_updated (valid x) count = own_says w h was_updated (valid x)
+spoken w h was_updated (compared x op n) count = own_says w h was_updated (compared x op n)
+spoken w h was_updated (in_phase set) count = own_says w h was_updated (in_phase set)
+spoken w h was_updated (alert a) count = own_says w h was_updated (alert a)
+spoken w h was_updated (press key) count = own_says w h was_updated (press key)
+spoken w h was_updated (computer n) count = own_says w h was_updated (computer n)
+spoken w h was_updated (negation c) count = eqb count 0
+spoken w h was_updated (all cs) count = eqb count (many cs)
+spoken w h was_updated (any cs) count = ltb 0 count
+spoken w h was_updated (at_least n cs) count = leb n count
+spoken w h was_updated (confirmed c n) count = own_says w h was_updated (confirmed c n)
+spoken w h was_updated (held c n) count = own_says w h was_updated (held c n)
+spoken w h was_updated (risen c) count = own_says w h was_updated (risen c)
+spoken w h was_updated (latched s r) count = own_says w h was_updated (latched s r)
 
-pub says-is : (w : World) (h : ℕ) (asked : ℕ → Bool) (c : Tree) (p : ℕ) → says w h asked c p ≡ spoken w h (asked p) c (said w h asked (children c) (p + 1))
+pub says-is : (w : World) (h : ℕ) (updated : ℕ → Bool) (c : Tree) (p : ℕ) → says w h updated c p ≡ spoken w h (updated p) c (said w h updated (children c) (p + 1))
 unfolding says children
-says-is w h asked (constant b) p = refl
-says-is w h asked (discrete x) p = refl
-says-is w h asked (valid x) p = refl
-says-is w h asked (compared x op n) p = refl
-says-is w h asked (in_phase set) p = refl
-says-is w h asked (alert a) p = refl
-says-is w h asked (press key) p = refl
-says-is w h asked (computer n) p = refl
-says-is w h asked (negation c) p = ap (λ n. eqb n 0) (let e : one_if (says w h asked c (p + 1)) ≡ one_if (says w h asked c (p + 1)) + 0 = omega arith in e)
-says-is w h asked (all cs) p = refl
-says-is w h asked (any cs) p = refl
-says-is w h asked (at_least n cs) p = refl
-says-is w h asked (confirmed c n) p = refl
-says-is w h asked (held c n) p = refl
-says-is w h asked (risen c) p = refl
-says-is w h asked (latched s r) p = refl
+says-is w h updated (constant b) p = refl
+says-is w h updated (discrete x) p = refl
+says-is w h updated (valid x) p = refl
+says-is w h updated (compared x op n) p = refl
+says-is w h updated (in_phase set) p = refl
+says-is w h updated (alert a) p = refl
+says-is w h updated (press key) p = refl
+says-is w h updated (computer n) p = refl
+says-is w h updated (negation c) p = ap (λ n. eqb n 0) (let e : one_if (says w h updated c (p + 1)) ≡ one_if (says w h updated c (p + 1)) + 0 = omega arith in e)
+says-is w h updated (all cs) p = refl
+says-is w h updated (any cs) p = refl
+says-is w h updated (at_least n cs) p = refl
+says-is w h updated (confirmed c n) p = refl
+says-is w h updated (held c n) p = refl
+says-is w h updated (risen c) p = refl
+says-is w h updated (latched s r) p = refl
 
--- ---- what a condition says rests on which of its own nodes have been asked
+-- ---- what a condition says rests on which of its own nodes have been updated
 
 module _ (w : World) (h : ℕ) (old new : ℕ → Bool) where
   ByOf : Trees → Type 0
@@ -333,48 +333,48 @@ pub said-by : (w : World) (h : ℕ) (old new : ℕ → Bool) (cs : Trees) (p : �
 unfolding ByOf
 said-by w h old new cs p same = by-trees w h old new cs p same
 
--- ---- where none was asked it says what it said, and where all were what it holds
+-- ---- where none was updated it says what it said, and where all were what it holds
 
 none-hold : (b : Bool) → eqb (one_if b + 0) 0 ≡ not b
 none-hold true = grind (arith, nat_tests)
 none-hold false = grind (arith, nat_tests)
 
 -- a node that goes by its children as they hold in a moment holds in it
-spoken-then : (w : World) (h k : ℕ) (was_asked : Bool) (c : Tree) → ((d : Tree) → own_says w h was_asked d ≡ holds w d k) →
-    spoken w h was_asked c (how_many (truths w (children c) k)) ≡ holds w c k
+spoken-then : (w : World) (h k : ℕ) (was_updated : Bool) (c : Tree) → ((d : Tree) → own_says w h was_updated d ≡ holds w d k) →
+    spoken w h was_updated c (how_many (truths w (children c) k)) ≡ holds w c k
 unfolding holds children
-spoken-then w h k was_asked (constant b) own = own (constant b)
-spoken-then w h k was_asked (discrete x) own = own (discrete x)
-spoken-then w h k was_asked (valid x) own = own (valid x)
-spoken-then w h k was_asked (compared x op n) own = own (compared x op n)
-spoken-then w h k was_asked (in_phase set) own = own (in_phase set)
-spoken-then w h k was_asked (alert a) own = own (alert a)
-spoken-then w h k was_asked (press key) own = own (press key)
-spoken-then w h k was_asked (computer n) own = own (computer n)
-spoken-then w h k was_asked (negation c) own = ap (λ n. eqb n 0) (counted (holds w c k) []) ∙ none-hold (holds w c k)
-spoken-then w h k was_asked (all cs) own = ap (λ n. eqb (how_many (truths w cs k)) n) (sym (length-many w cs k)) ∙ all_hold (truths w cs k)
-spoken-then w h k was_asked (any cs) own = any_holds (truths w cs k)
-spoken-then w h k was_asked (at_least n cs) own = refl
-spoken-then w h k was_asked (confirmed c n) own = own (confirmed c n)
-spoken-then w h k was_asked (held c n) own = own (held c n)
-spoken-then w h k was_asked (risen c) own = own (risen c)
-spoken-then w h k was_asked (latched s r) own = own (latched s r)
+spoken-then w h k was_updated (constant b) own = own (constant b)
+spoken-then w h k was_updated (discrete x) own = own (discrete x)
+spoken-then w h k was_updated (valid x) own = own (valid x)
+spoken-then w h k was_updated (compared x op n) own = own (compared x op n)
+spoken-then w h k was_updated (in_phase set) own = own (in_phase set)
+spoken-then w h k was_updated (alert a) own = own (alert a)
+spoken-then w h k was_updated (press key) own = own (press key)
+spoken-then w h k was_updated (computer n) own = own (computer n)
+spoken-then w h k was_updated (negation c) own = ap (λ n. eqb n 0) (counted (holds w c k) []) ∙ none-hold (holds w c k)
+spoken-then w h k was_updated (all cs) own = ap (λ n. eqb (how_many (truths w cs k)) n) (sym (length-many w cs k)) ∙ all_hold (truths w cs k)
+spoken-then w h k was_updated (any cs) own = any_holds (truths w cs k)
+spoken-then w h k was_updated (at_least n cs) own = refl
+spoken-then w h k was_updated (confirmed c n) own = own (confirmed c n)
+spoken-then w h k was_updated (held c n) own = own (held c n)
+spoken-then w h k was_updated (risen c) own = own (risen c)
+spoken-then w h k was_updated (latched s r) own = own (latched s r)
 
-module _ (w : World) (h k : ℕ) (was_asked : Bool) (own : (d : Tree) → own_says w h was_asked d ≡ holds w d k) (asked : ℕ → Bool) where
+module _ (w : World) (h k : ℕ) (was_updated : Bool) (own : (d : Tree) → own_says w h was_updated d ≡ holds w d k) (updated : ℕ → Bool) where
   ThenOf : Trees → Type 0
-  ThenOf cs = (p : ℕ) → ((i : ℕ) → p ≤ i → i < p + nodes_of cs → asked i ≡ was_asked) → said w h asked cs p ≡ how_many (truths w cs k)
+  ThenOf cs = (p : ℕ) → ((i : ℕ) → p ≤ i → i < p + nodes_of cs → updated i ≡ was_updated) → said w h updated cs p ≡ how_many (truths w cs k)
 
   Then : Tree → Type 0
-  Then c = (p : ℕ) → ((i : ℕ) → p ≤ i → i < p + nodes c → asked i ≡ was_asked) → says w h asked c p ≡ holds w c k
+  Then c = (p : ℕ) → ((i : ℕ) → p ≤ i → i < p + nodes c → updated i ≡ was_updated) → says w h updated c p ≡ holds w c k
 
   then-node : (c : Tree) → ThenOf (children c) → Then c
   unfolding ThenOf Then
   then-node c inner p same =
       let size = nodes-is c in
-      says-is w h asked c p
-      ∙ ap (λ b. spoken w h b c (said w h asked (children c) (p + 1))) (same p (omega arith) (omega arith))
-      ∙ ap (λ n. spoken w h was_asked c n) (inner (p + 1) (λ i low high. same i (omega arith) (omega arith)))
-      ∙ spoken-then w h k was_asked c own
+      says-is w h updated c p
+      ∙ ap (λ b. spoken w h b c (said w h updated (children c) (p + 1))) (same p (omega arith) (omega arith))
+      ∙ ap (λ n. spoken w h was_updated c n) (inner (p + 1) (λ i low high. same i (omega arith) (omega arith)))
+      ∙ spoken-then w h k was_updated c own
 
   then-none : ThenOf none
   unfolding ThenOf said holds
@@ -383,7 +383,7 @@ module _ (w : World) (h k : ℕ) (was_asked : Bool) (own : (d : Tree) → own_sa
   then-more : (c : Tree) (cs : Trees) → Then c → ThenOf cs → ThenOf (more c cs)
   unfolding ThenOf Then said nodes holds
   then-more c cs one rest p same =
-      ap (λ b. one_if b + said w h asked cs (p + nodes c)) (one p (λ i low high. same i low (omega arith)))
+      ap (λ b. one_if b + said w h updated cs (p + nodes c)) (one p (λ i low high. same i low (omega arith)))
       ∙ ap (λ n. one_if (holds w c k) + n) (rest (p + nodes c) (λ i low high. same i (omega arith) (omega arith)))
       ∙ sym (counted (holds w c k) (truths w cs k))
 
@@ -393,20 +393,20 @@ module _ (w : World) (h k : ℕ) (was_asked : Bool) (own : (d : Tree) → own_sa
   then-trees : (cs : Trees) → ThenOf cs
   then-trees cs = for-trees Then ThenOf then-node then-none then-more cs
 
-pub says-before : (w : World) (h : ℕ) (asked : ℕ → Bool) (c : Tree) (p : ℕ) → ((i : ℕ) → p ≤ i → i < p + nodes c → asked i ≡ false) → says w h asked c p ≡ holds w c h
+pub says-before : (w : World) (h : ℕ) (updated : ℕ → Bool) (c : Tree) (p : ℕ) → ((i : ℕ) → p ≤ i → i < p + nodes c → updated i ≡ false) → says w h updated c p ≡ holds w c h
 unfolding Then
-says-before w h asked c p unasked = then-tree w h h false (λ d. refl) asked c p unasked
+says-before w h updated c p unasked = then-tree w h h false (λ d. refl) updated c p unasked
 
-pub says-after : (w : World) (h : ℕ) (asked : ℕ → Bool) (c : Tree) (p : ℕ) → ((i : ℕ) → p ≤ i → i < p + nodes c → asked i ≡ true) → says w h asked c p ≡ holds w c (suc h)
+pub says-after : (w : World) (h : ℕ) (updated : ℕ → Bool) (c : Tree) (p : ℕ) → ((i : ℕ) → p ≤ i → i < p + nodes c → updated i ≡ true) → says w h updated c p ≡ holds w c (suc h)
 unfolding Then
-says-after w h asked c p each = then-tree w h (suc h) true (λ d. refl) asked c p each
+says-after w h updated c p each = then-tree w h (suc h) true (λ d. refl) updated c p each
 
-pub said-before : (w : World) (h : ℕ) (asked : ℕ → Bool) (cs : Trees) (p : ℕ) → ((i : ℕ) → p ≤ i → i < p + nodes_of cs → asked i ≡ false) →
-    said w h asked cs p ≡ how_many (truths w cs h)
+pub said-before : (w : World) (h : ℕ) (updated : ℕ → Bool) (cs : Trees) (p : ℕ) → ((i : ℕ) → p ≤ i → i < p + nodes_of cs → updated i ≡ false) →
+    said w h updated cs p ≡ how_many (truths w cs h)
 unfolding ThenOf
-said-before w h asked cs p unasked = then-trees w h h false (λ d. refl) asked cs p unasked
+said-before w h updated cs p unasked = then-trees w h h false (λ d. refl) updated cs p unasked
 
-pub said-after : (w : World) (h : ℕ) (asked : ℕ → Bool) (cs : Trees) (p : ℕ) → ((i : ℕ) → p ≤ i → i < p + nodes_of cs → asked i ≡ true) →
-    said w h asked cs p ≡ how_many (truths w cs (suc h))
+pub said-after : (w : World) (h : ℕ) (updated : ℕ → Bool) (cs : Trees) (p : ℕ) → ((i : ℕ) → p ≤ i → i < p + nodes_of cs → updated i ≡ true) →
+    said w h updated cs p ≡ how_many (truths w cs (suc h))
 unfolding ThenOf
-said-after w h asked cs p each = then-trees w h (suc h) true (λ d. refl) asked cs p each
+said-after w h updated cs p each = then-trees w h (suc h) true (λ d. refl) updated cs p each

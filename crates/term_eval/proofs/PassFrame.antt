@@ -1,5 +1,5 @@
 -- What a pass over the temporal nodes of a condition leaves as it is, and when it is due.
-use Rattle.std.proofs.Common.{◌≡◌, ◌≢◌, ℕ, zero, suc, ◌+◌, ◌<◌, ◌≤◌, ◌⊎◌, min, Bool, true, false, List, [], ◌∷◌, map, cond, length, inl, inr, refl, sym, ◌∙◌, ap, subst, arith}
+use Rattle.std.proofs.Common.{◌≡◌, ◌≢◌, ℕ, suc, ◌+◌, ◌<◌, ◌≤◌, ◌⊎◌, min, Bool, true, false, List, [], ◌∷◌, map, cond, length, inl, inr, refl, sym, ◌∙◌, ap, subst, arith}
 use Rattle.std.specs.Prelude.{slice_index, slice_set}
 use Rattle.std.proofs.lemmas.List.{length-set, get_or-set_same, get_or-set_other}
 use Rattle.std.proofs.lemmas.Bool.{cases_lt, lt-ltb, le-ltb}
@@ -12,8 +12,9 @@ use Rattle.term_eval.specs.Memory.{NodeMemory}
 use Rattle.term_eval.specs.Code.{IsHeld, owners}
 use Rattle.term_eval.specs.Parts.{Part, Heads, is_temporal}
 use Rattle.term_eval.specs.NodeState.{state_at, first_wake}
-use Rattle.term_eval.specs.Climb.{climb, node_of}
-use Rattle.term_eval.specs.Run.{Run, says, due_after, cells_after, look, look_or_leave, pass_over}
+use Rattle.term_eval.specs.Climb.{climb, step_at}
+use Rattle.term_eval.specs.Run.{Run, temporal_says, due_after, cells_after, look, look_or_leave, pass_over}
+use Rattle.term_eval.proofs.FirstWake.{first-same}
 use Rattle.term_eval.proofs.Inside.{node_at}
 use Rattle.term_eval.proofs.NodeKinds.{own-slot}
 use Rattle.term_eval.proofs.PartLaws.{step_of, parts-ends, slots-within}
@@ -21,7 +22,7 @@ use Rattle.term_eval.proofs.CodeParts.{heads-node}
 use Rattle.term_eval.proofs.ClimbLeaves.{climb-leaves}
 use Rattle.term_eval.proofs.Codes.{nodes-some}
 use Rattle.term_eval.proofs.Told.{apart}
-use Rattle.term_eval.proofs.Owned.{Place, behind, has-slot, temporals, place-heads, place-slot, place-next}
+use Rattle.term_eval.proofs.Owned.{Place, behind, has-slot, temporal_count, place-heads, place-slot, place-next}
 
 -- what is kept of the nodes
 abbrev pub nodes_of_run : Run → NodeMemory
@@ -33,7 +34,7 @@ look_by k steps first i slot node s =
     let own = state_at s.states (first + i) in
     let first_child = (state_at s.states (first + i + 1)).told in
     let due = due_after k s.cells own.count node in
-    let done = climb (suc i) steps first i (says k s.cells own.count first_child node) s.states (slice_set s.wakes slot due) in
+    let done = climb (suc i) steps first i (temporal_says k s.cells own.count first_child node) s.states (slice_set s.wakes slot due) in
     record { states = done.states; wakes = done.wakes; cells = cells_after k s.cells own.count first_child node; due = min s.due due }
 
 -- one that is left
@@ -44,23 +45,15 @@ pub leaves : (k : ℕ) (steps : List Step) (first i slot : ℕ) (s : Run) → k 
 unfolding look_or_leave
 leaves k steps first i slot s later = rw (lt-ltb k (slice_index s.wakes slot) later) refl
 
-pub looks : (k : ℕ) (steps : List Step) (first i slot : ℕ) (x : Part) (s : Run) → slice_index s.wakes slot ≤ k → node_of steps i ≡ step_of x → x.at ≡ slot →
+pub looks : (k : ℕ) (steps : List Step) (first i slot : ℕ) (x : Part) (s : Run) → slice_index s.wakes slot ≤ k → step_at steps i ≡ step_of x → x.at ≡ slot →
     look_or_leave k steps first i slot s ≡ look_by k steps first i x.at (node_at x.at x.tree) s
 unfolding look_or_leave look
 looks k steps first i slot x s now is own =
     rw (le-ltb k (slice_index s.wakes slot) now)
     (ap (λ (z : Step). look_by k steps first i slot z.node s) is ∙ ap (λ n. look_by k steps first i n (node_at x.at x.tree) s) (sym own))
 
--- the first of some wakes rests on them alone
-first-same : (old new : List ℕ) (at n : ℕ) → ((i : ℕ) → at ≤ i → slice_index new i ≡ slice_index old i) → first_wake new at n ≡ first_wake old at n
-unfolding first_wake
-first-same old new at zero same = refl
-first-same old new at (suc n) same =
-    ap (λ a. min a (first_wake new (at + 1) n)) (same at (omega arith))
-    ∙ ap (min (slice_index old at)) (first-same old new (at + 1) n (λ i low. same i (omega arith)))
-
--- from one state to another: nothing changed outside the condition's own nodes, slots and cells, and it is due with the first of the wakes
--- from a slot on
+-- from one state to another: nothing changed outside the condition's own nodes, slots and cells, and it is due with the
+-- first of the wakes from a slot on
 pub record Framed (first last at end slot n : ℕ) (old new : Run) : Type 0 where
   pub nodes : length new.states ≡ length old.states
   pub slots : length new.wakes ≡ length old.wakes
@@ -115,13 +108,13 @@ module _ (k : ℕ) (steps : List Step) (first : ℕ) (c : Tree) (at : ℕ) where
       let len : length mid ≡ length t.wakes = length-set t.wakes x.at due in
       let ready : IsHeld steps (record { states = t.states; wakes = mid }) c at first =
       record { code = room.nodes.code; nodes = room.nodes.nodes; slots = omega (arith, len, room.nodes.slots) } in
-      let l = climb-leaves c at first i x (record { states = t.states; wakes = mid }) steps (says k t.cells own.count set node) ready heads in
+      let l = climb-leaves c at first i x (record { states = t.states; wakes = mid }) steps (temporal_says k t.cells own.count set node) ready heads in
       let a = apart k x.tree x.at t.cells own.count set in
       let ends = parts-ends at 0 c i x heads in
       let within = slots-within at 0 c i x heads in
       let some = own-slot x.tree temporal in
       let size = nodes-some x.tree in
-      let done = climb (suc i) steps first i (says k t.cells own.count set node) t.states mid in
+      let done = climb (suc i) steps first i (temporal_says k t.cells own.count set node) t.states mid in
       let here : slice_index done.wakes x.at ≡ due = l.wakes x.at (inr (omega arith)) ∙ get_or-set_same t.wakes x.at due _ (omega (arith, room.nodes.slots, within.1)) in
       let others : (j : ℕ) → suc x.at ≤ j → slice_index done.wakes j ≡ slice_index t.wakes j =
       λ j low. l.wakes j (inr (omega arith)) ∙ get_or-set_other t.wakes x.at j due _ (λ e. absurd (let z : ⊥ = omega arith in z)) in
@@ -175,15 +168,15 @@ module _ (k : ℕ) (steps : List Step) (first : ℕ) (c : Tree) (at : ℕ) where
       ap (λ b. pass_over k steps first (cond b (m ∷ owners (m + 1) (map step_of xs)) (owners (m + 1) (map step_of xs))) slot s) (has-slot x.tree x.at ∙ temporal)
 
   frame-step : (m slot : ℕ) (x : Part) (xs : List Part) (s : Run) (b : Bool) → is_temporal x.tree ≡ b → Room s → Heads c at m x → x.at ≡ slot →
-      FramedTo (cond b (suc slot) slot) (temporals xs) s (over (m + 1) (cond b (suc slot) slot) xs s) →
-      FramedTo slot (cond b (suc (temporals xs)) (temporals xs)) s (over m slot (x ∷ xs) s)
+      FramedTo (cond b (suc slot) slot) (temporal_count xs) s (over (m + 1) (cond b (suc slot) slot) xs s) →
+      FramedTo slot (cond b (suc (temporal_count xs)) (temporal_count xs)) s (over m slot (x ∷ xs) s)
   frame-step m slot x xs s true is room heads own f =
-      subst (FramedTo slot (suc (temporals xs)) s) (sym (goes-over m slot x xs s is))
-      (frame-one m slot (temporals xs) x s (over (m + 1) (suc slot) xs s) (room-still (suc slot) (temporals xs) s (over (m + 1) (suc slot) xs s) f room) heads is own f)
-  frame-step m slot x xs s false is room heads own f = subst (FramedTo slot (temporals xs) s) (sym (passes-by m slot x xs s is)) f
+      subst (FramedTo slot (suc (temporal_count xs)) s) (sym (goes-over m slot x xs s is))
+      (frame-one m slot (temporal_count xs) x s (over (m + 1) (suc slot) xs s) (room-still (suc slot) (temporal_count xs) s (over (m + 1) (suc slot) xs s) f room) heads is own f)
+  frame-step m slot x xs s false is room heads own f = subst (FramedTo slot (temporal_count xs) s) (sym (passes-by m slot x xs s is)) f
 
-  pub framed : (xs : List Part) (m slot : ℕ) (s : Run) → Place c at m slot xs → Room s → s.due ≡ never → FramedTo slot (temporals xs) s (over m slot xs s)
-  unfolding temporals owners pass_over first_wake
+  pub framed : (xs : List Part) (m slot : ℕ) (s : Run) → Place c at m slot xs → Room s → s.due ≡ never → FramedTo slot (temporal_count xs) s (over m slot xs s)
+  unfolding temporal_count owners pass_over first_wake
   framed [] m slot s place room due = record {
     nodes = refl;
     slots = refl;

@@ -20,7 +20,7 @@ use Rattle.term_eval.specs.Run.{Run, pass_over}
 use Rattle.term_eval.proofs.PartLaws.{parts-is, says-before, says-after, said-before, said-after}
 use Rattle.term_eval.proofs.Dues.{due-of}
 use Rattle.term_eval.proofs.PartCells.{close-parts}
-use Rattle.term_eval.proofs.Owned.{place-first, temporals, many-slots, follow}
+use Rattle.term_eval.proofs.Owned.{place-first, temporal_count, many-slots, follow}
 use Rattle.term_eval.proofs.CanPass.{is-code}
 use Rattle.term_eval.proofs.PassFrame.{nodes_of_run, Framed, FramedTo, Room, over, framed}
 use Rattle.term_eval.proofs.AskedSoFar.{gone, gone-through}
@@ -78,9 +78,9 @@ module _ (k : ℕ) (steps : List Step) (m : Memory) (n : NodeMemory) (c : Tree) 
   pub ran-frame : Framed first (first + nodes c) at (at + slots c) at (slots c) (fresh m n) ran
   ran-frame =
       let many = many-slots at (at + slots c) (parts at 0 c) (follow c at) in
-      let e : temporals (parts at 0 c) ≡ slots c = omega (arith, many) in
+      let e : temporal_count (parts at 0 c) ≡ slots c = omega (arith, many) in
       subst (λ count. FramedTo k steps first c at at count (fresh m n) ran) e
-      (subst (FramedTo k steps first c at at (temporals (parts at 0 c)) (fresh m n)) goes (framed k steps first c at (parts at 0 c) 0 at (fresh m n) (place-first c at) room refl))
+      (subst (FramedTo k steps first c at at (temporal_count (parts at 0 c)) (fresh m n)) goes (framed k steps first c at (parts at 0 c) 0 at (fresh m n) (place-first c at) room refl))
 
 -- it tells the condition's truth and when it is due, and all stands for the moment
 pub record Done (w : World) (k : ℕ) (c : Tree) (at first : ℕ) (r : Run) : Type 0 where

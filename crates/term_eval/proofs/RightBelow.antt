@@ -30,13 +30,13 @@ stands-over (risen c) temporal = omega (arith, nodes-some c)
 stands-over (latched s r) temporal = omega (arith, nodes-some s, nodes-some r)
 
 -- where each that stands right below it says what it said, they keep their truths
-pub still-truths : (w : World) (h : ℕ) (asked : ℕ → Bool) (cs : Trees) (p : ℕ) → ((i : ℕ) → p ≤ i → i < p + nodes_of cs → asked i ≡ true) → SayTheSame w h asked cs p →
+pub still-truths : (w : World) (h : ℕ) (updated : ℕ → Bool) (cs : Trees) (p : ℕ) → ((i : ℕ) → p ≤ i → i < p + nodes_of cs → updated i ≡ true) → SayTheSame w h updated cs p →
     truths w cs (suc h) ≡ truths w cs h
 unfolding SayTheSame holds nodes
-still-truths w h asked none p each same = refl
-still-truths w h asked (more c cs) p each same =
-    ap (λ b. b ∷ truths w cs (suc h)) (sym (says-after w h asked c p (λ i low high. each i low (omega arith))) ∙ same.0)
-    ∙ ap (λ bs. holds w c h ∷ bs) (still-truths w h asked cs (p + nodes c) (λ i low high. each i (omega arith) (omega arith)) same.1)
+still-truths w h updated none p each same = refl
+still-truths w h updated (more c cs) p each same =
+    ap (λ b. b ∷ truths w cs (suc h)) (sym (says-after w h updated c p (λ i low high. each i low (omega arith))) ∙ same.0)
+    ∙ ap (λ bs. holds w c h ∷ bs) (still-truths w h updated cs (p + nodes c) (λ i low high. each i (omega arith) (omega arith)) same.1)
 
 -- the first of the two conditions of a latch stands right behind it
 set-second : (at up : ℕ) (s r : Tree) → slice_get (parts at up (latched s r)) 1 ≡ Some (record { tree = s; at = at + 1; up = 1 })

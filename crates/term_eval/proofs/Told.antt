@@ -13,7 +13,7 @@ use Rattle.term_eval.specs.CellWords.{cell_at, on_if}
 use Rattle.term_eval.specs.OwnDue.{own_due, risen_due}
 use Rattle.term_eval.specs.NodeState.{one_if}
 use Rattle.term_eval.specs.Parts.{is_temporal}
-use Rattle.term_eval.specs.Run.{says, cells_after, due_after, second}
+use Rattle.term_eval.specs.Run.{temporal_says, cells_after, due_after, second}
 use Rattle.term_eval.proofs.Members.{how_many, counted}
 use Rattle.term_eval.proofs.NodeSteps.{confirm_truth, confirm_cell, confirm_due, hold_truth, hold_cell, hold_due, rise_truth, latch_truth}
 use Rattle.term_eval.proofs.Inside.{node_at, OwnCell}
@@ -29,7 +29,7 @@ other-held false true n is = lt-ltb 0 n (omega arith)
 other-held false false n is = le-ltb 0 n (omega arith)
 
 pub record Right (w : World) (k : ℕ) (c : Tree) (at : ℕ) (cells : List Cell) (count : ℕ) (first : Bool) : Type 0 where
-  pub told : says k cells count first (node_at at c) ≡ holds w c k
+  pub told : temporal_says k cells count first (node_at at c) ≡ holds w c k
   pub wake : due_after k cells count (node_at at c) ≡ own_due w c k
   pub cell : OwnCell w (suc k) c (cell_at (cells_after k cells count first (node_at at c)) at)
 

@@ -11,7 +11,7 @@ use Rattle.term_eval.specs.Woken.{Operand}
 use Rattle.term_eval.specs.Asked.{Asks, AreAtoms}
 use Rattle.term_eval.specs.Reading.{Reads, atom_says}
 use Rattle.term_eval.specs.Code.{IsHeld}
-use Rattle.term_eval.specs.Climb.{climb, node_of}
+use Rattle.term_eval.specs.Climb.{climb, step_at}
 use Rattle.term_eval.specs.NodeState.{NodesWait, Within, also}
 use Rattle.term_eval.proofs.PartLaws.{slots-within}
 use Rattle.term_eval.proofs.CodeParts.{heads-one, heads-node}
@@ -32,19 +32,19 @@ lent steps first node now stirs n new lent_states new_states lent_wakes new_wake
     ∙ ap (λ s. record { states = s; wakes = new_wakes; stirs = stirs }) (sym d)
     ∙ ap (λ v. record { states = new.states; wakes = v; stirs = stirs }) (sym e)
 
-pub turned-waits : (w : World) (h : ℕ) (asked : ℕ → Bool) (c : Tree) (at first i : ℕ) (x : Operand) (reading : Reading) (n : NodeMemory) (steps : List Step) (now : Bool) →
-    IsHeld steps n c at first → length n.states < 2 ^ 64 → AreAtoms c asked → Asks c i x → Reads w (suc h) x reading →
-    now ≡ atom_says (node_of steps i).node reading → NodesWait w h asked c at first n →
-    NodesWait w h (also i asked) c at first (kept_by (climb (suc i) steps first i now n.states n.wakes))
-turned-waits w h asked c at first i x reading n steps now ready few atoms asks reads is waits =
+pub turned-waits : (w : World) (h : ℕ) (updated : ℕ → Bool) (c : Tree) (at first i : ℕ) (x : Operand) (reading : Reading) (n : NodeMemory) (steps : List Step) (now : Bool) →
+    IsHeld steps n c at first → length n.states < 2 ^ 64 → AreAtoms c updated → Asks c i x → Reads w (suc h) x reading →
+    now ≡ atom_says (step_at steps i).node reading → NodesWait w h updated c at first n →
+    NodesWait w h (also i updated) c at first (kept_by (climb (suc i) steps first i now n.states n.wakes))
+turned-waits w h updated c at first i x reading n steps now ready few atoms asks reads is waits =
     let y = heads-one c at i (asks-within c i x asks) in
     let node = heads-node c at steps ready.code i y.0 y.1 in
     let does = asks-part c at i y.0 x y.1 asks in
     let atom = asks-atom y.0.tree y.0.at x does in
     let own = waits i y.0 y.1 in
-    climbed w h asked c at first i y.0 n steps now ready few y.1 atom.gate
+    climbed w h updated c at first i y.0 n steps now ready few y.1 atom.gate
     (is ∙ ap (λ (s : Step). atom_says s.node reading) node ∙ says-read w (suc h) y.0.tree y.0.at x reading does reads)
-    (λ j z before heads temporal. atoms-free c at asked atoms j z heads temporal)
+    (λ j z before heads temporal. atoms-free c at updated atoms j z heads temporal)
     (record {
       others = λ j z heads apart. waits j z heads;
       told = own.told;

@@ -1,6 +1,6 @@
--- A condition of which no temporal node is to be looked at, once each atom was asked whose operand moves, stands for one moment
--- more as it is.
-use Rattle.std.proofs.Common.{◌≡◌, ℕ, suc, ◌+◌, ◌<◌, ◌^◌, Bool, true, false, ◌||◌, List, [], ◌∷◌, None, inl, inr, refl, sym, ◌∙◌, ap, subst, arith}
+-- A condition of which no temporal node is to be looked at, once each atom was updated whose operand moves, stands for one
+-- moment more as it is.
+use Rattle.std.proofs.Common.{◌≡◌, ℕ, suc, ◌+◌, ◌<◌, ◌^◌, Bool, true, false, ◌||◌, List, [], ◌∷◌, inl, inr, refl, sym, ◌∙◌, ap, subst, arith}
 use Rattle.std.specs.Prelude.{slice_index}
 use Rattle.std.specs.List.{list_any}
 use Rattle.std.specs.Option.{option_map_or}
@@ -26,35 +26,15 @@ use Rattle.term_eval.proofs.Inside.{node_at, inside, OwnCell}
 use Rattle.term_eval.proofs.PartLaws.{for-tree, for-trees, spoken, says-is, says-before, says-after}
 use Rattle.term_eval.proofs.Below.{part, Each, EachOf, own, inner, front, rest, whole, of-part}
 use Rattle.term_eval.proofs.Short.{shorts, short-part}
-use Rattle.term_eval.proofs.Hearing.{heard-is}
-use Rattle.term_eval.proofs.PartCells.{open-parts, close-parts}
+use Rattle.term_eval.proofs.Hearing.{heard-is, deaf}
+use Rattle.term_eval.proofs.PartCells.{untimed-cell, open-parts, close-parts}
 use Rattle.term_eval.proofs.Dues.{due-of, wakes-later}
 
--- what has no slot keeps nothing in a cell
-no-cell : (w : World) (k : ℕ) (c : Tree) (cell : Cell) → is_temporal c ≡ false → OwnCell w k c cell
-unfolding is_temporal
-no-cell w k (constant b) cell none_kept = tt
-no-cell w k (discrete x) cell none_kept = tt
-no-cell w k (valid x) cell none_kept = tt
-no-cell w k (compared x op n) cell none_kept = tt
-no-cell w k (in_phase set) cell none_kept = tt
-no-cell w k (alert a) cell none_kept = tt
-no-cell w k (press x) cell none_kept = tt
-no-cell w k (computer n) cell none_kept = tt
-no-cell w k (negation c) cell none_kept = tt
-no-cell w k (all cs) cell none_kept = tt
-no-cell w k (any cs) cell none_kept = tt
-no-cell w k (at_least n cs) cell none_kept = tt
-no-cell w k (confirmed c n) cell none_kept = absurd (let z : ⊥ = cc in z)
-no-cell w k (held c n) cell none_kept = absurd (let z : ⊥ = cc in z)
-no-cell w k (risen c) cell none_kept = absurd (let z : ⊥ = cc in z)
-no-cell w k (latched s r) cell none_kept = absurd (let z : ⊥ = cc in z)
-
-module _ (w : World) (h : ℕ) (asked : ℕ → Bool) (first : ℕ) (n : NodeMemory) (small : suc h < 2 ^ 63) where
-  -- a part whose node has this number is kept, was asked if its operand moves, and wakes later
+module _ (w : World) (h : ℕ) (updated : ℕ → Bool) (first : ℕ) (n : NodeMemory) (small : suc h < 2 ^ 63) where
+  -- a part whose node has this number is kept, was updated if its operand moves, and wakes later
   record Waits (i : ℕ) (x : Part) : Type 0 where
-    kept : IsKept w h asked x first i n
-    asks : asked i ≡ option_map_or (moved w (suc h)) (node_asks (node_at x.at x.tree)) false
+    kept : IsKept w h updated x first i n
+    asks : updated i ≡ option_map_or (moved w (suc h)) (node_asks (node_at x.at x.tree)) false
     later : is_temporal x.tree ≡ true → suc h < slice_index n.wakes x.at
 
   -- ---- each says what it holds in the next moment
@@ -62,16 +42,16 @@ module _ (w : World) (h : ℕ) (asked : ℕ → Bool) (first : ℕ) (n : NodeMem
   -- some conditions say it
   abbrev SayNow : Trees → ℕ → Type 0
   SayNow none p = Unit {0}
-  SayNow (more c cs) p = (says w h asked c p ≡ holds w c (suc h)) × SayNow cs (p + nodes c)
+  SayNow (more c cs) p = (says w h updated c p ≡ holds w c (suc h)) × SayNow cs (p + nodes c)
 
-  said-now : (cs : Trees) (p : ℕ) → SayNow cs p → said w h asked cs p ≡ said w h (λ i. true) cs p
+  said-now : (cs : Trees) (p : ℕ) → SayNow cs p → said w h updated cs p ≡ said w h (λ i. true) cs p
   unfolding said
   said-now none p now = refl
   said-now (more c cs) p now =
-      ap (λ b. one_if b + said w h asked cs (p + nodes c)) (now.0 ∙ sym (says-after w h (λ i. true) c p (λ i low high. refl)))
+      ap (λ b. one_if b + said w h updated cs (p + nodes c)) (now.0 ∙ sym (says-after w h (λ i. true) c p (λ i low high. refl)))
       ∙ ap (λ m. one_if (says w h (λ i. true) c p) + m) (said-now cs (p + nodes c) now.1)
 
-  same-truths : (cs : Trees) (p : ℕ) → SayTheSame w h asked cs p → SayNow cs p → truths w cs (suc h) ≡ truths w cs h
+  same-truths : (cs : Trees) (p : ℕ) → SayTheSame w h updated cs p → SayNow cs p → truths w cs (suc h) ≡ truths w cs h
   unfolding SayTheSame holds
   same-truths none p same now = refl
   same-truths (more c cs) p same now =
@@ -84,10 +64,10 @@ module _ (w : World) (h : ℕ) (asked : ℕ → Bool) (first : ℕ) (n : NodeMem
     turned : Unturned w h c
     due : wake ≡ own_due w c h
 
-  left : (at up p : ℕ) (c : Tree) → IsShort c → is_temporal c ≡ true → asked p ≡ false → Waits p (part c at up) → SayNow (children c) (p + 1) → Left c (slice_index n.wakes at)
+  left : (at up p : ℕ) (c : Tree) → IsShort c → is_temporal c ≡ true → updated p ≡ false → Waits p (part c at up) → SayNow (children c) (p + 1) → Left c (slice_index n.wakes at)
   left at up p c short temporal unasked waits now =
       let later = waits.later temporal in
-      elim (subst (Wakes w h asked c p (slice_index n.wakes at)) unasked (waits.kept.wake temporal)) [
+      elim (subst (Wakes w h updated c p (slice_index n.wakes at)) unasked (waits.kept.wake temporal)) [
         | inl soon ↦ absurd (let z : ⊥ = omega (arith, soon, later) in z)
         | inr rests ↦
             let same = same-truths (children c) (p + 1) rests.same now in
@@ -95,16 +75,16 @@ module _ (w : World) (h : ℕ) (asked : ℕ → Bool) (first : ℕ) (n : NodeMem
             record { same = same; turned = left-unturned w h c temporal small short same soon; due = rests.due }
       ]
 
-  own-now : (c : Tree) (p : ℕ) → (asked p ≡ false → holds w c (suc h) ≡ holds w c h) → own_says w h (asked p) c ≡ own_says w h true c
-  own-now c p same = by (asked p) refl where
-    by : (b : Bool) → asked p ≡ b → own_says w h b c ≡ holds w c (suc h)
+  own-now : (c : Tree) (p : ℕ) → (updated p ≡ false → holds w c (suc h) ≡ holds w c h) → own_says w h (updated p) c ≡ own_says w h true c
+  own-now c p same = by (updated p) refl where
+    by : (b : Bool) → updated p ≡ b → own_says w h b c ≡ holds w c (suc h)
     by true yes_asked = refl
     by false unasked = sym (same unasked)
 
   or-none : (b : Bool) → b ≡ false → (b || false) ≡ false
   or-none b e = ap (λ x. x || false) e
 
-  atom-now : (c : Tree) (x : Operand) (p : ℕ) → operands c ≡ x ∷ [] → turns w c (suc h) ≡ false → asked p ≡ moved w (suc h) x → own_says w h (asked p) c ≡ own_says w h true c
+  atom-now : (c : Tree) (x : Operand) (p : ℕ) → operands c ≡ x ∷ [] → turns w c (suc h) ≡ false → updated p ≡ moved w (suc h) x → own_says w h (updated p) c ≡ own_says w h true c
   atom-now c x p names quiet asks =
       own-now c p (λ unasked.
       truth-rests w h c (record {
@@ -112,10 +92,10 @@ module _ (w : World) (h : ℕ) (asked : ℕ → Bool) (first : ℕ) (n : NodeMem
         nodes_rest = quiet;
       }))
 
-  left-now : (at up p : ℕ) (c : Tree) → IsShort c → is_temporal c ≡ true → asked p ≡ false → Waits p (part c at up) → SayNow (children c) (p + 1) → own_says w h (asked p) c ≡ own_says w h true c
+  left-now : (at up p : ℕ) (c : Tree) → IsShort c → is_temporal c ≡ true → updated p ≡ false → Waits p (part c at up) → SayNow (children c) (p + 1) → own_says w h (updated p) c ≡ own_says w h true c
   left-now at up p c short temporal unasked waits now = own-now c p (λ again. (left at up p c short temporal unasked waits now).turned.truth)
 
-  spoken-now : (at up p : ℕ) (c : Tree) (m : ℕ) → IsShort c → Waits p (part c at up) → SayNow (children c) (p + 1) → spoken w h (asked p) c m ≡ spoken w h true c m
+  spoken-now : (at up p : ℕ) (c : Tree) (m : ℕ) → IsShort c → Waits p (part c at up) → SayNow (children c) (p + 1) → spoken w h (updated p) c m ≡ spoken w h true c m
   unfolding operands turns is_temporal holds
   spoken-now at up p (constant b) m short waits now = own-now (constant b) p (λ unasked. refl)
   spoken-now at up p (discrete x) m short waits now = atom-now (discrete x) (value x) p refl refl waits.asks
@@ -135,7 +115,7 @@ module _ (w : World) (h : ℕ) (asked : ℕ → Bool) (first : ℕ) (n : NodeMem
   spoken-now at up p (latched s r) m short waits now = left-now at up p (latched s r) short refl waits.asks waits now
 
   Now : Tree → Type 0
-  Now c = (at up p : ℕ) → IsShort c → Each Waits at up c p → says w h asked c p ≡ holds w c (suc h)
+  Now c = (at up p : ℕ) → IsShort c → Each Waits at up c p → says w h updated c p ≡ holds w c (suc h)
 
   NowAll : Trees → Type 0
   NowAll cs = (at up p : ℕ) → AreShort cs → EachOf Waits at up cs p → SayNow cs p
@@ -144,8 +124,8 @@ module _ (w : World) (h : ℕ) (asked : ℕ → Bool) (first : ℕ) (n : NodeMem
   unfolding Now NowAll
   now-node c below at up p short each =
       let now = below (inside at c) 1 (p + 1) (shorts c short) (inner Waits at up c p each) in
-      says-is w h asked c p
-      ∙ ap (spoken w h (asked p) c) (said-now (children c) (p + 1) now)
+      says-is w h updated c p
+      ∙ ap (spoken w h (updated p) c) (said-now (children c) (p + 1) now)
       ∙ spoken-now at up p c (said w h (λ i. true) (children c) (p + 1)) short (own Waits at up c p each) now
       ∙ sym (says-is w h (λ i. true) c p)
       ∙ says-after w h (λ i. true) c p (λ i low high. refl)
@@ -171,11 +151,11 @@ module _ (w : World) (h : ℕ) (asked : ℕ → Bool) (first : ℕ) (n : NodeMem
 
   -- ---- what is kept stands for one moment more
 
-  said-next : (cs : Trees) (p : ℕ) → SayNow cs p → said w h asked cs p ≡ said w (suc h) (λ i. false) cs p
+  said-next : (cs : Trees) (p : ℕ) → SayNow cs p → said w h updated cs p ≡ said w (suc h) (λ i. false) cs p
   unfolding said
   said-next none p now = refl
   said-next (more c cs) p now =
-      ap (λ b. one_if b + said w h asked cs (p + nodes c)) (now.0 ∙ sym (says-before w (suc h) (λ i. false) c p (λ i low high. refl)))
+      ap (λ b. one_if b + said w h updated cs (p + nodes c)) (now.0 ∙ sym (says-before w (suc h) (λ i. false) c p (λ i low high. refl)))
       ∙ ap (λ m. one_if (says w (suc h) (λ i. false) c p) + m) (said-next cs (p + nodes c) now.1)
 
   same-next : (cs : Trees) (p : ℕ) → SayTheSame w (suc h) (λ i. false) cs p
@@ -183,28 +163,8 @@ module _ (w : World) (h : ℕ) (asked : ℕ → Bool) (first : ℕ) (n : NodeMem
   same-next none p = tt
   same-next (more c cs) p = (says-before w (suc h) (λ i. false) c p (λ i low high. refl), same-next cs (p + nodes c))
 
-  -- a temporal node asks for no operand
-  asks-none : (at : ℕ) (c : Tree) → is_temporal c ≡ true → node_asks (node_at at c) ≡ None
-  unfolding is_temporal
-  asks-none at (constant b) temporal = refl
-  asks-none at (discrete x) temporal = absurd (let z : ⊥ = cc in z)
-  asks-none at (valid x) temporal = absurd (let z : ⊥ = cc in z)
-  asks-none at (compared x op l) temporal = absurd (let z : ⊥ = cc in z)
-  asks-none at (in_phase set) temporal = absurd (let z : ⊥ = cc in z)
-  asks-none at (alert a) temporal = absurd (let z : ⊥ = cc in z)
-  asks-none at (press x) temporal = absurd (let z : ⊥ = cc in z)
-  asks-none at (computer l) temporal = absurd (let z : ⊥ = cc in z)
-  asks-none at (negation c) temporal = refl
-  asks-none at (all cs) temporal = refl
-  asks-none at (any cs) temporal = refl
-  asks-none at (at_least l cs) temporal = refl
-  asks-none at (confirmed c l) temporal = refl
-  asks-none at (held c l) temporal = refl
-  asks-none at (risen c) temporal = refl
-  asks-none at (latched s r) temporal = refl
-
-  unasked : (p : ℕ) (x : Part) → Waits p x → is_temporal x.tree ≡ true → asked p ≡ false
-  unasked p x waits temporal = waits.asks ∙ ap (λ o. option_map_or (moved w (suc h)) o false) (asks-none x.at x.tree temporal)
+  unasked : (p : ℕ) (x : Part) → Waits p x → is_temporal x.tree ≡ true → updated p ≡ false
+  unasked p x waits temporal = waits.asks ∙ deaf (moved w (suc h)) x.at x.tree temporal
 
   left-below : (at up p : ℕ) (c : Tree) → IsShort c → Each Waits at up c p → is_temporal c ≡ true → Left c (slice_index n.wakes at)
   left-below at up p c short each temporal =
@@ -228,7 +188,7 @@ module _ (w : World) (h : ℕ) (asked : ℕ → Bool) (first : ℕ) (n : NodeMem
   cell-next p x cell short each stands = by (is_temporal x.tree) refl where
     by : (b : Bool) → is_temporal x.tree ≡ b → OwnCell w (suc (suc h)) x.tree cell
     by true temporal = left-cell w h x.tree cell ((left-below x.at x.up p x.tree short each temporal).same) stands
-    by false untimed = no-cell w (suc (suc h)) x.tree cell untimed
+    by false untimed = untimed-cell w (suc (suc h)) x.tree cell untimed
 
 -- ---- the whole condition
 

@@ -1,5 +1,5 @@
--- A temporal node in one moment more, where what stands right below it keeps its truth and the node isn't due: it is as it was, and so
--- is its cell.
+-- A temporal node in one moment more, where what stands right below it keeps its truth and the node isn't due: it is as it
+-- was, and so is its cell.
 use Rattle.std.proofs.Common.{◌≡◌, ℕ, suc, ◌+◌, ◌<◌, ◌^◌, min, Bool, true, false, not, ◌&&◌, Some, inl, inr, cond, leb, ltb, refl, sym, ◌∙◌, ap, arith}
 use Rattle.std.proofs.lemmas.Bool.{cases_lt, lt-ltb, le-ltb, lt-leb, le-leb}
 use Rattle.ecam_spec.specs.Past.{Signal, last, start_of, rise, previous}

@@ -37,7 +37,7 @@ Asks c i x = slice_get (asked c) i ≡ Some (Some x)
 
 -- each of these nodes is an atom of the condition, which asks for an operand
 abbrev pub AreAtoms : Tree → (ℕ → Bool) → Type 0
-AreAtoms c asked = (i : ℕ) → asked i ≡ true → (x : Operand) × Asks c i x
+AreAtoms c updated = (i : ℕ) → updated i ≡ true → (x : Operand) × Asks c i x
 
 -- the nodes that ask for an operand which passes a test
 abbrev pub heard : (Operand → Bool) → Tree → ℕ → Bool

@@ -1,6 +1,6 @@
--- How each node of a condition is asked in the first moment: from the last to the first, so that children come before the node
--- that they stand in.
-use Rattle.std.specs.Prelude.{ℕ, ◌+◌, ◌-◌, ◌^◌, ◌<◌, ◌≤◌, ◌==◌, min, nat_le, nat_lt, Bool, false, pos, is_some, List, [], ◌∷◌, ◌++◌, take, drop, replicate, length, slice_set, if◌then◌else◌}
+-- How each node of a condition is asked in the first moment: from the last to the first, so that children come before the
+-- node that they stand in.
+use Rattle.std.specs.Prelude.{ℕ, ◌+◌, ◌-◌, ◌<◌, ◌≤◌, ◌==◌, min, nat_le, nat_lt, Bool, true, pos, is_some, List, [], ◌∷◌, ◌++◌, take, drop, replicate, length, slice_set, if◌then◌else◌}
 use Rattle.std.specs.Ordering.{int_eq}
 use Rattle.ecam_spec.specs.Keys.{IsKey}
 use Rattle.ecam_spec.specs.Term.{in_set, is_so, stands}
@@ -12,9 +12,9 @@ use Rattle.term_eval.specs.declared.code.Step.{Step}
 use Rattle.term_eval.specs.declared.code.Node.{Node}
 use Rattle.term_eval.specs.declared.code.Node.TheVariants.{Const, Disc, Valid, Cmp, InPhase, Alert, Press, Fwc, Not, All, Any, AtLeast, Conf, Hold, Rise, Latch}
 use Rattle.term_eval.specs.Shown.{value_of, is_active}
-use Rattle.term_eval.specs.NodeState.{state_at}
-use Rattle.term_eval.specs.Climb.{told_as, counted}
-use Rattle.term_eval.specs.Run.{Run, says, cells_after, due_after, HasSlot}
+use Rattle.term_eval.specs.NodeState.{state_at, unasked}
+use Rattle.term_eval.specs.Climb.{count_with, told_as, counted}
+use Rattle.term_eval.specs.Run.{Run, temporal_says, cells_after, due_after, SlotWithin}
 
 -- what a node says in moment 0 of whose children so many hold, and the first or not
 abbrev pub answer : Env → List Cell → ℕ → Bool → Node → Bool
@@ -30,10 +30,10 @@ answer env cells count first Not = count == 0
 answer env cells count first (All m) = count == m
 answer env cells count first Any = nat_lt 0 count
 answer env cells count first (AtLeast n) = nat_le n count
-answer env cells count first (Conf n i) = says 0 cells count first (Conf n i)
-answer env cells count first (Hold n i) = says 0 cells count first (Hold n i)
-answer env cells count first (Rise i) = says 0 cells count first (Rise i)
-answer env cells count first (Latch i) = says 0 cells count first (Latch i)
+answer env cells count first (Conf n i) = temporal_says 0 cells count first (Conf n i)
+answer env cells count first (Hold n i) = temporal_says 0 cells count first (Hold n i)
+answer env cells count first (Rise i) = temporal_says 0 cells count first (Rise i)
+answer env cells count first (Latch i) = temporal_says 0 cells count first (Latch i)
 
 -- what becomes of the wakes where a node turns by itself in this moment
 abbrev pub wakes_after : Node → List ℕ → ℕ → List ℕ
@@ -45,7 +45,7 @@ wakes_after _ wakes due = wakes
 
 -- one more child holds, or not
 abbrev pub raised : Bool → NodeState → NodeState
-raised holds s = if holds then counted (min (s.count + 1) (2 ^ 64 - 1)) s else s
+raised holds s = if holds then counted (count_with s.count true) s else s
 
 -- the node that stands so far before node i counts it, if there is one
 abbrev pub count_up : ℕ → ℕ → Bool → List NodeState → List NodeState
@@ -53,7 +53,7 @@ count_up i up holds states = if nat_lt 0 up then slice_set states (i - up) (rais
 
 -- so many nodes from a place on before they are asked
 abbrev pub unasked_from : ℕ → ℕ → List NodeState → List NodeState
-unasked_from first n states = take first states ++ (replicate n (record { count = 0; told = false }) ++ drop (first + n) states)
+unasked_from first n states = take first states ++ (replicate n unasked ++ drop (first + n) states)
 
 -- node i is asked
 unfoldable pub ask : Env → ℕ → Step → Run → Run
@@ -88,16 +88,16 @@ Has env cells Not = Unit {0}
 Has env cells (All m) = Unit {0}
 Has env cells Any = Unit {0}
 Has env cells (AtLeast n) = Unit {0}
-Has env cells (Conf n i) = i < cells
-Has env cells (Hold n i) = i < cells
-Has env cells (Rise i) = i < cells
-Has env cells (Latch i) = i < cells
+Has env cells (Conf n i) = SlotWithin cells (Conf n i)
+Has env cells (Hold n i) = SlotWithin cells (Hold n i)
+Has env cells (Rise i) = SlotWithin cells (Rise i)
+Has env cells (Latch i) = SlotWithin cells (Latch i)
 
 -- and its state and its slot, of so many, and what it stands in
 pub record CanAsk (env : Env) (nodes slots cells i : ℕ) (x : Step) : Type 0 where
   pub within : i < nodes
   pub up : x.up ≤ i
-  pub slot : HasSlot slots x.node
+  pub slot : SlotWithin slots x.node
   pub has : Has env cells x.node
 
 -- the same of the nodes from i on

@@ -29,12 +29,15 @@ gate_says (Rise slot) count = Err slot
 gate_says (Latch slot) count = Err slot
 gate_says _ count = Ok false
 
-abbrev pub node_of : List Step → ℕ → Step
-node_of steps i = slice_index_or steps i (record { node = Const false; up = 0 })
+-- step i, or behind the last one that says nothing
+abbrev pub step_at : List Step → ℕ → Step
+step_at steps i = slice_index_or steps i (record { node = Const false; up = 0 })
 
+-- the node says so from now on
 abbrev pub told_as : Bool → NodeState → NodeState
 told_as holds s = record { count = s.count; told = holds }
 
+-- so many of its children hold
 abbrev pub counted : ℕ → NodeState → NodeState
 counted count s = record { count = count; told = s.told }
 
@@ -48,14 +51,14 @@ unfoldable pub climb : ℕ → List Step → ℕ → ℕ → Bool → List NodeS
 climb zero steps first i holds states wakes = record { states = states; wakes = wakes; stirs = false }
 climb (suc n) steps first i holds states wakes =
     let own = slice_set states (first + i) (told_as holds (state_at states (first + i))) in
-    let above = i - (node_of steps i).up in
+    let above = i - (step_at steps i).up in
     let count = count_with (state_at own (first + above)).count holds in
     let after = slice_set own (first + above) (counted count (state_at own (first + above))) in
     if not (differ (state_at states (first + i)).told holds)
     then (record { states = states; wakes = wakes; stirs = false })
-    else (if (node_of steps i).up == 0
+    else (if (step_at steps i).up == 0
     then (record { states = own; wakes = wakes; stirs = true })
-    else (go_on (gate_says (node_of steps above).node count) (λ says. climb n steps first above says after wakes)
+    else (go_on (gate_says (step_at steps above).node count) (λ says. climb n steps first above says after wakes)
     (λ slot. record { states = after; wakes = slice_set wakes slot 0; stirs = true })))
 
 -- there is a state for each step, each says within the code what it stands in, and there is each temporal one's slot

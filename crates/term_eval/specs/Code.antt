@@ -12,6 +12,7 @@ unfoldable pub many : Trees → ℕ
 many none = 0
 many (more c cs) = suc (many cs)
 
+-- a node and how far before it its parent stands
 abbrev pub step : Node → ℕ → Step
 step node up = record { node = node; up = up }
 

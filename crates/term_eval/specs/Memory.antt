@@ -1,5 +1,5 @@
--- What cells are: a slot for each temporal node, and how many nodes were visited; and what is kept of nodes: the state of each, and
--- for each slot when its node is to be looked at.
+-- What cells are: a slot for each temporal node, and how many nodes were visited; and what is kept of nodes: the state of
+-- each, and for each slot when its node is to be looked at.
 use Rattle.std.specs.Prelude.{ℕ, List}
 use Rattle.term_eval.specs.declared.memory.Cell.{Cell}
 use Rattle.term_eval.specs.declared.nodes.NodeState.{NodeState}

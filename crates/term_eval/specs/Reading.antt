@@ -2,7 +2,6 @@
 use Rattle.std.specs.Prelude.{◌≡◌, ◌≤◌, ℕ, Bool, false, ℤ, pos, Option, is_some}
 use Rattle.std.specs.Ordering.{int_eq}
 use Rattle.ecam_spec.specs.Term.{World, in_set, is_so, stands}
-use Rattle.ecam_kinds.specs.declared.phase.Phase.{Phase}
 use Rattle.term_eval.specs.Woken.{Operand}
 use Rattle.term_eval.specs.Woken.Operand.{value, phase, activity, key, health}
 use Rattle.term_eval.specs.declared.reading.Reading.{Reading}
@@ -18,16 +17,19 @@ Reads w k (activity a) r = r ≡ Flag (w.active a k)
 Reads w k (key x) r = r ≡ Flag (w.pressed x k)
 Reads w k (health n) r = r ≡ Flag (w.up n k)
 
+-- what a test of a parameter's value says; where no value is read, false
 abbrev pub value_read : Reading → (Option ℤ → Bool) → Bool
 value_read (Value v) test = test v
 value_read (InPhase p) test = false
 value_read (Flag b) test = false
 
+-- what a test of the phase's number says; where no phase is read, false
 abbrev pub phase_read : Reading → (ℕ → Bool) → Bool
 phase_read (Value v) test = false
 phase_read (InPhase p) test = test p.number
 phase_read (Flag b) test = false
 
+-- what a flag says; where none is read, false
 abbrev pub flag_read : Reading → Bool
 flag_read (Value v) = false
 flag_read (InPhase p) = false

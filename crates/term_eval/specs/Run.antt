@@ -1,5 +1,5 @@
 -- How the temporal nodes of a condition are gone through: from the last to the first, with a look at each that may turn.
-use Rattle.std.specs.Prelude.{◌≡◌, ℕ, suc, ◌+◌, ◌<◌, ◌≤◌, ◌&&◌, ◌||◌, not, min, nat_le, nat_lt, Bool, false, List, [], ◌∷◌, length, slice_get, slice_set, slice_index, Some, if◌then◌else◌}
+use Rattle.std.specs.Prelude.{◌≡◌, ℕ, suc, ◌+◌, ◌<◌, ◌&&◌, ◌||◌, not, min, nat_le, nat_lt, Bool, false, List, [], ◌∷◌, length, slice_get, slice_set, slice_index, Some, if◌then◌else◌}
 use Rattle.term_eval.specs.declared.memory.Cell.{Cell}
 use Rattle.term_eval.specs.declared.memory.Cell.TheVariants.{Off, On, At}
 use Rattle.term_eval.specs.declared.nodes.NodeState.{NodeState}
@@ -9,7 +9,7 @@ use Rattle.term_eval.specs.declared.code.Node.TheVariants.{Conf, Hold, Rise, Lat
 use Rattle.term_eval.specs.CellWords.{never, cell_at, on_if, is_on, at_last, start_by, last_by, end_of}
 use Rattle.term_eval.specs.OwnDue.{confirmed_due, held_due, risen_due}
 use Rattle.term_eval.specs.NodeState.{state_at}
-use Rattle.term_eval.specs.Climb.{climb, node_of, CanClimb}
+use Rattle.term_eval.specs.Climb.{climb, step_at, CanClimb}
 
 -- what is kept of the nodes, the cells, and the first of the due moments so far
 pub record Run : Type 0 where
@@ -23,12 +23,12 @@ abbrev pub second : Bool → ℕ → Bool
 second first count = if first then nat_lt 1 count else nat_lt 0 count
 
 -- what a temporal node says of whose children so many hold, and the first or not
-abbrev pub says : ℕ → List Cell → ℕ → Bool → Node → Bool
-says k cells count first (Conf n i) = nat_lt 0 count && nat_le (min (start_by (cell_at cells i) k + n) never) k
-says k cells count first (Hold n i) = nat_lt 0 count || nat_lt k (end_of (last_by (cell_at cells i) k) n)
-says k cells count first (Rise i) = nat_lt 0 count && not (is_on (cell_at cells i))
-says k cells count first (Latch i) = not (second first count) && (first || is_on (cell_at cells i))
-says k cells count first _ = false
+abbrev pub temporal_says : ℕ → List Cell → ℕ → Bool → Node → Bool
+temporal_says k cells count first (Conf n i) = nat_lt 0 count && nat_le (min (start_by (cell_at cells i) k + n) never) k
+temporal_says k cells count first (Hold n i) = nat_lt 0 count || nat_lt k (end_of (last_by (cell_at cells i) k) n)
+temporal_says k cells count first (Rise i) = nat_lt 0 count && not (is_on (cell_at cells i))
+temporal_says k cells count first (Latch i) = not (second first count) && (first || is_on (cell_at cells i))
+temporal_says k cells count first _ = false
 
 -- what becomes of the cells
 abbrev pub cells_after : ℕ → List Cell → ℕ → Bool → Node → List Cell
@@ -45,21 +45,22 @@ due_after k cells count (Hold n i) = held_due (nat_lt 0 count) (end_of (last_by 
 due_after k cells count (Rise i) = risen_due (nat_lt 0 count && not (is_on (cell_at cells i))) k
 due_after k cells count _ = never
 
-abbrev pub HasSlot : ℕ → Node → Type 0
-HasSlot slots (Conf n i) = i < slots
-HasSlot slots (Hold n i) = i < slots
-HasSlot slots (Rise i) = i < slots
-HasSlot slots (Latch i) = i < slots
-HasSlot slots _ = Unit {0}
+-- the node's slot, if it has one, is one of so many
+abbrev pub SlotWithin : ℕ → Node → Type 0
+SlotWithin slots (Conf n i) = i < slots
+SlotWithin slots (Hold n i) = i < slots
+SlotWithin slots (Rise i) = i < slots
+SlotWithin slots (Latch i) = i < slots
+SlotWithin slots _ = Unit {0}
 
 -- a look at node i of those from a place on, which has this slot
 unfoldable pub look : ℕ → List Step → ℕ → ℕ → ℕ → Run → Run
 look k steps first i slot s =
     let own = state_at s.states (first + i) in
     let first_child = (state_at s.states (first + i + 1)).told in
-    let node = (node_of steps i).node in
+    let node = (step_at steps i).node in
     let due = due_after k s.cells own.count node in
-    let done = climb (suc i) steps first i (says k s.cells own.count first_child node) s.states (slice_set s.wakes slot due) in
+    let done = climb (suc i) steps first i (temporal_says k s.cells own.count first_child node) s.states (slice_set s.wakes slot due) in
     record { states = done.states; wakes = done.wakes; cells = cells_after k s.cells own.count first_child node; due = min s.due due }
 
 -- one that isn't to be looked at yet is left as it is
@@ -79,7 +80,7 @@ pub record CanLook (steps : List Step) (first nodes slots cells i slot : ℕ) : 
   pub climb : CanClimb steps first nodes slots
   pub within : suc i < length steps
   pub room : slot < slots
-  pub has : HasSlot cells (node_of steps i).node
+  pub has : SlotWithin cells (step_at steps i).node
 
 -- the same of all
 abbrev pub CanPass : List Step → ℕ → ℕ → ℕ → ℕ → List ℕ → ℕ → Type 0

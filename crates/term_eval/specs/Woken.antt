@@ -40,6 +40,7 @@ unfoldable mutual
   operands_of none = []
   operands_of (more c cs) = operands c ++ operands_of cs
 
+-- they are not the same
 abbrev pub differ : Bool → Bool → Bool
 differ true b = not b
 differ false b = b

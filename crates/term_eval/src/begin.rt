@@ -3,7 +3,7 @@ ghost use Rattle.std.specs.Prelude.{◌≡◌, ◌+◌, ◌<◌, ◌≤◌, leng
 ghost use Rattle.term_eval.specs.CellWords.{never};
 ghost use Rattle.term_eval.specs.Climb.{told_as};
 ghost use Rattle.term_eval.specs.NodeState.{state_at};
-ghost use Rattle.term_eval.specs.Run.{cells_after, due_after, HasSlot};
+ghost use Rattle.term_eval.specs.Run.{cells_after, due_after, SlotWithin};
 ghost use Rattle.term_eval.specs.Begin.{answer, wakes_after, count_up, ask, ask_over, Has, CanAsk, AllCanAsk, unasked_from};
 
 use crate::code::{Node, Step};
@@ -41,7 +41,7 @@ fn answer(node: &Node, count: usize, first: bool, cells: &mut [Cell], env: &Env<
 
 // When a temporal node is to be looked at again.
 fn keep_wake(node: &Node, wakes: &mut [u64], due: u64)
-    requires { HasSlot (length wakes.old) node.now }
+    requires { SlotWithin (length wakes.old) node.now }
     ensures { wakes.new ≡ wakes_after node.now wakes.old due }
 {
     match node {

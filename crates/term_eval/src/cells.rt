@@ -9,7 +9,8 @@ ghost use Rattle.term_eval.specs.CellWords.{cell_at};
 ghost use Rattle.term_eval.specs.CellState.{Stand, StandForNone};
 ghost use Rattle.term_eval.specs.Due.{staying, IsDue};
 ghost use Rattle.term_eval.specs.Shown.{Shows};
-ghost use Rattle.term_eval.specs.Code.{IsReady, owners};
+ghost use Rattle.term_eval.specs.Code.{IsReady};
+ghost use Rattle.term_eval.specs.Code as coded;
 ghost use Rattle.term_eval.specs.NodeState.{NodesWait, NodesStand, Within, first_wake};
 ghost use Rattle.term_eval.specs.Asked.{heard};
 ghost use Rattle.term_eval.specs.Woken.{moved};
@@ -75,7 +76,7 @@ impl Cells {
         self.cells.copy_from_slice(&other.cells);
     }
 
-    /// How many nodes of conditions these cells were stepped for since they were made, up to 2^64 - 1.
+    /// How many visits of nodes were counted, up to 2^64 - 1.
     pub fn visits(&self) -> u64
         ensures { result ≡ self.now.visits }
     {
@@ -113,8 +114,8 @@ impl Cells {
         step(cond, &mut self.cells, &mut next, &mut self.visits, env, now)
     }
 
-    /// Steps a condition, whose slots start at `at`, by moment 0: by its code, as `refresh` steps it by its tree, with what is
-    /// kept of its nodes, which start at `first`. The cost is one visit of each node.
+    /// Steps a condition by moment 0: by its code, as `refresh` steps it by its tree, with what is kept of its nodes, which
+    /// start at `first`. The cost is one visit of each node.
     pub fn begin(&mut self, states: &mut Nodes, steps: &[Step], first: usize, env: &Env<'_>) -> Turn
         requires ready { (c : Tree) × (at : ℕ) × IsReady steps.now self.old states.old c at first
             × IsWithin (length env.now.values.now) (length env.now.active.now) c }
@@ -157,55 +158,54 @@ impl Cells {
         }
     }
 
-    /// Steps a condition, whose slots start at `at`, by a later moment, once each of its atoms that ask for an operand which reads
-    /// otherwise has been turned. Of its temporal nodes, which these are, only those are looked at that turn by themselves or
-    /// stand over one that turned. The cost is a look at each temporal node, and one at each node that turns and at those
-    /// right above.
+    /// Steps a condition, whose slots start at `at`, and whose temporal nodes these are, by a moment after the first, once
+    /// each of its atoms has been turned whose operand moves in it. The cost is a look at each temporal node, and one at each
+    /// node that turns and at those right above.
     pub fn run(
         &mut self,
         states: &mut Nodes,
         steps: &[Step],
         first: usize,
-        temporals: &[usize],
+        owners: &[usize],
         at: usize,
         now: u64,
     ) -> Turn
         requires ready { (c : Tree) × IsReady steps.now self.old states.old c at first
-            × (temporals.now ≡ owners 0 steps.now) }
+            × (owners.now ≡ coded.owners 0 steps.now) }
         requires now { now < 2 ^ 63 }
         ensures truth { (c : Tree) → IsReady steps.now self.old states.old c at first
-            → temporals.now ≡ owners 0 steps.now → (w : World) (h : ℕ) → now ≡ suc h
+            → owners.now ≡ coded.owners 0 steps.now → (w : World) (h : ℕ) → now ≡ suc h
             → Stand w now c at self.old.slots
             → NodesWait w h (heard (moved w now) c) c at first states.old
             → result.holds ≡ holds w c now }
         ensures due { (c : Tree) → IsReady steps.now self.old states.old c at first
-            → temporals.now ≡ owners 0 steps.now → (w : World) (h : ℕ) → now ≡ suc h
+            → owners.now ≡ coded.owners 0 steps.now → (w : World) (h : ℕ) → now ≡ suc h
             → Stand w now c at self.old.slots
             → NodesWait w h (heard (moved w now) c) c at first states.old
             → IsDue (staying w now) c now result.due }
         ensures wake { (c : Tree) → IsReady steps.now self.old states.old c at first
-            → temporals.now ≡ owners 0 steps.now → (w : World) (h : ℕ) → now ≡ suc h
+            → owners.now ≡ coded.owners 0 steps.now → (w : World) (h : ℕ) → now ≡ suc h
             → Stand w now c at self.old.slots
             → NodesWait w h (heard (moved w now) c) c at first states.old
             → result.due ≡ first_wake states.new.wakes at (slots c) }
         ensures stands { (c : Tree) → IsReady steps.now self.old states.old c at first
-            → temporals.now ≡ owners 0 steps.now → (w : World) (h : ℕ) → now ≡ suc h
+            → owners.now ≡ coded.owners 0 steps.now → (w : World) (h : ℕ) → now ≡ suc h
             → Stand w now c at self.old.slots
             → NodesWait w h (heard (moved w now) c) c at first states.old
             → Stand w (suc now) c at self.new.slots }
         ensures nodes { (c : Tree) → IsReady steps.now self.old states.old c at first
-            → temporals.now ≡ owners 0 steps.now → (w : World) (h : ℕ) → now ≡ suc h
+            → owners.now ≡ coded.owners 0 steps.now → (w : World) (h : ℕ) → now ≡ suc h
             → Stand w now c at self.old.slots
             → NodesWait w h (heard (moved w now) c) c at first states.old
             → NodesStand w now c at first states.new }
         ensures within { (c : Tree) → IsReady steps.now self.old states.old c at first
-            → temporals.now ≡ owners 0 steps.now
+            → owners.now ≡ coded.owners 0 steps.now
             → Within first (first + nodes c) at (at + slots c) states.old states.new }
         ensures before { (c : Tree) → IsReady steps.now self.old states.old c at first
-            → temporals.now ≡ owners 0 steps.now
+            → owners.now ≡ coded.owners 0 steps.now
             → (i : ℕ) → i < at → cell_at self.new.slots i ≡ cell_at self.old.slots i }
         ensures behind { (c : Tree) → IsReady steps.now self.old states.old c at first
-            → temporals.now ≡ owners 0 steps.now
+            → owners.now ≡ coded.owners 0 steps.now
             → (i : ℕ) → at + slots c ≤ i → cell_at self.new.slots i ≡ cell_at self.old.slots i }
         ensures len { length self.new.slots ≡ length self.old.slots }
         ensures visits { self.new.visits ≡ self.old.visits }
@@ -213,7 +213,7 @@ impl Cells {
         let due = pass(
             steps,
             first,
-            temporals,
+            owners,
             at,
             &mut states.states,
             &mut states.wakes,

@@ -1,7 +1,5 @@
 // A node that turned is told to the gates above it.
-ghost use Rattle.std.specs.Prelude.{◌≡◌, ◌+◌, ◌<◌, ◌≤◌, ℕ, false, length, if◌then◌else◌, nat_le, nat_lt, ◌==◌};
-ghost use Rattle.ecam_spec.specs.Book.{Tree};
-ghost use Rattle.ecam_spec.specs.TermSize.{nodes};
+ghost use Rattle.std.specs.Prelude.{◌≡◌, ◌+◌, ◌<◌, false, length, ◌==◌};
 ghost use Rattle.term_eval.specs.Climb.{climb, count_with, gate_says, CanClimb};
 
 use crate::code::{Node, Step};
@@ -36,8 +34,9 @@ fn gate_says(node: &Node, count: usize) -> Result<bool, usize>
 }
 
 /// Node `node` of a condition, whose nodes start at `first`, says so from now on. Where it said otherwise, the node above it
-/// counts it, and is told in turn if it is a gate, and so on; a temporal node is to be looked at. Answers whether there is such
-/// a one, or the first node turned.
+/// counts it, and is told in turn if it is a gate, and so on; a temporal node is to be looked at. Answers whether there is
+/// such a one, or the first node turned.
+#[inline(always)]
 pub fn climb(
     states: &mut [NodeState],
     wakes: &mut [u64],

@@ -3,7 +3,8 @@
 ghost use Rattle.std.specs.Prelude.{◌≡◌, ◌+◌, ◌<◌, ◌≤◌, ◌^◌, ◌++◌, [], ◌∷◌, length, OnOk};
 ghost use Rattle.ecam_spec.specs.TermSize.{slots, slots_of};
 ghost use Rattle.term_tree.specs.View.{tree_of, trees_of};
-ghost use Rattle.term_eval.specs.Code.{code, codes, step, owners, has_slot, IsShort, AreShort};
+ghost use Rattle.term_eval.specs.Code.{code, codes, step, has_slot, IsShort, AreShort};
+ghost use Rattle.term_eval.specs.Code as coded;
 
 use ecam_kinds::{Key, PhaseSet};
 use std::alloc::AllocError;
@@ -65,14 +66,14 @@ pub fn add_code(steps: &mut Vec<Step>, cond: &Cond, at: usize) -> Result<(), All
     add_node(steps, cond, 0, &mut next)
 }
 
-/// Puts the numbers of a code's temporal nodes behind those that are there, in the order of their slots. Its cost is one visit of
-/// each step. An error is want of memory.
-pub fn add_owners(temporals: &mut Vec<usize>, steps: &[Step]) -> Result<(), AllocError>
-    ensures { OnOk result (temporals.new.items ≡ temporals.old.items ++ owners 0 steps.now) }
+/// Puts the numbers of a code's temporal nodes behind those that are there, in the order of their slots. Its cost is one
+/// visit of each step. An error is want of memory.
+pub fn add_owners(owners: &mut Vec<usize>, steps: &[Step]) -> Result<(), AllocError>
+    ensures { OnOk result (owners.new.items ≡ owners.old.items ++ coded.owners 0 steps.now) }
 {
     for (i, step) in steps.iter().enumerate() {
         if has_slot(&step.node) {
-            temporals.push(i)?;
+            owners.push(i)?;
         }
     }
     Ok(())

@@ -47,8 +47,9 @@ pub fn code_asks_for_what_the_condition_asks_for()
         → map (λ (s : Step). node_asks s.node) (code at up c) ≡ asked c }
 {}
 
-/// Where no temporal node of a condition is to be looked at in a moment, once each atom was asked whose operand moves, all stands
-/// for one moment more as it is: its first node tells its truth, and it is due when the first of its temporal nodes is.
+/// Where no temporal node of a condition is to be looked at in a moment, once each atom was updated whose operand moves, all
+/// stands for one moment more as it is: its first node tells its truth, and it is due when the first of its temporal nodes
+/// is.
 pub fn a_condition_that_is_not_stirred_stands()
     ensures truth { (w : World) (h : ℕ) (c : Tree) (at first : ℕ) (n : NodeMemory)
         → suc h < 2 ^ 63 → IsShort c → NodesWait w h (heard (moved w (suc h)) c) c at first n
@@ -71,16 +72,16 @@ pub fn a_condition_that_is_not_stirred_stands()
 
 /// What is kept of the nodes of a condition rests on their own states and slots alone.
 pub fn nodes_wait_by_their_own_states()
-    ensures { (w : World) (h : ℕ) (asked : ℕ → Bool) (c : Tree) (at first : ℕ)
+    ensures { (w : World) (h : ℕ) (updated : ℕ → Bool) (c : Tree) (at first : ℕ)
         (old new : NodeMemory)
         → ((i : ℕ) → first ≤ i → i < first + nodes c
         → state_at new.states i ≡ state_at old.states i)
         → ((s : ℕ) → at ≤ s → s < at + slots c
         → slice_index new.wakes s ≡ slice_index old.wakes s)
-        → NodesWait w h asked c at first old → NodesWait w h asked c at first new }
+        → NodesWait w h updated c at first old → NodesWait w h updated c at first new }
 {}
 
-/// And it rests on which of its own nodes have been asked.
+/// Of which nodes have been updated, it rests on the condition's own alone.
 pub fn nodes_wait_by_whom_was_asked()
     ensures { (w : World) (h : ℕ) (old new : ℕ → Bool) (c : Tree) (at first : ℕ) (n : NodeMemory)
         → ((i : ℕ) → i < nodes c → new i ≡ old i)

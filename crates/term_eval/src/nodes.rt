@@ -1,11 +1,11 @@
-// What is kept of the nodes of conditions, so that a moment looks again at those alone that may turn.
-ghost use Rattle.std.specs.Prelude.{◌≡◌, ℕ, suc, ◌<◌, ◌+◌, Bool, false, length, slice_index, IfOk};
+// What is kept of the nodes of conditions from one moment to the next.
+ghost use Rattle.std.specs.Prelude.{◌≡◌, ℕ, suc, ◌<◌, ◌+◌, Bool, false, length, IfOk};
 ghost use Rattle.ecam_spec.specs.Book.{Tree};
 ghost use Rattle.ecam_spec.specs.Term.{World};
 ghost use Rattle.ecam_spec.specs.TermSize.{slots, nodes};
 ghost use Rattle.term_eval.specs.Asked.{Asks, AreAtoms};
 ghost use Rattle.term_eval.specs.Code.{IsHeld};
-ghost use Rattle.term_eval.specs.NodeState.{state_at, NodesWait, also, Within};
+ghost use Rattle.term_eval.specs.NodeState.{state_at, unasked, NodesWait, also, Within};
 ghost use Rattle.term_eval.specs.Reading.{IsReading, Reads};
 ghost use Rattle.term_eval.specs.Woken.{Operand};
 
@@ -25,9 +25,8 @@ pub struct NodeState {
     pub told: bool,
 }
 
-/// The states of all nodes of some conditions, one behind another in the order of their codes, and for each slot when its
-/// temporal node is to be looked at: in the moment in which it turns by itself, or, as 0, in the next. They can't grow after
-/// they were made.
+/// The states of the nodes of some conditions, one behind another in the order of their codes, and for each slot the moment
+/// in which its temporal node turns by itself, or 0 where the next moment is to look at it.
 #[derive(Drop)]
 pub struct Nodes {
     pub(crate) states: BoxedSlice<NodeState>,
@@ -48,7 +47,7 @@ impl Model for Nodes {
 
 // A node before the first moment.
 pub(crate) fn unasked() -> NodeState
-    ensures { result ≡ record { count = 0; told = false } }
+    ensures { result ≡ unasked }
 {
     NodeState {
         count: 0,
@@ -57,7 +56,7 @@ pub(crate) fn unasked() -> NodeState
 }
 
 impl Nodes {
-    /// States for so many nodes and slots, of which nothing is said before the first moment. An error is want of memory.
+    /// What is kept of so many nodes and slots. An error is want of memory.
     pub fn new(alloc: Global, count: usize, slots: usize) -> Result<Nodes, AllocError>
         ensures nodes { IfOk result (λ n. length n.states ≡ count) }
         ensures slots { IfOk result (λ n. length n.wakes ≡ slots) }
@@ -78,19 +77,20 @@ impl Nodes {
         self.wakes.copy_from_slice(&other.wakes);
     }
 
-    /// The operand of node `node` of a condition, whose nodes start at `first`, reads otherwise than in the moment before: the
-    /// node is told, and with it each node right above one that turned, up to a temporal one, which is then to be looked at.
-    /// Answers whether there is such a one, or the condition itself turned. Its cost is a look at each of these nodes.
+    /// The operand of node `node` of a condition, whose nodes start at `first`, reads so in a moment: the node is told, and
+    /// with it each node right above one that turned, up to a temporal one, which is then to be looked at. `false` says that
+    /// no temporal node is to be looked at that wasn't, and that the condition's first node tells what it told. Its cost is a
+    /// look at each of these nodes.
     #[inline(always)]
     pub fn turn(&mut self, steps: &[Step], first: usize, node: usize, reading: Reading) -> bool
         requires held { (c : Tree) × (at : ℕ) × IsHeld steps.now self.old c at first
             × (node < nodes c) }
         requires reading { IsReading reading }
         ensures waits { (c : Tree) (at : ℕ) → IsHeld steps.now self.old c at first
-            → (w : World) (h : ℕ) (asked : ℕ → Bool) (x : Operand) → AreAtoms c asked
+            → (w : World) (h : ℕ) (updated : ℕ → Bool) (x : Operand) → AreAtoms c updated
             → Asks c node x → Reads w (suc h) x reading
-            → NodesWait w h asked c at first self.old
-            → NodesWait w h (also node asked) c at first self.new }
+            → NodesWait w h updated c at first self.old
+            → NodesWait w h (also node updated) c at first self.new }
         ensures within { (c : Tree) (at : ℕ) → IsHeld steps.now self.old c at first
             → Within first (first + nodes c) at (at + slots c) self.old self.new }
         ensures wakes { result ≡ false → self.new.wakes ≡ self.old.wakes }

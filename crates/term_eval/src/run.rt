@@ -1,7 +1,7 @@
 // A condition is stepped by its code: its temporal nodes are looked at again that may turn, from the last to the first.
-ghost use Rattle.std.specs.Prelude.{◌≡◌, ◌<◌, ◌≤◌, ◌+◌, ◌^◌, ℕ, min, length};
+ghost use Rattle.std.specs.Prelude.{◌≡◌, ◌<◌, ◌+◌, min, length};
 ghost use Rattle.term_eval.specs.CellWords.{never};
-ghost use Rattle.term_eval.specs.Run.{look, look_or_leave, pass_over, says, due_after, cells_after, HasSlot, CanLook, CanPass};
+ghost use Rattle.term_eval.specs.Run.{look, look_or_leave, pass_over, temporal_says, due_after, cells_after, SlotWithin, CanLook, CanPass};
 
 use crate::climb::climb;
 use crate::code::{Node, Step};
@@ -21,8 +21,8 @@ pub fn earlier(due: &mut u64, own: u64)
 /// says anything here.
 #[inline(always)]
 pub fn tell(node: &Node, count: usize, first: bool, cells: &mut [Cell], now: u64) -> Turn
-    requires { HasSlot (length cells.old) node.now }
-    ensures holds { result.holds ≡ says now cells.old count first node.now }
+    requires { SlotWithin (length cells.old) node.now }
+    ensures holds { result.holds ≡ temporal_says now cells.old count first node.now }
     ensures due { result.due ≡ due_after now cells.old count node.now }
     ensures cells { cells.new ≡ cells_after now cells.old count first node.now }
 {
@@ -110,7 +110,7 @@ fn look_or_leave(
 pub fn pass(
     steps: &[Step],
     first: usize,
-    temporals: &[usize],
+    owners: &[usize],
     at: usize,
     states: &mut [NodeState],
     wakes: &mut [u64],
@@ -118,9 +118,9 @@ pub fn pass(
     now: u64,
 ) -> u64
     requires { CanPass steps.now first (length states.old) (length wakes.old) (length cells.old)
-        temporals.now at }
+        owners.now at }
     ensures { record { states = states.new; wakes = wakes.new; cells = cells.new; due = result }
-        ≡ pass_over now steps.now first temporals.now at (record {
+        ≡ pass_over now steps.now first owners.now at (record {
           states = states.old;
           wakes = wakes.old;
           cells = cells.old;
@@ -128,10 +128,10 @@ pub fn pass(
         }) }
 {
     let mut due = NEVER;
-    let mut slot = temporals.len();
+    let mut slot = owners.len();
     while slot > 0 {
         slot -= 1;
-        let node = temporals[slot];
+        let node = owners[slot];
         look_or_leave(
             steps,
             first,

@@ -100,8 +100,8 @@ fn answers_by_code(
     requires names { IsWithin 3 0 (tree_of cond.now) }
 {
     let steps = code_of(alloc, cond)?;
-    let mut temporals = Vec::new(alloc);
-    add_owners(&mut temporals, &steps)?;
+    let mut owners = Vec::new(alloc);
+    add_owners(&mut owners, &steps)?;
     let mut nodes = Nodes::new(alloc, steps.len(), 2)?;
     let mut cells = Cells::new(alloc, 2)?;
     let keys = Keys::new();
@@ -125,7 +125,7 @@ fn answers_by_code(
         };
         hear(&mut nodes, &steps, &values, &next);
         values = next;
-        let turn = cells.run(&mut nodes, &steps, 0, &temporals, 0, moment as u64);
+        let turn = cells.run(&mut nodes, &steps, 0, &owners, 0, moment as u64);
         found[moment] = turn.holds;
         dues[moment] = turn.due;
     }
@@ -149,8 +149,8 @@ fn code_tells_what_the_tree_tells(rt: HostRuntime) -> Result<(), Fail> {
     Ok(())
 }
 
-// A node that isn't told is left alone: a that holds in moment 1 alone is never seen where only the first moment is heard, and is
-// seen to go where moment 3 is heard.
+// A node that isn't told is left alone: a that holds in moment 1 alone is never seen where only the first moment is heard,
+// and is seen to go where moment 3 is heard.
 #[test]
 fn leaves_what_is_not_told(rt: HostRuntime) -> Result<(), Fail> {
     let alloc = rt.alloc();

@@ -1,3 +1,4 @@
 pub mod Bits
+pub mod Joining
 pub mod Sifting
 pub mod Descent

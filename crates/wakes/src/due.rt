@@ -61,7 +61,8 @@ impl Wakes {
         }
     }
 
-    /// Gives a number another key. Its cost is at most one comparison for each doubling of how many numbers there are.
+    /// Gives a number a key. Its cost is one comparison where it has that key, else at most two more for each doubling of how
+    /// many numbers there are.
     pub fn set(&mut self, item: usize, key: u64)
         requires { item < length self.old }
         ensures { self.new ≡ slice_set self.old item key }
@@ -95,7 +96,7 @@ fn size_for(count: usize) -> (usize, usize)
     (width, depth)
 }
 
-// Puts a key into its leaf, and mends the nodes above it, up to the first that is right as it is.
+// Puts a key into its leaf, where it is another, and mends the nodes above it, up to the first that is right as it is.
 fn put_key(nodes: &mut [u64], width: usize, leaf: usize, key: u64)
     requires low { width ≤ leaf }
     requires high { leaf < 2 * width }
@@ -106,6 +107,9 @@ fn put_key(nodes: &mut [u64], width: usize, leaf: usize, key: u64)
     ensures leaves { (i : ℕ) → width ≤ i → slice_index nodes.new i
         ≡ slice_index (slice_set nodes.old leaf key) i }
 {
+    if nodes[leaf] == key {
+        return;
+    }
     let mut node = leaf;
     nodes[leaf] = key;
     while node > 1 {

@@ -40,7 +40,8 @@ impl Marked {
         })
     }
 
-    /// Takes all numbers out. Its cost is one look where there are none, else one write for each 64 numbers.
+    /// Takes all numbers out. Its cost is one look where none was put in since the last time, else one write for each 64
+    /// numbers.
     pub fn clear(&mut self)
         ensures room { room self.new ≡ room self.old }
         ensures none { (i : ℕ) → is_marked self.new i ≡ false }
@@ -70,6 +71,31 @@ impl Marked {
         self.end = self.end.max(i + 1);
     }
 
+    /// Puts a number in, and answers whether it wasn't in before. Its cost is one look, and one write where it wasn't.
+    pub fn put(&mut self, i: usize) -> bool
+        requires { i < room self.old }
+        ensures new { result ≡ not (is_marked self.old i) }
+        ensures room { room self.new ≡ room self.old }
+        ensures marks { (j : ℕ) → is_marked self.new j ≡ (j == i || is_marked self.old j) }
+    {
+        if self.has(i) {
+            return false;
+        }
+        self.mark(i);
+        true
+    }
+
+    /// Puts in all numbers of another set of the same room. Its cost is one write for each 64 numbers.
+    pub fn join(&mut self, other: &Marked)
+        requires { room self.old ≡ room other.now }
+        ensures room { room self.new ≡ room self.old }
+        ensures marks { (j : ℕ) → is_marked self.new j
+            ≡ (is_marked self.old j || is_marked other.now j) }
+    {
+        join_words(&mut self.words, &other.words);
+        self.end = self.end.max(other.end);
+    }
+
     /// Takes a number out. Its cost is one write.
     pub fn unmark(&mut self, i: usize)
         requires { i < room self.old }
@@ -88,7 +114,8 @@ impl Marked {
     }
 
     /// The first number of the set from `from` on. Its cost is one look for each 64 numbers that it goes over; one alone
-    /// where `from` lies behind each number that was put in since the set was empty.
+    /// where `from` lies behind each number that was put in since it was cleared, here or in a set that was joined or taken
+    /// over.
     pub fn first_from(&self, from: usize) -> Option<usize>
         ensures { Finds self.now from result }
     {
@@ -101,6 +128,18 @@ impl Marked {
             return Some(from + lowest(rest));
         }
         first_in(&self.words, place + 1)
+    }
+}
+
+// Puts the bits of other words in.
+fn join_words(words: &mut [u64], others: &[u64])
+    requires { room words.old ≡ room others.now }
+    ensures room { room words.new ≡ room words.old }
+    ensures marks { (j : ℕ) → is_marked words.new j
+        ≡ (is_marked words.old j || is_marked others.now j) }
+{
+    for i in 0..others.len() {
+        words[i] |= others[i];
     }
 }
 

@@ -15,6 +15,14 @@ fn goes_through_in_order(rt: HostRuntime) -> Result<(), Fail> {
     assert_eq!(rt; marked.has(64), false);
     assert_eq!(rt; marked.first_from(4), Some(130));
     assert_eq!(rt; marked.first_from(131), None);
+    assert_eq!(rt; marked.put(130), false);
+    assert_eq!(rt; marked.put(7), true);
+    assert_eq!(rt; marked.first_from(4), Some(7));
+    let mut others = Marked::new(rt.alloc(), 200)?;
+    others.mark(199);
+    others.join(&marked);
+    assert_eq!(rt; others.first_from(8), Some(130));
+    assert_eq!(rt; others.first_from(131), Some(199));
     marked.clear();
     assert_eq!(rt; marked.first_from(0), None);
     Ok(())

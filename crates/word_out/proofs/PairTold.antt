@@ -20,7 +20,7 @@ use Rattle.attention.proofs.Heard.{lights-told}
 use Rattle.fwc_lane.specs.declared.lane.Lane.{Lane}
 use Rattle.fwc_lane.specs.LaneStands.{WholeStands, LaneStands}
 use Rattle.fwc_pair.specs.declared.pair.Pair.{Pair}
-use Rattle.fwc_pair.specs.PairState.{flags_of, PairStands}
+use Rattle.fwc_pair.specs.PairState.{flags_of, UpStand, PairStands}
 use Rattle.view_spec.specs.Ticks.{last_moment}
 use Rattle.view_spec.specs.OutputWords.{label_of, sdi_of, status_data, group_data, shown_flags, data_in, word_at}
 use Rattle.word_out.specs.Told.{lane_data, pair_word}
@@ -82,6 +82,7 @@ module _ (b : Book) (h : List Event) (p : Pair) (st : PairStands b (h ++ Tick �
   now = h ++ Tick ∷ []
 
   first_up : none_up (flags_of p) ≡ false → LaneStands b (era now) (cond p.one_up p.one p.two)
+  unfolding UpStand
   first_up up =
       (elim p.one_up as (λ x. p.one_up ≡ x → not (x || p.two_up) ≡ false → LaneStands b (era now) (cond x p.one p.two)) [
         | true ↦ λ is some. st.up.one is

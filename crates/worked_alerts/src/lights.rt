@@ -7,6 +7,8 @@ use super::small_book;
 use attention::Attention;
 use book_model::Book;
 use ecam_kinds::{Key, Keys, Sound};
+use std::alloc::Global;
+use std::process::Abort;
 use std::test::Fail;
 
 const NONE: u8 = 0;
@@ -98,10 +100,33 @@ fn turn(
     attention.copy_from(other);
 }
 
+/// Who is up, who is shown, the keys; then whether MASTER WARN and MASTER CAUT are lit, and the sound.
+type Row = (u8, u8, u8, bool, bool, Sound);
+
+fn rows_hold(rt: &impl Abort, alloc: Global, rows: &[Row]) -> Result<(), Fail>
+    requires { length rows.now ≤ 64 }
+{
+    let book = small_book(alloc)?;
+    assert_eq!(rt; book.alerts().len(), 5);
+    let mut attention = Attention::new(alloc, &book)?;
+    let mut other = Attention::new(alloc, &book)?;
+    let mut before = (false, false, Sound::Quiet);
+    for row in 0..rows.len() {
+        let (up, shown, pressed, warn, caut, sound) = rows[row];
+        turn(&mut attention, &mut other, &book, up, shown, pressed);
+        assert_eq!(rt; attention.warn(), warn, "row {row}");
+        assert_eq!(rt; attention.caut(), caut, "row {row}");
+        assert_eq!(rt; attention.sound(), sound, "row {row}");
+        let changed = pressed != START && before != (warn, caut, sound);
+        assert_eq!(rt; attention.changed(), changed, "row {row}");
+        before = (warn, caut, sound);
+    }
+    Ok(())
+}
+
 #[test]
-fn lights_and_sounds_are_what_the_rules_say(rt: HostRuntime) -> Result<(), Fail> {
-    // Who is up, who is shown, the keys; then whether MASTER WARN and MASTER CAUT are lit, and the sound.
-    let rows: [(u8, u8, u8, bool, bool, Sound); 72] = [
+fn a_chime_ends_by_itself(rt: HostRuntime) -> Result<(), Fail> {
+    let rows: [Row; 16] = [
         // a chime ends by itself after five moments
         (NONE, NONE, START, false, false, Sound::Quiet),
         (NONE, NONE, NONE, false, false, Sound::Quiet),
@@ -112,6 +137,21 @@ fn lights_and_sounds_are_what_the_rules_say(rt: HostRuntime) -> Result<(), Fail>
         (CHIMING, CHIMING, NONE, false, true, Sound::Chime),
         (CHIMING, CHIMING, NONE, false, true, Sound::Quiet),
         (CHIMING, CHIMING, REST, false, true, Sound::Quiet),
+        // and by nothing else while nothing comes
+        (NONE, NONE, START, false, false, Sound::Quiet),
+        (CHIMING, CHIMING, NONE, false, true, Sound::Chime),
+        (CHIMING, CHIMING, REST, false, true, Sound::Chime),
+        (CHIMING, CHIMING, REST, false, true, Sound::Chime),
+        (CHIMING, CHIMING, REST, false, true, Sound::Chime),
+        (CHIMING, CHIMING, REST, false, true, Sound::Chime),
+        (CHIMING, CHIMING, REST, false, true, Sound::Quiet),
+    ];
+    rows_hold(&rt, rt.alloc(), &rows)
+}
+
+#[test]
+fn a_chime_ends_by_a_key_or_with_its_alert(rt: HostRuntime) -> Result<(), Fail> {
+    let rows: [Row; 11] = [
         // by MASTER CAUT, which doesn't act on an onset of its own moment; a second onset is as good as the first
         (NONE, NONE, START, false, false, Sound::Quiet),
         (CHIMING, CHIMING, MC, false, true, Sound::Chime),
@@ -125,14 +165,13 @@ fn lights_and_sounds_are_what_the_rules_say(rt: HostRuntime) -> Result<(), Fail>
         (NONE, NONE, NONE, false, false, Sound::Quiet),
         (CHIMING, CHIMING, EMER, false, true, Sound::Chime),
         (NONE, NONE, NONE, false, false, Sound::Quiet),
-        // and by nothing else while nothing comes
-        (NONE, NONE, START, false, false, Sound::Quiet),
-        (CHIMING, CHIMING, NONE, false, true, Sound::Chime),
-        (CHIMING, CHIMING, REST, false, true, Sound::Chime),
-        (CHIMING, CHIMING, REST, false, true, Sound::Chime),
-        (CHIMING, CHIMING, REST, false, true, Sound::Chime),
-        (CHIMING, CHIMING, REST, false, true, Sound::Chime),
-        (CHIMING, CHIMING, REST, false, true, Sound::Quiet),
+    ];
+    rows_hold(&rt, rt.alloc(), &rows)
+}
+
+#[test]
+fn the_first_shown_warning_sounds(rt: HostRuntime) -> Result<(), Fail> {
+    let rows: [Row; 10] = [
         // the first warning in order sounds, of those that are shown; MASTER CAUT acknowledges none
         (NONE, NONE, START, false, false, Sound::Quiet),
         (SECOND, SECOND, NONE, true, false, Sound::Cavalry),
@@ -179,6 +218,13 @@ fn lights_and_sounds_are_what_the_rules_say(rt: HostRuntime) -> Result<(), Fail>
             false,
             Sound::Quiet,
         ),
+    ];
+    rows_hold(&rt, rt.alloc(), &rows)
+}
+
+#[test]
+fn a_warning_sounds_over_a_chime(rt: HostRuntime) -> Result<(), Fail> {
+    let rows: [Row; 8] = [
         // a warning sounds over a chime, and the chime goes on behind it
         (NONE, NONE, START, false, false, Sound::Quiet),
         (
@@ -237,6 +283,13 @@ fn lights_and_sounds_are_what_the_rules_say(rt: HostRuntime) -> Result<(), Fail>
             false,
             Sound::Quiet,
         ),
+    ];
+    rows_hold(&rt, rt.alloc(), &rows)
+}
+
+#[test]
+fn an_onset_counts_while_its_alert_is_hidden(rt: HostRuntime) -> Result<(), Fail> {
+    let rows: [Row; 7] = [
         // an onset counts while its alert isn't shown, and a press acknowledges it
         (NONE, NONE, START, false, false, Sound::Quiet),
         (CHIMING | WARNING, NONE, NONE, false, false, Sound::Quiet),
@@ -266,6 +319,13 @@ fn lights_and_sounds_are_what_the_rules_say(rt: HostRuntime) -> Result<(), Fail>
             true,
             Sound::Quiet,
         ),
+    ];
+    rows_hold(&rt, rt.alloc(), &rows)
+}
+
+#[test]
+fn what_is_not_up_lights_nothing(rt: HostRuntime) -> Result<(), Fail> {
+    let rows: [Row; 11] = [
         // what is shown and not up lights nothing, whatever its last onset
         (NONE, NONE, START, false, false, Sound::Quiet),
         (
@@ -292,17 +352,6 @@ fn lights_and_sounds_are_what_the_rules_say(rt: HostRuntime) -> Result<(), Fail>
             true,
             Sound::Quiet,
         ),
-        // one warning, and MASTER WARN
-        (NONE, NONE, START, false, false, Sound::Quiet),
-        (WARNING, WARNING, NONE, true, false, Sound::Repetitive),
-        (WARNING, WARNING, MW, false, false, Sound::Quiet),
-        // which doesn't act on an onset of its own moment, but on one of the moment before, as MASTER CAUT does
-        (NONE, NONE, START, false, false, Sound::Quiet),
-        (WARNING, WARNING, MW, true, false, Sound::Repetitive),
-        (WARNING, WARNING, MW, false, false, Sound::Quiet),
-        (NONE, NONE, START, false, false, Sound::Quiet),
-        (CHIMING, CHIMING, NONE, false, true, Sound::Chime),
-        (CHIMING, CHIMING, MC, false, false, Sound::Quiet),
         // a recalled alert is silent until it comes up
         (NONE, NONE, START, false, false, Sound::Quiet),
         (NONE, CHIMING, NONE, false, false, Sound::Quiet),
@@ -327,21 +376,23 @@ fn lights_and_sounds_are_what_the_rules_say(rt: HostRuntime) -> Result<(), Fail>
             Sound::Quiet,
         ),
     ];
-    let alloc = rt.alloc();
-    let book = small_book(alloc)?;
-    assert_eq!(rt; book.alerts().len(), 5);
-    let mut attention = Attention::new(alloc, &book)?;
-    let mut other = Attention::new(alloc, &book)?;
-    let mut before = (false, false, Sound::Quiet);
-    for row in 0..rows.len() {
-        let (up, shown, pressed, warn, caut, sound) = rows[row];
-        turn(&mut attention, &mut other, &book, up, shown, pressed);
-        assert_eq!(rt; attention.warn(), warn, "row {row}");
-        assert_eq!(rt; attention.caut(), caut, "row {row}");
-        assert_eq!(rt; attention.sound(), sound, "row {row}");
-        let changed = pressed != START && before != (warn, caut, sound);
-        assert_eq!(rt; attention.changed(), changed, "row {row}");
-        before = (warn, caut, sound);
-    }
-    Ok(())
+    rows_hold(&rt, rt.alloc(), &rows)
+}
+
+#[test]
+fn a_key_acts_on_the_onsets_before_its_moment(rt: HostRuntime) -> Result<(), Fail> {
+    let rows: [Row; 9] = [
+        // one warning, and MASTER WARN
+        (NONE, NONE, START, false, false, Sound::Quiet),
+        (WARNING, WARNING, NONE, true, false, Sound::Repetitive),
+        (WARNING, WARNING, MW, false, false, Sound::Quiet),
+        // which doesn't act on an onset of its own moment, but on one of the moment before, as MASTER CAUT does
+        (NONE, NONE, START, false, false, Sound::Quiet),
+        (WARNING, WARNING, MW, true, false, Sound::Repetitive),
+        (WARNING, WARNING, MW, false, false, Sound::Quiet),
+        (NONE, NONE, START, false, false, Sound::Quiet),
+        (CHIMING, CHIMING, NONE, false, true, Sound::Chime),
+        (CHIMING, CHIMING, MC, false, false, Sound::Quiet),
+    ];
+    rows_hold(&rt, rt.alloc(), &rows)
 }

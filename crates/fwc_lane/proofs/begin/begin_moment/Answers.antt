@@ -1,10 +1,11 @@
-use Rattle.std.proofs.Common.{◌≡◌, ◌||◌, ◌&&◌, ◌+◌, ◌-◌, ℕ, if◌then◌else◌, length, ap, subst, ◌∙◌, arith, eqb}
+use Rattle.std.proofs.Common.{◌≡◌, ◌||◌, ◌&&◌, ◌+◌, ◌-◌, ℕ, if◌then◌else◌, length, sym, ap, subst, ◌∙◌, arith, eqb}
 use Rattle.ecam_spec.specs.Situation.{words_in}
 use Rattle.book_model.specs.Sealed.{the_book}
 use Rattle.term_eval.specs.Woken.{differ}
 use Rattle.term_eval.specs.declared.reading.Reading.{Reading}
 use Rattle.term_eval.specs.declared.reading.Reading.TheVariants.{Flag}
 use Rattle.ecam_kinds.specs.declared.keys.Keys.{Keys}
+use Rattle.condition_codes.specs.IsCodes.{IsCodes}
 use Rattle.fwc_lane.specs.declared.terms.Terms.{Terms}
 use Rattle.fwc_lane.specs.Waking.{HasWoken, ranged, value_turned, key_turned, key_read}
 use Rattle.fwc_lane.proofs.Beginning.{half-due, awake-given, begins}
@@ -24,7 +25,7 @@ returns-clause-begins c = λ m came stands before.
     let two = differ c.args.two_up old.two_up in
     let read : Terms = c.read_values-any.new.terms in
     let told : Terms = c.wake_keys.new.terms in
-    let first : Terms = record old { woken = c.wake_first.new.woken; stirred = c.wake_first.new.stirred; dues = c.wake_first.new.dues } in
+    let first : Terms = record old { woken = c.wake_first.new.woken; stirred = c.wake_first.new.stirred; dues = c.wake_first.new.dues; cells = c.wake_first.new.cells } in
     let same-keys : read.keys ≡ old.keys = ap (λ (t : Terms). t.keys) c.read_values-any.ensures.wakes.rest in
     let from = length b.parameters + length b.alerts + 1 in
     let reads : ℕ → Reading = λ o. key_read c.args.keys.now (o - from) in
@@ -38,11 +39,13 @@ returns-clause-begins c = λ m came stands before.
     (λ o. Flag (if eqb o (length b.parameters + length b.alerts + 26) then c.args.one_up else c.args.two_up)) told c.wake_computers.new.terms) was-two
     (subst (λ up. HasWoken b (λ o. (differ c.args.one_up up && eqb o (length b.parameters + length b.alerts + 26)) || (differ c.args.two_up told.two_up && eqb o (length b.parameters + length b.alerts + 27)))
     (λ o. Flag (if eqb o (length b.parameters + length b.alerts + 26) then c.args.one_up else c.args.two_up)) told c.wake_computers.new.terms) was-one c.wake_computers.ensures.wakes) in
-    let half = half-due b m k c.requires.now old c.wake_first.new.woken c.wake_first.new.stirred c.wake_first.new.dues c.requires.fits stands
+    let half = half-due b m k c.requires.now old c.wake_first.new.woken c.wake_first.new.stirred c.wake_first.new.dues c.wake_first.new.cells c.requires.fits stands
     (λ e j lt. c.wake_first.ensures.first e j (omega (arith, lt, c.len.ensures, old.truths.ok.0)))
     (λ h e j lt. c.wake_first.ensures.marks h e j (omega (arith, lt, c.len.ensures, old.truths.ok.0)))
-    (λ j lt. c.wake_first.ensures.same j (omega (arith, lt, c.len.ensures, old.truths.ok.0)))
-    (λ j lt off. c.wake_first.ensures.dues j (omega (arith, lt, c.len.ensures, old.truths.ok.0)) off) in
+    (λ j lt. c.wake_first.ensures.same j)
+    (λ j lt off. c.wake_first.ensures.dues j off)
+    c.wake_first.ensures.slots
+    (c.wake_first.ensures.counts b old.cells.visits (subst (IsCodes b) (sym c.table.ensures) c.requires.fits.codes) (omega (arith, c.len.ensures, old.truths.ok.0, c.requires.fits.truths)) (omega (arith, c.requires.fits.visits))) in
     begins d c.sealed.ensures m k old.cells.visits old first c.wake_computers.new.terms c.args.params.now c.args.keys.now c.args.one_up c.args.two_up was now stands came (value-before b m k was before)
     (values-told b m k now (c.read_values-any.ensures.values (words_in b m) k came.words before)) half
     (awake-given b (value_turned was now) (key_turned old.keys c.args.keys.now) one two now c.args.keys.now c.args.one_up c.args.two_up first read told c.wake_computers.new.terms

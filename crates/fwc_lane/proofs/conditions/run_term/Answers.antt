@@ -4,6 +4,7 @@ use Rattle.book_model.specs.Conditions.{places}
 use Rattle.term_eval.specs.Code.{owners, IsReady}
 use Rattle.term_eval.specs.CellState.{Stand}
 use Rattle.term_eval.specs.Shown.{Shows}
+use Rattle.condition_codes.specs.IsCodes.{IsCodes}
 use Rattle.condition_codes.specs.Places.{nodes_before}
 use Rattle.fwc_lane.specs.Conditions.{StepsTerm}
 use Rattle.fwc_lane.proofs.Stepping.{is-ready, moved-asked}
@@ -18,26 +19,23 @@ before-it (suc h) later = (h, refl)
 pub start-start-requires : goal.start-start-requires
 start-start-requires c =
     let (b, p, fits, here, names) = c.requires.place in
+    let coded : IsCodes b c.table-codes.result.now = subst (IsCodes b) (sym c.table-codes.ensures) fits.codes in
     let inside : c.args.number < length (places b) = slice_get_within (places b) c.args.number p here in
-    (b, fits.codes, inside)
+    (b, coded, inside)
 
 pub code-steps-requires : goal.code-steps-requires
 code-steps-requires c =
     let (b, p, fits, here, names) = c.requires.place in
+    let coded : IsCodes b c.table-codes.result.now = subst (IsCodes b) (sym c.table-codes.ensures) fits.codes in
     let inside : c.args.number < length (places b) = slice_get_within (places b) c.args.number p here in
-    (b, fits.codes, inside)
+    (b, coded, inside)
 
 pub begin-turn-requires-clause-ready : goal.begin-turn-requires-clause-ready
 begin-turn-requires-clause-ready c =
     let (b, p, fits, here, names) = c.requires.place in
+    let coded : IsCodes b c.table-codes.result.now = subst (IsCodes b) (sym c.table-codes.ensures) fits.codes in
     let inside : c.args.number < length (places b) = slice_get_within (places b) c.args.number p here in
-    (p.tree, p.at, is-ready b c.args.terms.now c.args.number p c.code-steps.result.now c.start-start.result fits here (c.code-steps.ensures b fits.codes p here) (c.start-start.ensures b fits.codes inside), names)
-
-pub note-requires-clause-codes : goal.note-requires-clause-codes
-note-requires-clause-codes c =
-    let (b, p, fits, here, names) = c.requires.place in
-    let inside : c.args.number < length (places b) = slice_get_within (places b) c.args.number p here in
-    (b, fits.codes, inside)
+    (p.tree, p.at, is-ready b c.args.terms.now c.args.number p c.code-steps.result.now c.start-start.result fits here (c.code-steps.ensures b coded p here) (c.start-start.ensures b coded inside), names)
 
 pub note-requires-clause-truths : goal.note-requires-clause-truths
 note-requires-clause-truths c =
@@ -54,63 +52,62 @@ note-requires-clause-dues c =
 pub returns-then-now-eq0-clause-fits : goal.returns-then-now-eq0-clause-fits
 returns-then-now-eq0-clause-fits c b fits =
     let (b', p, own, here, names) = c.requires.place in
+    let coded : IsCodes b' c.table-codes.result.now = subst (IsCodes b') (sym c.table-codes.ensures) own.codes in
     let inside : c.args.number < length (places b') = slice_get_within (places b') c.args.number p here in
     let first = c.start-start.result in
-    let ready = is-ready b' c.args.terms.now c.args.number p c.code-steps.result.now first own here (c.code-steps.ensures b' own.codes p here) (c.start-start.ensures b' own.codes inside) in
+    let ready = is-ready b' c.args.terms.now c.args.number p c.code-steps.result.now first own here (c.code-steps.ensures b' coded p here) (c.start-start.ensures b' coded inside) in
     let begun = c.begin-turn.ensures in
     run-fits b c.args.number first p c.begin-turn.result.holds c.begin-turn.result.due c.args.terms.now c.note.new.terms
-    (noted c.args.number first p c.begin-turn.result.holds c.begin-turn.result.due c.args.terms.now c.note.new.terms c.begin-turn.new.states c.begin-turn.new.self c.note.ensures.rest c.note.ensures.slots
-    (begun.within p.tree p.at ready) (begun.before p.tree p.at ready) (begun.behind p.tree p.at ready) begun.len begun.visits (c.note.ensures.visits b' p own.codes here) c.note.ensures.truths c.note.ensures.dues)
+    (noted c.args.number first p c.begin-turn.result.holds c.begin-turn.result.due c.args.terms.now c.note.new.terms c.begin-turn.new.states c.begin-turn.new.self c.note.ensures.rest
+    (begun.within p.tree p.at ready) (begun.before p.tree p.at ready) (begun.behind p.tree p.at ready) begun.len begun.visits c.note.ensures.truths c.note.ensures.dues)
     fits
 
 pub returns-then-now-eq0-clause-steps : goal.returns-then-now-eq0-clause-steps
 returns-then-now-eq0-clause-steps c b p fits here names =
+    let coded : IsCodes b c.table-codes.result.now = subst (IsCodes b) (sym c.table-codes.ensures) fits.codes in
     let inside : c.args.number < length (places b) = slice_get_within (places b) c.args.number p here in
     let start = nodes_before (places b) c.args.number in
-    let at = c.start-start.ensures b fits.codes inside in
-    let ready = is-ready b c.args.terms.now c.args.number p c.code-steps.result.now start fits here (c.code-steps.ensures b fits.codes p here) refl in
+    let at = c.start-start.ensures b coded inside in
+    let ready = is-ready b c.args.terms.now c.args.number p c.code-steps.result.now start fits here (c.code-steps.ensures b coded p here) refl in
     let begun = rw at at c.begin-turn.ensures in
     subst (StepsTerm (places b) c.args.env.now c.args.now c.args.number p c.args.terms.now c.note.new.terms) (sym c.note.ensures.holds)
-    (run-steps b c.args.env.now c.args.now c.args.number p c.begin-turn.result.holds c.begin-turn.result.due c.args.terms.now c.note.new.terms c.requires.now here fits c.requires.woken
-    (noted c.args.number start p c.begin-turn.result.holds c.begin-turn.result.due c.args.terms.now c.note.new.terms c.begin-turn.new.states c.begin-turn.new.self c.note.ensures.rest c.note.ensures.slots
-    (begun.within p.tree p.at ready) (begun.before p.tree p.at ready) (begun.behind p.tree p.at ready) begun.len begun.visits (c.note.ensures.visits b p fits.codes here) c.note.ensures.truths c.note.ensures.dues)
+    (run-steps b c.args.env.now c.args.now c.args.number p c.begin-turn.result.holds c.begin-turn.result.due c.args.terms.now c.note.new.terms c.requires.now here fits
+    (noted c.args.number start p c.begin-turn.result.holds c.begin-turn.result.due c.args.terms.now c.note.new.terms c.begin-turn.new.states c.begin-turn.new.self c.note.ensures.rest
+    (begun.within p.tree p.at ready) (begun.before p.tree p.at ready) (begun.behind p.tree p.at ready) begun.len begun.visits c.note.ensures.truths c.note.ensures.dues)
     (λ w hit shows tells left.
     let zero_is = c.if-now-eq0.true in
     let shown = subst (Shows c.args.env.now w) zero_is shows in
     let stood = subst (λ k. Stand w k p.tree p.at c.args.terms.now.cells.slots) zero_is left.stands in
     subst (λ k. IsRun w k start p c.note.new.terms c.begin-turn.result.holds c.begin-turn.result.due) (sym zero_is)
-    (noted-run c.args.number start p c.begin-turn.result.holds c.begin-turn.result.due c.args.terms.now c.note.new.terms c.begin-turn.new.states c.begin-turn.new.self c.note.ensures.rest c.note.ensures.slots w 0
+    (noted-run c.args.number start p c.begin-turn.result.holds c.begin-turn.result.due c.args.terms.now c.note.new.terms c.begin-turn.new.states c.begin-turn.new.self c.note.ensures.rest w 0
     (begun.truth p.tree p.at ready w shown stood) (begun.due p.tree p.at ready w shown stood) (begun.wake p.tree p.at ready)
     (begun.stands p.tree p.at ready w shown stood) (begun.nodes p.tree p.at ready w shown stood))))
 
 pub at-at-requires : goal.at-at-requires
 at-at-requires c =
     let (b, p, fits, here, names) = c.requires.place in
+    let coded : IsCodes b c.table-codes.result.now = subst (IsCodes b) (sym c.table-codes.ensures) fits.codes in
     let inside : c.args.number < length (places b) = slice_get_within (places b) c.args.number p here in
-    (b, fits.codes, inside)
+    (b, coded, inside)
 
 pub owners-owners-requires : goal.owners-owners-requires
 owners-owners-requires c =
     let (b, p, fits, here, names) = c.requires.place in
+    let coded : IsCodes b c.table-codes.result.now = subst (IsCodes b) (sym c.table-codes.ensures) fits.codes in
     let inside : c.args.number < length (places b) = slice_get_within (places b) c.args.number p here in
-    (b, fits.codes, inside)
+    (b, coded, inside)
 
 pub run-turn-requires-clause-ready : goal.run-turn-requires-clause-ready
 run-turn-requires-clause-ready c =
     let (b, p, fits, here, names) = c.requires.place in
+    let coded : IsCodes b c.table-codes.result.now = subst (IsCodes b) (sym c.table-codes.ensures) fits.codes in
     let inside : c.args.number < length (places b) = slice_get_within (places b) c.args.number p here in
-    let code = c.code-steps.ensures b fits.codes p here in
-    let ready = is-ready b c.args.terms.now c.args.number p c.code-steps.result.now c.start-start.result fits here code (c.start-start.ensures b fits.codes inside) in (
+    let code = c.code-steps.ensures b coded p here in
+    let ready = is-ready b c.args.terms.now c.args.number p c.code-steps.result.now c.start-start.result fits here code (c.start-start.ensures b coded inside) in (
       p.tree,
-      subst (λ at. IsReady c.code-steps.result.now c.args.terms.now.cells c.args.terms.now.nodes p.tree at c.start-start.result) (sym (c.at-at.ensures b fits.codes p here)) ready,
-      c.owners-owners.ensures b fits.codes p here ∙ ap (owners 0) (sym code.is),
+      subst (λ at. IsReady c.code-steps.result.now c.args.terms.now.cells c.args.terms.now.nodes p.tree at c.start-start.result) (sym (c.at-at.ensures b coded p here)) ready,
+      c.owners-owners.ensures b coded p here ∙ ap (owners 0) (sym code.is),
     )
-
-pub note-requires-2-clause-codes : goal.note-requires-2-clause-codes
-note-requires-2-clause-codes c =
-    let (b, p, fits, here, names) = c.requires.place in
-    let inside : c.args.number < length (places b) = slice_get_within (places b) c.args.number p here in
-    (b, fits.codes, inside)
 
 pub note-requires-2-clause-truths : goal.note-requires-2-clause-truths
 note-requires-2-clause-truths c =
@@ -127,35 +124,37 @@ note-requires-2-clause-dues c =
 pub returns-clause-fits : goal.returns-clause-fits
 returns-clause-fits c b fits =
     let (b', p, own, here, names) = c.requires.place in
+    let coded : IsCodes b' c.table-codes.result.now = subst (IsCodes b') (sym c.table-codes.ensures) own.codes in
     let inside : c.args.number < length (places b') = slice_get_within (places b') c.args.number p here in
     let first = c.start-start.result in
-    let code = c.code-steps.ensures b' own.codes p here in
-    let ready = is-ready b' c.args.terms.now c.args.number p c.code-steps.result.now first own here code (c.start-start.ensures b' own.codes inside) in
-    let own_nodes = c.owners-owners.ensures b' own.codes p here ∙ ap (owners 0) (sym code.is) in
-    let run = rw (c.at-at.ensures b' own.codes p here) at c.run-turn.ensures in
+    let code = c.code-steps.ensures b' coded p here in
+    let ready = is-ready b' c.args.terms.now c.args.number p c.code-steps.result.now first own here code (c.start-start.ensures b' coded inside) in
+    let own_nodes = c.owners-owners.ensures b' coded p here ∙ ap (owners 0) (sym code.is) in
+    let run = rw (c.at-at.ensures b' coded p here) at c.run-turn.ensures in
     run-fits b c.args.number first p c.run-turn.result.holds c.run-turn.result.due c.args.terms.now c.note-2.new.terms
-    (noted c.args.number first p c.run-turn.result.holds c.run-turn.result.due c.args.terms.now c.note-2.new.terms c.run-turn.new.states c.run-turn.new.self c.note-2.ensures.rest c.note-2.ensures.slots
-    (run.within p.tree ready own_nodes) (run.before p.tree ready own_nodes) (run.behind p.tree ready own_nodes) run.len run.visits (c.note-2.ensures.visits b' p own.codes here) c.note-2.ensures.truths c.note-2.ensures.dues)
+    (noted c.args.number first p c.run-turn.result.holds c.run-turn.result.due c.args.terms.now c.note-2.new.terms c.run-turn.new.states c.run-turn.new.self c.note-2.ensures.rest
+    (run.within p.tree ready own_nodes) (run.before p.tree ready own_nodes) (run.behind p.tree ready own_nodes) run.len run.visits c.note-2.ensures.truths c.note-2.ensures.dues)
     fits
 
 pub returns-clause-steps : goal.returns-clause-steps
 returns-clause-steps c b p fits here names =
+    let coded : IsCodes b c.table-codes.result.now = subst (IsCodes b) (sym c.table-codes.ensures) fits.codes in
     let inside : c.args.number < length (places b) = slice_get_within (places b) c.args.number p here in
     let start = nodes_before (places b) c.args.number in
-    let first = c.start-start.ensures b fits.codes inside in
-    let code = c.code-steps.ensures b fits.codes p here in
+    let first = c.start-start.ensures b coded inside in
+    let code = c.code-steps.ensures b coded p here in
     let ready = is-ready b c.args.terms.now c.args.number p c.code-steps.result.now start fits here code refl in
-    let own_nodes = c.owners-owners.ensures b fits.codes p here ∙ ap (owners 0) (sym code.is) in
-    let run = rw (first, c.at-at.ensures b fits.codes p here) at c.run-turn.ensures in
+    let own_nodes = c.owners-owners.ensures b coded p here ∙ ap (owners 0) (sym code.is) in
+    let run = rw (first, c.at-at.ensures b coded p here) at c.run-turn.ensures in
     subst (StepsTerm (places b) c.args.env.now c.args.now c.args.number p c.args.terms.now c.note-2.new.terms) (sym c.note-2.ensures.holds)
-    (run-steps b c.args.env.now c.args.now c.args.number p c.run-turn.result.holds c.run-turn.result.due c.args.terms.now c.note-2.new.terms c.requires.now here fits c.requires.woken
-    (noted c.args.number start p c.run-turn.result.holds c.run-turn.result.due c.args.terms.now c.note-2.new.terms c.run-turn.new.states c.run-turn.new.self c.note-2.ensures.rest c.note-2.ensures.slots
-    (run.within p.tree ready own_nodes) (run.before p.tree ready own_nodes) (run.behind p.tree ready own_nodes) run.len run.visits (c.note-2.ensures.visits b p fits.codes here) c.note-2.ensures.truths c.note-2.ensures.dues)
+    (run-steps b c.args.env.now c.args.now c.args.number p c.run-turn.result.holds c.run-turn.result.due c.args.terms.now c.note-2.new.terms c.requires.now here fits
+    (noted c.args.number start p c.run-turn.result.holds c.run-turn.result.due c.args.terms.now c.note-2.new.terms c.run-turn.new.states c.run-turn.new.self c.note-2.ensures.rest
+    (run.within p.tree ready own_nodes) (run.before p.tree ready own_nodes) (run.behind p.tree ready own_nodes) run.len run.visits c.note-2.ensures.truths c.note-2.ensures.dues)
     (λ w hit shows tells left.
     let later = before-it c.args.now c.if-now-eq0.false in
     let h = later.0 in
     let is = later.1 in
     let waits = moved-asked w hit c.args.now h c.args.number start p c.args.terms.now tells (left.later h is) in
-    noted-run c.args.number start p c.run-turn.result.holds c.run-turn.result.due c.args.terms.now c.note-2.new.terms c.run-turn.new.states c.run-turn.new.self c.note-2.ensures.rest c.note-2.ensures.slots w c.args.now
+    noted-run c.args.number start p c.run-turn.result.holds c.run-turn.result.due c.args.terms.now c.note-2.new.terms c.run-turn.new.states c.run-turn.new.self c.note-2.ensures.rest w c.args.now
     (run.truth p.tree ready own_nodes w h is left.stands waits) (run.due p.tree ready own_nodes w h is left.stands waits) (run.wake p.tree ready own_nodes w h is left.stands waits)
     (run.stands p.tree ready own_nodes w h is left.stands waits) (run.nodes p.tree ready own_nodes w h is left.stands waits)))

@@ -1,25 +1,22 @@
-use Rattle.std.proofs.Common.{◌+◌, ◌-◌, ◌^◌, ◌<◌, min, false, length, refl, sym, ap, ◌∙◌, arith}
+use Rattle.std.proofs.Common.{◌<◌, false, length, sym, ◌∙◌, arith}
 use Rattle.std.proofs.lemmas.List.{get_or_default}
 use Rattle.std.proofs.lemmas.Option.{slice_get_within}
 use Rattle.book_model.specs.Conditions.{places}
 use Rattle.condition_codes.specs.Places.{nodes_before}
-use Rattle.fwc_lane.proofs.Stepping.{rest-asked, calm-asked, half-rest, half-calm}
+use Rattle.fwc_lane.proofs.Stepping.{rest-asked, half-rest}
 use Rattle.fwc_lane.proofs.conditions.step_numbered.Goals as goal
 
 pub has-requires : goal.has-requires
 has-requires c =
     let (b, p, fits, here, names) = c.requires.place in
     let inside : c.args.number < length (places b) = slice_get_within (places b) c.args.number p here in
-    omega (arith, inside, fits.woken_room)
+    omega (arith, inside, fits.stirred_room)
 
 pub index-requires : goal.index-requires
 index-requires c =
     let (b, p, fits, here, names) = c.requires.place in
     let inside : c.args.number < length (places b) = slice_get_within (places b) c.args.number p here in
     omega (arith, inside, fits.truths, c.args.terms.now.truths.ok.0)
-
-pub run_term-requires-clause-woken : goal.run_term-requires-clause-woken
-run_term-requires-clause-woken c = sym c.has.ensures ∙ c.if-not-has.false
 
 pub returns-then-not-has-clause-steps : goal.returns-then-not-has-clause-steps
 returns-then-not-has-clause-steps c = λ b p fits here names.
@@ -34,35 +31,7 @@ returns-then-not-has-clause-steps c = λ b p fits here names.
           half-rest (places b) worlds c.args.now c.args.number p at hit visited c.args.terms.now c.requires.now tells off half;
     }
 
-pub has-requires-2 : goal.has-requires-2
-has-requires-2 c =
+pub run_term-requires-clause-woken : goal.run_term-requires-clause-woken
+run_term-requires-clause-woken c =
     let (b, p, fits, here, names) = c.requires.place in
-    let inside : c.args.number < length (places b) = slice_get_within (places b) c.args.number p here in
-    omega (arith, inside, fits.stirred_room)
-
-pub size-requires : goal.size-requires
-size-requires c =
-    let (b, p, fits, here, names) = c.requires.place in
-    let inside : c.args.number < length (places b) = slice_get_within (places b) c.args.number p here in
-    (b, fits.codes, inside)
-
-pub index-requires-then-not-has-2 : goal.index-requires-then-not-has-2
-index-requires-then-not-has-2 c =
-    let (b, p, fits, here, names) = c.requires.place in
-    let inside : c.args.number < length (places b) = slice_get_within (places b) c.args.number p here in
-    omega (arith, inside, fits.truths, c.args.terms.now.truths.ok.0)
-
-pub returns-then-not-has-2-clause-steps : goal.returns-then-not-has-2-clause-steps
-returns-then-not-has-2-clause-steps c = λ b p fits here names.
-    let on = sym c.has.ensures ∙ c.if-not-has.false in
-    let off = sym c.has-2.ensures ∙ c.if-not-has-2.true in
-    let inside : c.args.number < length (places b) = slice_get_within (places b) c.args.number p here in
-    record {
-      truth = λ worlds hit visited at shows tells half.
-          c.index-then-not-has-2.ensures
-          ∙ get_or_default c.args.terms.now.truths.items c.args.number c.index-then-not-has-2.result.now false (omega (arith, inside, fits.truths))
-          ∙ (calm-asked (worlds c.args.number) hit c.args.now c.args.number (nodes_before (places b) c.args.number) p c.args.terms.now c.requires.now tells (half.left c.args.number _ (omega arith) at) off).told;
-      stands = λ worlds hit visited at apart shows tells half.
-          half-calm (places b) worlds c.args.now c.args.number p at c.args.terms.now _ refl c.count.ensures.slots hit visited c.requires.now tells on off
-          (c.count.ensures.visits ∙ ap (λ n. min (c.args.terms.now.cells.visits + n) (2 ^ 64 - 1)) (c.size.ensures b fits.codes p here)) half;
-    }
+    fits.stirs c.args.number (sym c.has.ensures ∙ c.if-not-has.false)

@@ -1,8 +1,9 @@
-use Rattle.std.proofs.Common.{suc, length, ap, ◌∙◌}
+use Rattle.std.proofs.Common.{suc, false, length, get_or, sym, ap, ◌∙◌}
 use Rattle.ecam_spec.specs.Situation.{condition_in, phase_in}
 use Rattle.ecam_spec.specs.Screen.{cockpit}
 use Rattle.book_model.specs.Sealed.{the_book}
 use Rattle.fwc_lane.proofs.CrewMoments.{crew-of, sees-crew, still-crew}
+use Rattle.wakes.specs.Marks.{is_marked, room}
 use Rattle.fwc_lane.proofs.crew.step_marks.Goals as goal
 
 pub returns-then-changed-clause-stands : goal.returns-then-changed-clause-stands
@@ -12,7 +13,7 @@ returns-then-changed-clause-stands c = λ m k truths strokes enters stands.
     let waits = c.waiting.ensures.tells b (condition_in b m) (phase_in b m) (suc k) truths in
     let ups-long = ap length c.up.ensures.value ∙ c.requires.truths.stars.up in
     let waits-long = ap length c.waiting.ensures.value ∙ c.requires.truths.waiting in
-    c.step.ensures.stands (cockpit b m) k (crew-of b m) (sees-crew b m k c.args.keys.now strokes _ ups _ _ waits ups-long waits-long enters) stands
+    c.step_among.ensures.stands (cockpit b m) k (crew-of b m) (sees-crew b m k c.args.keys.now strokes _ ups _ _ waits ups-long waits-long enters) stands
 
 pub returns-clause-stands : goal.returns-clause-stands
 returns-clause-stands c = λ m k truths strokes enters stands.
@@ -23,3 +24,21 @@ returns-clause-stands c = λ m k truths strokes enters stands.
     let waits-long = ap length c.waiting-2.ensures.value ∙ c.requires.truths.waiting in
     c.step_still.ensures.stands (cockpit b m) k (crew-of b m) (sees-crew b m k c.args.keys.now strokes _ ups _ _ waits ups-long waits-long enters)
     (still-crew b m k ((c.changed.ensures.tells b (condition_in b m) (phase_in b m) k truths).0 c.if-changed.false)) stands
+
+pub step_among-requires-clause-near_room : goal.step_among-requires-clause-near_room
+step_among-requires-clause-near_room c = ap room c.near.ensures ∙ c.requires.truths.near_room
+
+pub step_among-requires-clause-up_near : goal.step_among-requires-clause-up_near
+step_among-requires-clause-up_near c = λ a on. ap (λ xs. is_marked xs a) c.near.ensures ∙ c.requires.truths.near.up a (sym (ap (λ xs. get_or xs a false) c.up.ensures.value) ∙ on)
+
+pub step_among-requires-clause-waiting_near : goal.step_among-requires-clause-waiting_near
+step_among-requires-clause-waiting_near c = λ a on. ap (λ xs. is_marked xs a) c.near.ensures ∙ c.requires.truths.near.waiting a (sym (ap (λ xs. get_or xs a false) c.waiting.ensures.value) ∙ on)
+
+pub step_still-requires-clause-near_room : goal.step_still-requires-clause-near_room
+step_still-requires-clause-near_room c = ap room c.near-2.ensures ∙ c.requires.truths.near_room
+
+pub step_still-requires-clause-up_near : goal.step_still-requires-clause-up_near
+step_still-requires-clause-up_near c = λ a on. ap (λ xs. is_marked xs a) c.near-2.ensures ∙ c.requires.truths.near.up a (sym (ap (λ xs. get_or xs a false) c.up-2.ensures.value) ∙ on)
+
+pub step_still-requires-clause-waiting_near : goal.step_still-requires-clause-waiting_near
+step_still-requires-clause-waiting_near c = λ a on. ap (λ xs. is_marked xs a) c.near-2.ensures ∙ c.requires.truths.near.waiting a (sym (ap (λ xs. get_or xs a false) c.waiting-2.ensures.value) ∙ on)

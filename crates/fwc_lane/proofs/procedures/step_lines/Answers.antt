@@ -16,7 +16,7 @@ loop-line-init c = record {
   fits = c.requires.fits;
   flags = refl;
   stands = λ m visits shows were half. lines-begin c.args.book.now m c.args.now visits _ _ were half;
-  kept = λ e. refl;
+  kept = λ e a n on has. refl;
 }
 
 pub overflow_mul-line : goal.overflow_mul-line
@@ -47,8 +47,8 @@ step_line-stands-requires-clause-places c =
       rw (c.requires.values, c.requires.active) also,
     )
 
-pub set_flag-other-requires : goal.set_flag-other-requires
-set_flag-other-requires c = omega (arith, c.in-Some.ensures.1, c.loop-line.invariant.flags, c.requires.flags)
+pub note_line-other-requires-clause-flags : goal.note_line-other-requires-clause-flags
+note_line-other-requires-clause-flags c = c.loop-line.invariant.flags ∙ c.requires.flags
 
 pub loop-line-preserved : goal.loop-line-preserved
 loop-line-preserved c =
@@ -56,7 +56,7 @@ loop-line-preserved c =
     let b = the_book d in
     let found = c.in-Some.ensures in
     let at : c.line_number-first.result + 2 * c.in-Some.line ≡ lines_from b + 2 * c.in-Some.line = omega (arith, c.line_number-first.ensures) in
-    let is = c.set_flag-other.ensures.items in
+    let is = c.note_line-other.ensures.items in
     let room : c.in-Some.line < length c.loop-line.flags.items = omega (arith, found.1, c.loop-line.invariant.flags, c.requires.flags) in
     record {
       most = omega (arith, found.1);
@@ -68,12 +68,12 @@ loop-line-preserved c =
           subst (λ n. StepsLine (places b) c.args.env.now c.args.now n w p c.loop-line.terms c.step_line-stands.new.terms c.step_line-stands.result) at
           (c.step_line-stands.ensures.steps b w p c.loop-line.invariant.fits (ap (slice_get (places b)) at ∙ here) (ap (λ i. slice_get (places b) (suc i)) at ∙ next)
           (rw (c.requires.values, c.requires.active) names) (rw (c.requires.values, c.requires.active) also)))
-          c.loop-line.flags.items c.set_flag-other.new.flags.items is room
+          c.loop-line.flags.items c.note_line-other.new.flags.items is room
           (lines-past d c.sealed.ensures m c.args.now visits c.loop-line.terms c.loop-line.flags.items c.requires.now c.loop-line.next c.in-Some.line found.0 (omega (arith, found.1)) found.2
           (c.loop-line.invariant.stands m visits shows were half));
       kept = λ off.
           let none = sym c.is_either-turned.ensures ∙ off in
-          c.set_flag-other.ensures.kept (right-false _ _ none) ∙ c.loop-line.invariant.kept (left-false _ _ none);
+          λ a n on has. c.note_line-other.ensures.kept (right-false _ _ none) a n on has ∙ c.loop-line.invariant.kept (left-false _ _ none) a n on has;
     }
 
 pub returns-clause-told : goal.returns-clause-told

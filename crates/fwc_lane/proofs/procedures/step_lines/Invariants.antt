@@ -6,6 +6,7 @@ use Rattle.book_model.specs.Sealed.{the_book}
 use Rattle.book_model.specs.Conditions.{lines_from}
 use Rattle.term_eval.specs.Shown.{Shows}
 use Rattle.fwc_lane.specs.Conditions.{BookHalf, LinesHalf, LinesWere}
+use Rattle.fwc_lane.specs.LineFlags.{KeepsShown}
 use Rattle.fwc_lane.specs.TermsFit.{TermsFit}
 use Rattle.fwc_lane.proofs.procedures.step_lines.Given as goal
 
@@ -18,7 +19,7 @@ invariant-loop-line l = record {
       → LinesWere (the_book l.book) m l.now l.fn.flags.items
       → BookHalf (the_book l.book) m l.now (lines_from (the_book l.book)) (suc (length (the_book l.book).alerts)) visits l.fn.terms
       → LinesHalf (the_book l.book) m l.now l.next visits l.terms l.flags.items;
-  kept : l.turned ≡ false → l.flags.items ≡ l.fn.flags.items;
+  kept : l.turned ≡ false → KeepsShown (the_book l.book) l.shown l.fn.flags.items l.flags.items;
 }
 
 abbrev pub decreases-loop-line : goal.decreases-loop-line

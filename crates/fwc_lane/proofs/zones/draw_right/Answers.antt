@@ -11,7 +11,7 @@ use Rattle.fwc_lane.proofs.zones.draw_right.Goals as goal
 pub returns-then-not-right_turned-clause-rows : goal.returns-then-not-right_turned-clause-rows
 returns-then-not-right_turned-clause-rows c = λ m k scene turned was.
     let b = the_book c.args.book.now in
-    right-stays b m k c.args.turned c.changed.result turned (c.changed.ensures.tells b (condition_in b m) (phase_in b m) k scene.truths)
+    right-stays b m k c.args.turned c.stars_turned.result turned (c.stars_turned.ensures.tells b (condition_in b m) (phase_in b m) k scene.truths)
     (sym c.right_turned.ensures ∙ c.if-not-right_turned.true) c.args.was _ was
 
 pub fill_right-requires-clause-starred : goal.fill_right-requires-clause-starred

@@ -14,3 +14,6 @@ returns-then-up-clause-visits c = λ e tick here stands.
 pub returns-else-up-clause-visits : goal.returns-else-up-clause-visits
 returns-else-up-clause-visits c = λ e tick here stands.
     sym (ap (λ u. cond u (min (visited c.args.lane.now + visits (the_book c.args.book.now) (moment_of (era_with e c.args.event.now)) (length e.moments)) (2 ^ 64 - 1)) (visited c.args.lane.now)) c.if-up.false)
+
+pub returns-then-up-clause-stands : goal.returns-then-up-clause-stands
+returns-then-up-clause-stands c = λ e ups was on. c.event.ensures.stands e ups (was on)

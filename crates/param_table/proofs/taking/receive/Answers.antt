@@ -1,4 +1,4 @@
-use Rattle.std.proofs.Common.{◌≡◌, ◌*◌, ◌/◌, refl, ◌<◌, true, length, get_or, Some, None, sym, ap, ◌∙◌, subst, arith}
+use Rattle.std.proofs.Common.{◌≡◌, ◌/◌, refl, ◌<◌, true, length, get_or, Some, None, sym, ap, ◌∙◌, subst, arith}
 use Rattle.std.specs.Prelude.{IfSome, is_some}
 use Rattle.ecam_spec.specs.Book.{Source}
 use Rattle.ecam_spec.specs.Word.{label}
@@ -14,10 +14,9 @@ use Rattle.param_table.proofs.taking.receive.Goals.{After-listener_before-next}
 pub loop-next-init : goal.loop-next-init
 loop-next-init c =
     let params = (the_book c.args.book.now).parameters in
-    let word : BusWord = record { bus = c.args.bus; bits = c.args.word.now } in
+    let word : BusWord = record { bus = c.args._bus; bits = c.args.word.now } in
     record {
-      visited = visited_none params word (λ q. entry c.args.clock c.args.word.now (get_or c.args.rules.now q None)) c.args.held.now.received.items.items c.last_listener-next.result
-          (c.last_listener-next.ensures.value ∙ ap (λ n. last_below (listens params c.args.bus (label n)) (3 * length params)) c.bits.ensures);
+      visited = visited_none params word (λ q. entry c.args.clock c.args.word.now (get_or c.args.rules.now q None)) c.args.held.now.received.items.items c.args.last c.requires.last;
       fits = c.requires.fits;
       renews = renews_none c.args.clock c.args.held.now;
       others = λ p none. refl;
@@ -26,34 +25,34 @@ loop-next-init c =
 pub listener_before-next-requires : goal.listener_before-next-requires
 listener_before-next-requires c =
     let params = (the_book c.args.book.now).parameters in
-    let hears : listens params c.args.bus (label c.args.word.now) c.in-Some.place ≡ true =
-    subst (λ o. IfSome o (λ h. listens params c.args.bus (label c.args.word.now) h ≡ true)) c.in-Some.is c.loop-next.invariant.visited.listening in
-    omega (arith, heard_within params (record { bus = c.args.bus; bits = c.args.word.now }) c.in-Some.place hears, c.from-place.ensures)
+    let hears : listens params c.args._bus (label c.args.word.now) c.in-Some.place ≡ true =
+    subst (λ o. IfSome o (λ h. listens params c.args._bus (label c.args.word.now) h ≡ true)) c.in-Some.is c.loop-next.invariant.visited.listening in
+    omega (arith, heard_within params (record { bus = c.args._bus; bits = c.args.word.now }) c.in-Some.place hears, c.from-place.ensures)
 
 -- the place that is visited
 visited : (c : After-listener_before-next)
-    → IsVisited (the_book c.args.book.now).parameters (record { bus = c.args.bus; bits = c.args.word.now }) (λ q. entry c.args.clock c.args.word.now (get_or c.args.rules.now q None)) (Some c.in-Some.place) c.args.held.now.received.items.items c.loop-next.held.received.items.items
+    → IsVisited (the_book c.args.book.now).parameters (record { bus = c.args._bus; bits = c.args.word.now }) (λ q. entry c.args.clock c.args.word.now (get_or c.args.rules.now q None)) (Some c.in-Some.place) c.args.held.now.received.items.items c.loop-next.held.received.items.items
 visited c =
-    subst (λ o. IsVisited (the_book c.args.book.now).parameters (record { bus = c.args.bus; bits = c.args.word.now }) (λ q. entry c.args.clock c.args.word.now (get_or c.args.rules.now q None)) o c.args.held.now.received.items.items c.loop-next.held.received.items.items)
+    subst (λ o. IsVisited (the_book c.args.book.now).parameters (record { bus = c.args._bus; bits = c.args.word.now }) (λ q. entry c.args.clock c.args.word.now (get_or c.args.rules.now q None)) o c.args.held.now.received.items.items c.loop-next.held.received.items.items)
     c.in-Some.is c.loop-next.invariant.visited
 
-found : (c : After-listener_before-next) → IsNext (the_book c.args.book.now).parameters (record { bus = c.args.bus; bits = c.args.word.now }) c.in-Some.place c.listener_before-next.result
+found : (c : After-listener_before-next) → IsNext (the_book c.args.book.now).parameters (record { bus = c.args._bus; bits = c.args.word.now }) c.in-Some.place c.listener_before-next.result
 found c =
     let params = (the_book c.args.book.now).parameters in
     let link = subst (λ i. (s : Source) → source_at params i ≡ Some s → c.listener_before-next.result ≡ last_below (listens params s.bus s.label) i) c.from-place.ensures c.listener_before-next.ensures.value in
-    next_listens params (record { bus = c.args.bus; bits = c.args.word.now }) c.in-Some.place c.listener_before-next.result link (visited c).listening
+    next_listens params (record { bus = c.args._bus; bits = c.args.word.now }) c.in-Some.place c.listener_before-next.result link (visited c).listening
 
 pub loop-next-smaller : goal.loop-next-smaller
 loop-next-smaller c =
     let params = (the_book c.args.book.now).parameters in
-    let word : BusWord = record { bus = c.args.bus; bits = c.args.word.now } in
+    let word : BusWord = record { bus = c.args._bus; bits = c.args.word.now } in
     let below = next_below params word (λ q. entry c.args.clock c.args.word.now (get_or c.args.rules.now q None)) c.in-Some.place c.listener_before-next.result c.args.held.now.received.items.items c.loop-next.held.received.items.items (visited c) (found c) in
     rw c.in-Some.is (omega (arith, below))
 
 pub loop-next-preserved : goal.loop-next-preserved
 loop-next-preserved c =
     let params = (the_book c.args.book.now).parameters in
-    let word : BusWord = record { bus = c.args.bus; bits = c.args.word.now } in
+    let word : BusWord = record { bus = c.args._bus; bits = c.args.word.now } in
     let items = c.loop-next.held.received.items.items in
     let h = c.in-Some.place in
     let before = c.listener_before-next.result in

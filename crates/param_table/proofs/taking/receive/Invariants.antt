@@ -11,10 +11,10 @@ use Rattle.param_table.proofs.taking.receive.Given as goal
 
 abbrev pub invariant-loop-next : goal.invariant-loop-next
 invariant-loop-next l = record {
-  visited : IsVisited (the_book l.book).parameters (record { bus = l.bus; bits = l.word }) (λ q. entry l.clock l.word (get_or l.rules q None)) l.next l.initial.held.received.items.items l.held.received.items.items;
+  visited : IsVisited (the_book l.book).parameters (record { bus = l._bus; bits = l.word }) (λ q. entry l.clock l.word (get_or l.rules q None)) l.next l.initial.held.received.items.items l.held.received.items.items;
   fits : HeldFits (the_book l.book).parameters l.clock l.held;
   renews : Renews l.clock l.initial.held l.held;
-  others : (p : ℕ) → ((q : ℕ) → q / 3 ≡ p → takes_at (the_book l.book).parameters (record { bus = l.bus; bits = l.word }) q ≡ false)
+  others : (p : ℕ) → ((q : ℕ) → q / 3 ≡ p → takes_at (the_book l.book).parameters (record { bus = l._bus; bits = l.word }) q ≡ false)
       → is_marked l.held.changed p ≡ is_marked l.initial.held.changed p;
 }
 

@@ -4,20 +4,20 @@ use Rattle.std.proofs.lemmas.List.{length-set}
 use Rattle.std.proofs.lemmas.Option.{slice_get-get_or}
 use Rattle.term_eval.specs.declared.nodes.NodeState.{NodeState}
 use Rattle.term_eval.specs.declared.code.Step.{Step}
-use Rattle.term_eval.specs.Climb.{climb, count_with, gate_says, go_on, node_of, told_as, counted, CanClimb}
+use Rattle.term_eval.specs.Climb.{climb, count_with, gate_says, go_on, step_at, told_as, counted, CanClimb}
 use Rattle.term_eval.specs.NodeState.{state_at}
 use Rattle.term_eval.specs.Woken.{differ}
 use Rattle.term_eval.proofs.ClimbSteps.{told_in, climb-same, climb-first, climb-above, turns-by}
 use Rattle.term_eval.proofs.climb.climb.Goals as goal
 
 -- the node above is one of the steps
-up-within : (steps : List Step) (first nodes slots i : ℕ) → CanClimb steps first nodes slots → i < length steps → (node_of steps i).up ≤ i
-up-within steps first nodes slots i can within = can.ups i (node_of steps i) (slice_get-get_or steps i _ within)
+up-within : (steps : List Step) (first nodes slots i : ℕ) → CanClimb steps first nodes slots → i < length steps → (step_at steps i).up ≤ i
+up-within steps first nodes slots i can within = can.ups i (step_at steps i) (slice_get-get_or steps i _ within)
 
 -- a slot at which it stops is there
 slot-within : (steps : List Step) (first nodes slots i count slot : ℕ) → CanClimb steps first nodes slots → i < length steps →
-    gate_says (node_of steps i).node count ≡ Err slot → slot < slots
-slot-within steps first nodes slots i count slot can within is = can.held i count slot (node_of steps i) (slice_get-get_or steps i _ within) is
+    gate_says (step_at steps i).node count ≡ Err slot → slot < slots
+slot-within steps first nodes slots i count slot can within is = can.held i count slot (step_at steps i) (slice_get-get_or steps i _ within) is
 
 -- one step of a climb for which there is fuel
 module _ (fuel : ℕ) (steps : List Step) (first i : ℕ) (holds : Bool) (states : List NodeState) (wakes : List ℕ) (some : i < fuel) where
@@ -28,7 +28,7 @@ module _ (fuel : ℕ) (steps : List Step) (first i : ℕ) (holds : Bool) (states
       record { states = states; wakes = wakes; stirs = false } ≡ climb fuel steps first i holds states wakes
   ends-same same = sym (fueled ∙ climb-same (fuel - 1) steps first i holds states wakes same)
 
-  ends-first : differ (state_at states (first + i)).told holds ≡ true → (node_of steps i).up ≡ 0 →
+  ends-first : differ (state_at states (first + i)).told holds ≡ true → (step_at steps i).up ≡ 0 →
       record { states = told_in first i holds states; wakes = wakes; stirs = true } ≡ climb fuel steps first i holds states wakes
   ends-first turns top = sym (fueled ∙ climb-first (fuel - 1) steps first i holds states wakes turns top)
 
@@ -36,15 +36,15 @@ module _ (fuel : ℕ) (steps : List Step) (first i : ℕ) (holds : Bool) (states
   abbrev counting : ℕ → ℕ → List NodeState
   counting above count = slice_set (told_in first i holds states) (first + above) (counted count (state_at (told_in first i holds states) (first + above)))
 
-  goes-on : (above count : ℕ) (says : Result Bool ℕ) → differ (state_at states (first + i)).told holds ≡ true → (node_of steps i).up + above ≡ i → above < i →
-      count ≡ count_with (state_at (told_in first i holds states) (first + above)).count holds → says ≡ gate_says (node_of steps above).node count →
+  goes-on : (above count : ℕ) (says : Result Bool ℕ) → differ (state_at states (first + i)).told holds ≡ true → (step_at steps i).up + above ≡ i → above < i →
+      count ≡ count_with (state_at (told_in first i holds states) (first + above)).count holds → says ≡ gate_says (step_at steps above).node count →
       go_on says (λ now. climb (fuel - 1) steps first above now (counting above count) wakes)
       (λ slot. record { states = counting above count; wakes = slice_set wakes slot 0; stirs = true })
       ≡ climb fuel steps first i holds states wakes
   goes-on above count says turns up before counts is =
       ap (λ s. go_on s (λ now. climb (fuel - 1) steps first above now (counting above count) wakes)
       (λ slot. record { states = counting above count; wakes = slice_set wakes slot 0; stirs = true })) is
-      ∙ ap (λ m. go_on (gate_says (node_of steps above).node m) (λ now. climb (fuel - 1) steps first above now (counting above m) wakes)
+      ∙ ap (λ m. go_on (gate_says (step_at steps above).node m) (λ now. climb (fuel - 1) steps first above now (counting above m) wakes)
       (λ slot. record { states = counting above m; wakes = slice_set wakes slot 0; stirs = true })) counts
       ∙ sym (fueled ∙ climb-above (fuel - 1) steps first i above holds states wakes turns up before)
 
@@ -75,9 +75,9 @@ pub returns-in-Err : goal.returns-in-Err
 returns-in-Err c =
     let l = c.loop-states in
     let steps = c.args.steps.now in
-    let up : (node_of steps l.node).up ≤ l.node = up-within steps c.args.first _ _ l.node c.requires.can l.invariant.within in
+    let up : (step_at steps l.node).up ≤ l.node = up-within steps c.args.first _ _ l.node c.requires.can l.invariant.within in
     let some = c.if-up-eq0.false in
-    let above : ℕ = l.node - (node_of steps l.node).up in
+    let above : ℕ = l.node - (step_at steps l.node).up in
     ap (λ s. go_on s (λ now. climb (l.invariant.rest.0 - 1) steps c.args.first above now
     (counting l.invariant.rest.0 steps c.args.first l.node l.holds l.states l.wakes l.invariant.rest.1 above c.count_with-count.result) l.wakes)
     (λ slot. record {
@@ -94,7 +94,7 @@ pub bounds-wakes-slot : goal.bounds-wakes-slot
 bounds-wakes-slot c =
     let l = c.loop-states in
     let steps = c.args.steps.now in
-    let above : ℕ = l.node - (node_of steps l.node).up in
+    let above : ℕ = l.node - (step_at steps l.node).up in
     let within = l.invariant.within in
     let slot = slot-within steps c.args.first _ _ above c.count_with-count.result c.in-Err.slot c.requires.can (omega arith) (sym c.gate_says.ensures ∙ c.in-Err.is) in
     let long = l.invariant.slots in
@@ -107,9 +107,9 @@ pub loop-states-preserved : goal.loop-states-preserved
 loop-states-preserved c =
     let l = c.loop-states in
     let steps = c.args.steps.now in
-    let up : (node_of steps l.node).up ≤ l.node = up-within steps c.args.first _ _ l.node c.requires.can l.invariant.within in
+    let up : (step_at steps l.node).up ≤ l.node = up-within steps c.args.first _ _ l.node c.requires.can l.invariant.within in
     let some = c.if-up-eq0.false in
-    let above : ℕ = l.node - (node_of steps l.node).up in
+    let above : ℕ = l.node - (step_at steps l.node).up in
     let within = l.invariant.within in
     let fuel = l.invariant.rest.1 in
     let told = told_in c.args.first l.node l.holds l.states in

@@ -13,14 +13,14 @@ d = record { node = Const false; up = 0 }
 pub loop-i-preserved : goal.loop-i-preserved
 loop-i-preserved c = elim c.if-has_slot.branch [
   | then-has_slot+in_ok-push w ↦
-      ap (λ (v : Vec ℕ Global). v.items ++ owners (c.loop-i.i + 1) (drop (c.loop-i.i + 1) c.args.steps.now)) w.temporals-is
+      ap (λ (v : Vec ℕ Global). v.items ++ owners (c.loop-i.i + 1) (drop (c.loop-i.i + 1) c.args.steps.now)) w.owners-is
       ∙ ap (λ l. l ++ owners (c.loop-i.i + 1) (drop (c.loop-i.i + 1) c.args.steps.now)) w.in_ok-push.ensures.items
-      ∙ one-more c.loop-i.i c.args.steps.now d c.loop-i-test.true c.loop-i.temporals.items (sym w.if-has_slot.true ∙ c.has_slot.ensures) ∙ c.loop-i.invariant
+      ∙ one-more c.loop-i.i c.args.steps.now d c.loop-i-test.true c.loop-i.owners.items (sym w.if-has_slot.true ∙ c.has_slot.ensures) ∙ c.loop-i.invariant
   | else-has_slot w ↦
-      ap (λ (v : Vec ℕ Global). v.items ++ owners (c.loop-i.i + 1) (drop (c.loop-i.i + 1) c.args.steps.now)) w.temporals-is
-      ∙ no-more c.loop-i.i c.args.steps.now d c.loop-i-test.true c.loop-i.temporals.items (sym w.if-has_slot.false ∙ c.has_slot.ensures) ∙ c.loop-i.invariant
+      ap (λ (v : Vec ℕ Global). v.items ++ owners (c.loop-i.i + 1) (drop (c.loop-i.i + 1) c.args.steps.now)) w.owners-is
+      ∙ no-more c.loop-i.i c.args.steps.now d c.loop-i-test.true c.loop-i.owners.items (sym w.if-has_slot.false ∙ c.has_slot.ensures) ∙ c.loop-i.invariant
 ]
 
 pub returns : goal.returns
 unfolding owners
-returns c = sym (append-nil c.loop-i.temporals.items) ∙ ap (λ l. c.loop-i.temporals.items ++ owners c.loop-i.i l) (sym (drop_all c.loop-i.i c.args.steps.now (omega (arith, c.loop-i-test.false)))) ∙ c.loop-i.invariant
+returns c = sym (append-nil c.loop-i.owners.items) ∙ ap (λ l. c.loop-i.owners.items ++ owners c.loop-i.i l) (sym (drop_all c.loop-i.i c.args.steps.now (omega (arith, c.loop-i-test.false)))) ∙ c.loop-i.invariant

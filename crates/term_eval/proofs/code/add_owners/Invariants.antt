@@ -4,4 +4,4 @@ use Rattle.term_eval.proofs.code.add_owners.Given as goal
 
 -- with those of the steps that are left, they are the numbers of all
 abbrev pub invariant-loop-i : goal.invariant-loop-i
-invariant-loop-i l = l.temporals.items ++ owners l.i (drop l.i l.steps) ≡ l.fn.temporals.items ++ owners 0 l.steps
+invariant-loop-i l = l.owners.items ++ owners l.i (drop l.i l.steps) ≡ l.fn.owners.items ++ owners 0 l.steps

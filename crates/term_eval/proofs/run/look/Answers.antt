@@ -1,8 +1,8 @@
 use Rattle.std.proofs.Common.{◌≡◌, ◌+◌, ℕ, suc, min, Bool, List, ◌∙◌, ap, add-one, slice_set}
 use Rattle.term_eval.specs.declared.memory.Cell.{Cell}
-use Rattle.term_eval.specs.Climb.{climb, Climbed, node_of}
+use Rattle.term_eval.specs.Climb.{climb, Climbed, step_at}
 use Rattle.term_eval.specs.NodeState.{state_at}
-use Rattle.term_eval.specs.Run.{Run, says, due_after, cells_after, look}
+use Rattle.term_eval.specs.Run.{Run, temporal_says, due_after, cells_after, look}
 use Rattle.term_eval.proofs.run.look.Goals as goal
 
 abbrev all_of : Climbed → List Cell → ℕ → Run
@@ -14,8 +14,8 @@ returns c =
     let a = c.args in
     let t = c.tell-turn in
     let own = state_at a.states.now (a.first + a.node) in
-    let node = (node_of a.steps.now a.node).node in
-    let holds : Bool = says a.now a.cells.now own.count (state_at a.states.now (a.first + a.node + 1)).told node in
+    let node = (step_at a.steps.now a.node).node in
+    let holds : Bool = temporal_says a.now a.cells.now own.count (state_at a.states.now (a.first + a.node + 1)).told node in
     let wake : ℕ = due_after a.now a.cells.now own.count node in
     let to : ℕ → Bool → ℕ → Climbed = λ n b d. climb n a.steps.now a.first a.node b a.states.now (slice_set a.wakes.now a.slot d) in
     let climbed : record { states = c.climb.new.states; wakes = c.climb.new.wakes; stirs = c.climb.result } ≡ to (suc a.node) holds wake =

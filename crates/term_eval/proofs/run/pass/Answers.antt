@@ -8,20 +8,20 @@ use Rattle.term_eval.proofs.run.pass.Goals as goal
 pub loop-slot-init : goal.loop-slot-init
 unfolding pass_over
 loop-slot-init c =
-    let xs = c.args.temporals.now in
+    let xs = c.args.owners.now in
     let none : drop (length xs) xs ≡ [] = drop_of_length-le xs (omega arith) in
     record { range = omega arith; is = rw none refl }
 
 pub overflow_add-at : goal.overflow_add-at
 overflow_add-at c =
     let j = c.loop-slot.slot - 1 in
-    let can = c.requires j (slice_index_or c.args.temporals.now j 0) (slice_get-get_or c.args.temporals.now j 0 (omega (arith, c.loop-slot.invariant.range))) in
+    let can = c.requires j (slice_index_or c.args.owners.now j 0) (slice_get-get_or c.args.owners.now j 0 (omega (arith, c.loop-slot.invariant.range))) in
     omega (arith, can.room)
 
 pub look_or_leave-requires : goal.look_or_leave-requires
 look_or_leave-requires c =
     let j = c.loop-slot.slot - 1 in
-    let can = c.requires j (slice_index_or c.args.temporals.now j 0) (slice_get-get_or c.args.temporals.now j 0 (omega (arith, c.loop-slot.invariant.range))) in
+    let can = c.requires j (slice_index_or c.args.owners.now j 0) (slice_get-get_or c.args.owners.now j 0 (omega (arith, c.loop-slot.invariant.range))) in
     rw (c.loop-slot.auto.states) (rw (c.loop-slot.auto.wakes) (rw (c.loop-slot.auto.cells) can))
 
 -- the first of some nodes is gone through behind all the others
@@ -37,7 +37,7 @@ pub loop-slot-preserved : goal.loop-slot-preserved
 loop-slot-preserved c =
     let a = c.args in
     let j = c.loop-slot.slot - 1 in
-    let xs : List ℕ = a.temporals.now in
+    let xs : List ℕ = a.owners.now in
     let start : Run = record { states = a.states.now; wakes = a.wakes.now; cells = a.cells.now; due = never } in
     let back : c.loop-slot.slot ≡ suc j = omega arith in
     record {
@@ -56,5 +56,5 @@ returns c =
     let none : c.loop-slot.slot ≡ 0 = omega arith in
     let place : a.at + c.loop-slot.slot ≡ a.at = omega arith in
     c.loop-slot.invariant.is
-    ∙ ap (λ n. pass_over a.now a.steps.now a.first (drop c.loop-slot.slot a.temporals.now) n start) place
-    ∙ ap (λ n. pass_over a.now a.steps.now a.first (drop n a.temporals.now) a.at start) none
+    ∙ ap (λ n. pass_over a.now a.steps.now a.first (drop c.loop-slot.slot a.owners.now) n start) place
+    ∙ ap (λ n. pass_over a.now a.steps.now a.first (drop n a.owners.now) a.at start) none

@@ -1,4 +1,4 @@
-use Rattle.std.proofs.Common.{rules, ◌≡◌, ◌≤◌, ◌+◌, ◌++◌, List, length, ap, subst, sym, ◌∙◌, arith}
+use Rattle.std.proofs.Common.{rules, ◌≡◌, ◌≤◌, ◌++◌, List, length, ap, subst, sym, ◌∙◌, arith}
 use Rattle.ecam_spec.specs.Book.{Tree}
 use Rattle.ecam_spec.specs.TermSize.{nodes, slots}
 use Rattle.term_tree.specs.View.{tree_of}
@@ -47,12 +47,12 @@ hear-requires c =
 pub run-turn-requires-clause-ready : goal.run-turn-requires-clause-ready
 run-turn-requires-clause-ready c =
     let i = c.loop-moment.invariant in
-    let temporals = c.deref-in-loop-moment-3.ensures.value ∙ c.in_ok-add_owners.ensures ∙ ap (λ l. l ++ owners 0 c.deref.result.now) c.new-temporals.ensures.items
+    let listed = c.deref-in-loop-moment-3.ensures.value ∙ c.in_ok-add_owners.ensures ∙ ap (λ l. l ++ owners 0 c.deref.result.now) c.new-owners.ensures.items
     ∙ ap (owners 0) (c.deref.ensures.value ∙ sym c.deref-in-loop-moment-2.ensures.value) in (
       tree_of c.args.cond.now,
       has-room (tree_of c.args.cond.now) c.in_ok-steps.steps.items c.deref-in-loop-moment-2.result.now c.loop-moment.cells c.hear.new.nodes c.in_ok-steps.ensures c.deref-in-loop-moment-2.ensures.value
           c.requires.few i.cells (c.hear.ensures.states ∙ i.states) (c.hear.ensures.wakes ∙ i.wakes),
-      temporals,
+      listed,
     )
 
 pub loop-moment-preserved : goal.loop-moment-preserved
@@ -60,7 +60,7 @@ loop-moment-preserved c =
     let i = c.loop-moment.invariant in
     let ready = has-room (tree_of c.args.cond.now) c.in_ok-steps.steps.items c.deref-in-loop-moment-2.result.now c.loop-moment.cells c.hear.new.nodes c.in_ok-steps.ensures
     c.deref-in-loop-moment-2.ensures.value c.requires.few i.cells (c.hear.ensures.states ∙ i.states) (c.hear.ensures.wakes ∙ i.wakes) in
-    let temporals = c.deref-in-loop-moment-3.ensures.value ∙ c.in_ok-add_owners.ensures ∙ ap (λ l. l ++ owners 0 c.deref.result.now) c.new-temporals.ensures.items
+    let listed = c.deref-in-loop-moment-3.ensures.value ∙ c.in_ok-add_owners.ensures ∙ ap (λ l. l ++ owners 0 c.deref.result.now) c.new-owners.ensures.items
     ∙ ap (owners 0) (c.deref.ensures.value ∙ sym c.deref-in-loop-moment-2.ensures.value) in
-    let within = c.run-turn.ensures.within (tree_of c.args.cond.now) ready temporals in
+    let within = c.run-turn.ensures.within (tree_of c.args.cond.now) ready listed in
     record { cells = c.run-turn.ensures.len ∙ i.cells; states = within.nodes ∙ c.hear.ensures.states ∙ i.states; wakes = within.slots ∙ c.hear.ensures.wakes ∙ i.wakes }

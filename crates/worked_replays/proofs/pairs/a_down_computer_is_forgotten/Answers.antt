@@ -2,6 +2,7 @@ use Rattle.std.proofs.Common.{◌≡◌, ◌∷◌, [], ◌++◌, true, false, r
 use Rattle.ecam_spec.specs.declared.kinds.Event.TheVariants.{Fail}
 use Rattle.ecam_spec.specs.History.{Flags, flags_with, flags_after}
 use Rattle.book_model.specs.Sealed.{the_book}
+use Rattle.fwc_pair.specs.PairState.{PairFits}
 use Rattle.worked_replays.proofs.pairs.a_down_computer_is_forgotten.Goals as goal
 
 -- computer 2 is down after its failure
@@ -10,6 +11,7 @@ unfolding flags_after flags_with
 down = refl
 
 pub play-requires-2 : goal.play-requires-2
+unfolding PairFits
 play-requires-2 g c =
     let b = the_book c.in_ok-book.book in
     let stands = c.event.ensures.stands [] c.in_ok-pair.ensures.stands in
@@ -20,3 +22,7 @@ play-requires-2 g c =
       together = λ e f. absurd (let w : ⊥ = cc in w);
       still = c.event.ensures.fits.still;
     }
+
+pub copy_from-requires : goal.copy_from-requires
+unfolding PairFits
+copy_from-requires g c = (the_book c.in_ok-book.book, c.event.ensures.fits.two, c.play.ensures.one)

@@ -1,14 +1,18 @@
-use Rattle.std.proofs.Common.{◌≡◌, ◌+◌, ℕ, false, suc, length, get_or, refl, sym, ap, ◌∙◌, subst, arith, add-one}
+use Rattle.std.proofs.Common.{◌≡◌, ◌+◌, ◌*◌, ◌/◌, ℕ, false, suc, length, get_or, refl, sym, ap, ◌∙◌, subst, arith, add-one}
+use Rattle.std.specs.Prelude.{◌↔◌}
 use Rattle.ecam_spec.specs.Past.{Signal}
 use Rattle.ecam_spec.specs.Book.{Book}
+use Rattle.wakes.specs.Marks.{room}
+use Rattle.wakes.specs.declared.marked.Marked.{Marked}
 use Rattle.book_model.specs.Sealed.{the_book}
 use Rattle.book_model.proofs.BookLists.{many-alerts}
 use Rattle.alert_truth.specs.Alerts.{Tells, active}
 use Rattle.alert_truth.specs.Stars.{StarsFit, StarsStand}
-use Rattle.alert_truth.specs.TruthsState.{TruthsFit, TruthsStand, HalfStand}
+use Rattle.alert_truth.specs.TruthsState.{TruthsFit, TruthsStand, HalfStand, StarsStay, AreNear}
 use Rattle.alert_truth.specs.declared.stars.Stars.{Stars}
 use Rattle.alert_truth.specs.declared.truths.Truths.{Truths}
-use Rattle.alert_truth.proofs.Stepping.{moment-ends, still-stars, stepped-tells}
+use Rattle.alert_truth.proofs.Nearing.{near-away, settled-near, quiet-fits, quiet-near}
+use Rattle.alert_truth.proofs.Stepping.{moment-ends, still-stars, still-starred, settled-turned, stepped-tells}
 use Rattle.alert_truth.proofs.truths.Truths.settle.Goals as goal
 use Rattle.alert_truth.proofs.truths.Truths.settle.Goals.{then-self, else-self}
 
@@ -16,25 +20,72 @@ use Rattle.alert_truth.proofs.truths.Truths.settle.Goals.{then-self, else-self}
 abbrev ended : Truths → Truths
 ended t = record t { moments = t.moments + 1; changing = false; changed = t.changing }
 
-settled-fits : (b : Book) (old now : Truths) (s : Stars) → now ≡ record old { stars = s } → TruthsFit b old → StarsFit b s → TruthsFit b (ended now)
-settled-fits b old now s is fits stars =
-    subst (λ t. TruthsFit b (ended t)) (sym is) (record { since = fits.since; present = fits.present; active = fits.active; waiting = fits.waiting; room = fits.room; restless = fits.restless; stars = stars })
+abbrev with_stars : Truths → Marked → Stars → Truths
+with_stars t near s = record t { near = near; stars = s }
 
-settled-stands : (b : Book) (conditions : ℕ → Signal) (phases : ℕ → ℕ) (k : ℕ) (old now : Truths) (s : Stars) → now ≡ record old { stars = s }
-    → HalfStand b conditions phases k (length b.alerts) old → StarsFit b s → StarsStand b (active b conditions phases) (suc k) s → TruthsStand b conditions phases (suc k) (ended now)
-settled-stands b conditions phases k old now s is half fits stars =
+settled-fits : (b : Book) (old now : Truths) (near : Marked) (s : Stars) → now ≡ with_stars old near s → TruthsFit b old → room near ≡ room old.near → AreNear (with_stars old near s) → StarsFit b s
+    → TruthsFit b (ended now)
+settled-fits b old now near s is fits places are stars =
+    subst (λ t. TruthsFit b (ended t)) (sym is) (record {
+      since = fits.since;
+      present = fits.present;
+      active = fits.active;
+      waiting = fits.waiting;
+      near_room = places ∙ fits.near_room;
+      room = fits.room;
+      restless = fits.restless;
+      near = record { present = are.present; active = are.active; waiting = are.waiting; starred = are.starred; up = are.up; primaries = are.primaries };
+      stars = stars;
+    })
+
+settled-stands : (b : Book) (conditions : ℕ → Signal) (phases : ℕ → ℕ) (k : ℕ) (old now : Truths) (near : Marked) (s : Stars) → now ≡ with_stars old near s
+    → HalfStand b conditions phases k (length b.alerts) old → TruthsFit b (ended now) → StarsStand b (active b conditions phases) (suc k) s
+    → (s.turned ≡ false) ↔ StarsStay b conditions phases k → TruthsStand b conditions phases (suc k) (ended now)
+settled-stands b conditions phases k old now near s is half fits stars turned =
     subst (λ t. TruthsStand b conditions phases (suc k) (ended t)) (sym is)
-    (moment-ends b conditions phases k old (ended (record old { stars = s })) half (settled-fits b old (record old { stars = s }) s refl half.fits fits)
-    (add-one old.moments) refl refl refl refl refl refl stars)
+    (moment-ends b conditions phases k old (ended (with_stars old near s)) half (subst (λ t. TruthsFit b (ended t)) is fits)
+    (add-one old.moments) refl refl refl refl refl refl stars turned)
+
+pub settle-requires-clause-active_places : goal.settle-requires-clause-active_places
+settle-requires-clause-active_places c = ap length c.deref.ensures.value ∙ c.requires.fits.active ∙ many-alerts c.args.book.now
+
+pub settle-requires-clause-present_places : goal.settle-requires-clause-present_places
+settle-requires-clause-present_places c = ap length c.deref-then-self.ensures.value ∙ c.requires.fits.present ∙ many-alerts c.args.book.now
+
+pub settle-requires-clause-waiting_places : goal.settle-requires-clause-waiting_places
+settle-requires-clause-waiting_places c = ap length c.deref-then-self-2.ensures.value ∙ c.requires.fits.waiting ∙ many-alerts c.args.book.now
+
+pub settle-requires-clause-room : goal.settle-requires-clause-room
+settle-requires-clause-room c = c.requires.fits.near_room ∙ ap (λ n. 64 * (n / 64 + 1)) (many-alerts c.args.book.now)
 
 pub settle-requires-clause-active : goal.settle-requires-clause-active
-settle-requires-clause-active c = ap length c.deref.ensures.value ∙ c.requires.fits.active ∙ many-alerts c.args.book.now
+settle-requires-clause-active c = λ a told. c.requires.fits.near.active a (sym (ap (λ xs. get_or xs a false) c.deref.ensures.value) ∙ told)
+
+pub settle-requires-clause-present : goal.settle-requires-clause-present
+settle-requires-clause-present c = λ a told. c.requires.fits.near.present a (sym (ap (λ xs. get_or xs a false) c.deref-then-self.ensures.value) ∙ told)
+
+pub settle-requires-clause-waiting : goal.settle-requires-clause-waiting
+settle-requires-clause-waiting c = λ a told. c.requires.fits.near.waiting a (sym (ap (λ xs. get_or xs a false) c.deref-then-self-2.ensures.value) ∙ told)
+
+pub settle-requires-clause-away : goal.settle-requires-clause-away
+settle-requires-clause-away c = near-away (the_book c.args.book.now) c.args.self.now c.requires.fits.near c.requires.fits.stars
 
 pub returns-clause-fits : goal.returns-clause-fits
 returns-clause-fits c =
+    let b = the_book c.args.book.now in
+    let old = c.args.self.now in
     elim c.if-self.branch [
-      | then-self w ↦ settled-fits (the_book c.args.book.now) c.args.self.now c.if-self.self w.settle.new.self w.self-is c.requires.fits w.settle.ensures.fits
-      | else-self w ↦ settled-fits (the_book c.args.book.now) c.args.self.now c.if-self.self c.args.self.now.stars w.self-is c.requires.fits c.requires.fits.stars
+      | then-self w ↦
+          settled-fits b old c.if-self.self w.settle.new.near w.settle.new.self w.self-is c.requires.fits w.settle.ensures.room
+          (settled-near (with_stars old w.settle.new.near w.settle.new.self)
+          (λ a told. w.settle.ensures.present a (ap (λ xs. get_or xs a false) w.deref-then-self.ensures.value ∙ told))
+          (λ a told. w.settle.ensures.active a (ap (λ xs. get_or xs a false) w.deref.ensures.value ∙ told))
+          (λ a told. w.settle.ensures.waiting a (ap (λ xs. get_or xs a false) w.deref-then-self-2.ensures.value ∙ told))
+          w.settle.ensures.away)
+          w.settle.ensures.fits
+      | else-self w ↦
+          settled-fits b old c.if-self.self old.near (record old.stars { turned = false }) w.self-is c.requires.fits refl (quiet-near old c.requires.fits.near)
+          (quiet-fits b old.stars c.requires.fits.stars)
     ]
 
 pub returns-clause-stands : goal.returns-clause-stands
@@ -46,12 +97,17 @@ returns-clause-stands c = λ conditions phases k half.
     elim c.if-self.branch [
       | then-self w ↦
           let told : Tells (length c.args.book.now.alerts.items) w.deref.result.now (active b conditions phases) (suc k)
-          = λ a within. ap (λ xs. get_or xs a false) w.deref.ensures.value ∙ stepped-tells b conditions phases k old all a (omega arith) in
-          settled-stands b conditions phases k old c.if-self.self w.settle.new.self w.self-is all w.settle.ensures.fits
-          (w.settle.ensures.stands (active b conditions phases) k told)
+          = λ a within. ap (λ xs. get_or xs a false) w.deref.ensures.value ∙ stepped-tells b conditions phases k old all a (omega (arith, within, few)) in
+          let stands = w.settle.ensures.stands (active b conditions phases) k told in
+          let turned = w.settle.ensures.turned in
+          settled-stands b conditions phases k old c.if-self.self w.settle.new.near w.settle.new.self w.self-is all (returns-clause-fits c) stands
+          (settled-turned b conditions phases k old.stars w.settle.new.self all.stars stands
+          (λ e a within. turned.0 e a (omega (arith, within, few)), λ same. turned.1 (λ a within. same a (omega (arith, within, few)))))
       | else-self w ↦
-          settled-stands b conditions phases k old c.if-self.self old.stars w.self-is all all.fits.stars
-          (still-stars b conditions phases k old.stars (all.changing.0 w.if-self.false) all.stars)
+          let still = all.changing.0 w.if-self.false in
+          settled-stands b conditions phases k old c.if-self.self old.near (record old.stars { turned = false }) w.self-is all (returns-clause-fits c)
+          (still-stars b conditions phases k old.stars still all.stars)
+          (λ e. still-starred b conditions phases k still, λ same. refl)
     ]
 
 pub returns-clause-restless : goal.returns-clause-restless

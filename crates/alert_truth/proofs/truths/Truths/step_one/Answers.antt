@@ -23,6 +23,7 @@ stays-requires c =
       active = omega (arith, c.requires.fits.active, few);
       waiting = omega (arith, c.requires.fits.waiting, few);
       restless = omega (arith, c.requires.fits.room, c.requires.alert, few);
+      near = omega (arith, c.requires.fits.near_room, c.requires.alert, few);
     }
 
 pub index-requires : goal.index-requires
@@ -40,6 +41,7 @@ note-requires c =
       active = omega (arith, c.requires.fits.active, few);
       waiting = omega (arith, c.requires.fits.waiting, few);
       restless = omega (arith, c.requires.fits.room, c.requires.alert, few);
+      near = omega (arith, c.requires.fits.near_room, c.requires.alert, few);
     }
 
 -- what the book has of the alert
@@ -115,4 +117,5 @@ returns-then-stays-clause-answer c = λ conditions phases k cond phase half. con
 
 pub returns-clause-fits : goal.returns-clause-fits
 returns-clause-fits c =
-    notes-fits (the_book c.args.book.now) c.args.alert c.since_when-since.result c.is_present-present.result c.is_active-active.result c.args.self.now c.note.new.self c.note.ensures c.requires.fits
+    notes-fits (the_book c.args.book.now) c.args.alert c.since_when-since.result c.is_present-present.result c.is_active-active.result c.args.self.now c.note.new.self
+    (omega (arith, c.requires.alert, many-alerts c.args.book.now)) c.note.ensures c.requires.fits

@@ -1,9 +1,10 @@
-use Rattle.std.proofs.Common.{◌≡◌, ℕ, zero, suc, ◌-◌, [], ◌++◌, take, length, replicate, refl, sym, ap, ◌∙◌, arith}
-use Rattle.std.proofs.lemmas.List.{length-replicate}
+use Rattle.std.proofs.Common.{◌≡◌, ℕ, zero, suc, ◌+◌, ◌-◌, ◌*◌, ◌/◌, [], ◌++◌, take, length, replicate, refl, sym, ap, ◌∙◌, arith}
 use Rattle.std.specs.Box.{boxed_slice_items}
 use Rattle.book_model.specs.Sealed.{the_book}
 use Rattle.book_model.proofs.BookLists.{many-alerts}
-use Rattle.attention.proofs.StandsOn.{stands-first}
+use Rattle.book_model.proofs.BookLimits.{sizes}
+use Rattle.attention.specs.Watches.{AreKept}
+use Rattle.attention.proofs.StandsOn.{kept-first, stands-first}
 use Rattle.attention.proofs.state.Attention.new.Goals as goal
 use Rattle.attention.proofs.state.Attention.new.Goals.{After-none}
 
@@ -12,18 +13,34 @@ filled zero x = refl
 filled (suc n) x = let same : suc n - 0 ≡ suc n = omega arith in ap (λ k. replicate k x) same
 
 -- each alert is watched from the start
-all-new : (c : After-none) → boxed_slice_items c.into_boxed_slice.result ≡ replicate (length c.alerts.result.now) c.new.result
+all-new : (c : After-none) → boxed_slice_items c.into_boxed_slice.result ≡ replicate (length c.alerts-alerts.result.now) c.new.result
 all-new c =
     c.into_boxed_slice.ensures.items
     ∙ c.in_ok-resize.ensures.items
-    ∙ rw (c.new-watches.ensures.items, c.new-watches.ensures.len) (filled (length c.alerts.result.now) c.new.result)
+    ∙ rw (c.new-watches.ensures.items, c.new-watches.ensures.len) (filled (length c.alerts-alerts.result.now) c.new.result)
 
-many : (c : After-none) → length c.alerts.result.now ≡ length (the_book c.args.book.now).alerts
-many c = ap length c.alerts.ensures.value ∙ sym (many-alerts c.args.book.now)
+many : (c : After-none) → length c.alerts-alerts.result.now ≡ length (the_book c.args.book.now).alerts
+many c = ap length c.alerts-alerts.ensures.value ∙ sym (many-alerts c.args.book.now)
+
+fits : (c : After-none) → AreKept (length (the_book c.args.book.now).alerts) (boxed_slice_items c.into_boxed_slice.result) c.in_ok-busy.busy
+    c.in_ok-still_open.still_open
+fits c =
+    kept-first _ (length c.alerts-alerts.result.now) c.new.result _ (all-new c) _ _ (many c)
+    (c.in_ok-busy.ensures.size ∙ ap (λ n. 64 * (n / 64 + 1)) (many c))
+    (c.in_ok-still_open.ensures.size ∙ ap (λ n. 64 * (n / 64 + 1)) (many c))
+    c.new.ensures.down c.new.ensures.shut
 
 pub returns-clause-fits : goal.returns-clause-fits
-returns-clause-fits c = ap length (all-new c) ∙ length-replicate (length c.alerts.result.now) c.new.result ∙ many c
+returns-clause-fits c = fits c
 
 pub returns-clause-stands : goal.returns-clause-stands
 returns-clause-stands c = λ a.
-    stands-first _ a _ (length c.alerts.result.now) c.new.result refl c.none.ensures (many c) (all-new c) (λ i. c.new.ensures a i)
+    stands-first _ a _ (length c.alerts-alerts.result.now) c.new.result (fits c) refl c.none.ensures (many c) (all-new c) (λ i. c.new.ensures.stands a i)
+
+pub new-requires-2 : goal.new-requires-2
+new-requires-2 c =
+    omega (arith, ap length c.alerts-alerts.ensures.value, (sizes c.args.book.now c.alerts-alerts.ensures.sealed).alerts)
+
+pub new-requires-3 : goal.new-requires-3
+new-requires-3 c =
+    omega (arith, ap length c.alerts-alerts.ensures.value, (sizes c.args.book.now c.alerts-alerts.ensures.sealed).alerts)

@@ -1,13 +1,16 @@
-use Rattle.std.proofs.Common.{suc, ◌+◌, length, slice_get, Some, refl, ◌∙◌, ap}
+use Rattle.std.proofs.Common.{suc, ◌+◌, slice_get, Some, refl, ◌∙◌, ap}
 use Rattle.std.specs.Box.{boxed_slice_items}
 use Rattle.attention.proofs.StandsOn.{stands-next}
 use Rattle.attention.proofs.Resting.{watch-rests, calls-rest}
 use Rattle.attention.proofs.state.Attention.rest.Goals as goal
 
+pub returns-clause-fits : goal.returns-clause-fits
+returns-clause-fits c = λ b fits. rw (c.hear.ensures.watches, c.hear.ensures.busy, c.hear.ensures.still_open) fits
+
 pub returns-clause-stands : goal.returns-clause-stands
 returns-clause-stands c = λ b a k nothing stands.
     stands-next b a (suc k) c.args.self.now c.hear.new.self stands c.hear.ensures.changed
-    (ap (λ ws. length (boxed_slice_items ws)) c.hear.ensures.watches ∙ stands.fits)
+    (rw (c.hear.ensures.watches, c.hear.ensures.busy, c.hear.ensures.still_open) stands.fits)
     (c.hear.ensures.moments ∙ ap (λ n. n + 1) stands.moments)
     (λ i h. ap (λ ws. slice_get (boxed_slice_items ws) i) c.hear.ensures.watches ∙ stands.watches i h ∙ ap Some (watch-rests a k nothing i))
     (rw c.hear.ensures.calls (calls-rest a k nothing c.args.self.now.calls (stands.calls k refl)))

@@ -2,6 +2,6 @@ use Rattle.std.proofs.Common.{refl}
 use Rattle.ecam_spec.specs.Past.{previous}
 use Rattle.attention.proofs.watch.Watch.new.Goals as goal
 
-pub returns : goal.returns
+pub returns-clause-stands : goal.returns-clause-stands
 unfolding previous
-returns c = λ a i. refl
+returns-clause-stands c = λ a i. refl

@@ -10,8 +10,9 @@ use Rattle.watch_lists.specs.declared.number.Sizes.{Sizes}
 use Rattle.watch_lists.specs.Naming.{sizes_of, operand_count}
 use Rattle.watch_lists.proofs.Naming.{few-operands}
 use Rattle.watch_lists.proofs.Lines.{sizes-are}
-use Rattle.condition_codes.specs.Chains.{IsAsked, wanted, AreChains, AreAskers, AreNodes}
-use Rattle.condition_codes.specs.IsAskers.{sizes_in}
+use Rattle.condition_codes.specs.Chains.{AsksWithin, wanted, AreChains, AreAskers, AreNodes}
+use Rattle.condition_codes.specs.IsAskers.{IsAskers, sizes_in}
+use Rattle.condition_codes.specs.declared.askers.AskerTable.{AskerTable}
 use Rattle.condition_codes.proofs.NamesWithin.{all-names}
 use Rattle.condition_codes.proofs.Asked.{steps-within}
 use Rattle.condition_codes.proofs.Asking.{sizes-read, first-start, askers-of}
@@ -29,7 +30,7 @@ chains_of-requires-clause-own c =
     let ps = places (the_book d) in
     let names : All (λ (p : Placed). IsWithin n.params n.alerts p.tree) ps =
     subst (λ (m : Sizes). All (λ (p : Placed). IsWithin m.params m.alerts p.tree) ps) (sym same) (all-names d c.sealed.ensures) in
-    subst (All (λ (s : Step). IsAsked n (node_asks s.node))) (sym (c.steps.ensures ∙ c.requires.codes.whole))
+    subst (All (λ (s : Step). AsksWithin n (node_asks s.node))) (sym (c.steps.ensures ∙ c.requires.codes.whole))
     (steps-within n c.code_asks_for_what_the_condition_asks_for.ensures ps names)
 
 pub nodes_of-requires-clause-first : goal.nodes_of-requires-clause-first
@@ -57,6 +58,7 @@ returns c =
     let own : AreAskers ws nodes (length c.deref.result.now) starts askers = subst (λ l. AreAskers ws l (length c.deref.result.now) starts askers) c.deref-3.ensures.value all in
     let counted : AreAskers ws nodes (operand_count n) starts askers = subst (λ m. AreAskers ws nodes m starts askers) (ap length c.deref.ensures.value ∙ c.in_ok-firsts.ensures.operands) own in
     let numbered : AreNodes c.args.codes.now.starts.items.items nodes = subst (λ l. AreNodes l nodes) c.starts.ensures c.in_ok-nodes.ensures.nodes in
-    askers-of b c.args.codes.now c.requires c.code_asks_for_what_the_condition_asks_for.ensures nodes numbered
-    (record { starts = c.in_ok-starts.starts; askers = c.in_ok-starts.askers })
-    (subst (λ (m : Sizes). AreAskers (map (wanted m) steps) nodes (operand_count m) starts askers) same counted)
+    let table : AskerTable = record { starts = c.in_ok-starts.starts; askers = c.in_ok-starts.askers } in
+    subst (IsAskers b) (sym c.in_ok-new.ensures.ok)
+    (askers-of b c.args.codes.now c.requires c.code_asks_for_what_the_condition_asks_for.ensures nodes numbered table
+    (subst (λ (m : Sizes). AreAskers (map (wanted m) steps) nodes (operand_count m) starts askers) same counted))

@@ -16,11 +16,11 @@ returns c ps has =
     let starts : c.push.new.self.items ≡ old.starts.items ++ length (old.steps.items ++ own) ∷ [] = c.in_ok-push.ensures.items ∙ ap (λ n. old.starts.items ++ n ∷ []) end in
     let first : c.len-first.result ≡ length old.steps.items = c.len-first.ensures ∙ old.steps.ok.0 in
     let rest : take (length c.deref.result.now - c.len-first.result) (drop c.len-first.result c.deref.result.now) ≡ own = rw (c.deref.ensures.value, steps, first) (rest-is old.steps.items own) in
-    let temporal : c.add_owners.new.temporals.items ≡ old.owners.items ++ owners 0 own = c.in_ok-add_owners.ensures ∙ ap (λ l. old.owners.items ++ owners 0 l) rest in
-    let end-2 : c.len-2.result ≡ length (old.owners.items ++ owners 0 own) = c.len-2.ensures ∙ c.add_owners.new.temporals.ok.0 ∙ ap length temporal in
+    let temporal : c.add_owners.new.owners.items ≡ old.owners.items ++ owners 0 own = c.in_ok-add_owners.ensures ∙ ap (λ l. old.owners.items ++ owners 0 l) rest in
+    let end-2 : c.len-2.result ≡ length (old.owners.items ++ owners 0 own) = c.len-2.ensures ∙ c.add_owners.new.owners.ok.0 ∙ ap length temporal in
     let owner_starts : c.push-2.new.self.items ≡ old.owner_starts.items ++ length (old.owners.items ++ owners 0 own) ∷ [] =
     c.in_ok-push-2.ensures.items ∙ ap (λ n. old.owner_starts.items ++ n ∷ []) end-2 in
     record {
       codes = rw (starts, steps) (codes-next ps old.starts.items old.steps.items own has.codes (placed_of term) (record { is = refl; short = c.in_ok-add_code.ensures.short }));
-      owners = rw (owner_starts, temporal, c.in_ok-push-3.ensures.items) (owners-next ps old.owner_starts.items old.owners.items old.ats.items (owners 0 own) has.owners (placed_of term) refl);
+      owners = rw (owner_starts, temporal, c.in_ok-push-3.ensures.items) (owners-next ps old.owner_starts.items old.owners.items old.slot_starts.items (owners 0 own) has.owners (placed_of term) refl);
     }

@@ -8,7 +8,7 @@ use Rattle.ecam_kinds.specs.KeyState.{is_pressed, KeysStand}
 use Rattle.ecam_spec.specs.Screen.{cockpit, line_stands}
 use Rattle.book_model.specs.Told.{TellsOf}
 use Rattle.book_model.specs.Sealed.{the_book}
-use Rattle.book_model.proofs.BookLists.{many-parameters}
+use Rattle.book_model.proofs.BookLists.{many-parameters, many-alerts}
 use Rattle.fwc_lane.specs.Scenes.{AreTurned}
 use Rattle.fwc_lane.proofs.Ticks.{of-last, are-turned, lends-from, values-before, terms-after}
 use Rattle.fwc_lane.proofs.lane.Lane.finish.Goals as goal
@@ -16,27 +16,30 @@ use Rattle.fwc_lane.proofs.lane.Lane.finish.Goals as goal
 pub step_conditions-stepped-requires-clause-values : goal.step_conditions-stepped-requires-clause-values
 step_conditions-stepped-requires-clause-values c = ap length c.deref.ensures.value ∙ c.requires.fits.values ∙ many-parameters c.args.book.now
 
+pub step_conditions-stepped-requires-clause-shown : goal.step_conditions-stepped-requires-clause-shown
+step_conditions-stepped-requires-clause-shown c = ap length c.shown.ensures ∙ c.requires.fits.marks.many.shown ∙ many-alerts c.args.book.now
+
 pub returns-clause-whole : goal.returns-clause-whole
-returns-clause-whole c = λ m begun.
+returns-clause-whole c = λ m visited begun.
     let b = the_book c.args.book.now in
     let k = c.args.self.now.moments in
     let all = c.requires.fits.values in
     let values = begun.values in
     let told : (i : ℕ) → i < length c.deref.result.now → get_or c.deref.result.now i None ≡ value_in b m i k =
     λ i lt. ap (λ vs. get_or vs i None) c.deref.ensures.value ∙ values i (omega (arith, ap length c.deref.ensures.value, all)) in
-    let stepped = c.step_conditions-stepped.ensures.stands m c.args.self.now.terms.cells.visits (lends-from b m k _ _ _ _ _ _ c.args.self.now.params c.args.self.now.keys c.keys.ensures begun.came told) (record { terms = begun.terms; phases = begun.phases; truths = begun.truths; was = begun.phase; lines = begun.lines; memos = begun.memos }) in
-    let phase = c.step_conditions-stepped.ensures.phase m c.args.self.now.terms.cells.visits (lends-from b m k _ _ _ _ _ _ c.args.self.now.params c.args.self.now.keys c.keys.ensures begun.came told) (record { terms = begun.terms; phases = begun.phases; truths = begun.truths; was = begun.phase; lines = begun.lines; memos = begun.memos }) in
-    let lines = c.step_conditions-stepped.ensures.line_flags m c.args.self.now.terms.cells.visits (lends-from b m k _ _ _ _ _ _ c.args.self.now.params c.args.self.now.keys c.keys.ensures begun.came told) (record { terms = begun.terms; phases = begun.phases; truths = begun.truths; was = begun.phase; lines = begun.lines; memos = begun.memos }) in
-    let memos = c.step_conditions-stepped.ensures.memo_flags m c.args.self.now.terms.cells.visits (lends-from b m k _ _ _ _ _ _ c.args.self.now.params c.args.self.now.keys c.keys.ensures begun.came told) (record { terms = begun.terms; phases = begun.phases; truths = begun.truths; was = begun.phase; lines = begun.lines; memos = begun.memos }) in
+    let stepped = c.step_conditions-stepped.ensures.stands m visited (lends-from b m k _ _ _ _ _ _ c.args.self.now.params c.args.self.now.keys c.keys.ensures begun.came told) (record { terms = begun.terms; phases = begun.phases; truths = begun.truths; was = begun.phase; lines = begun.lines; memos = begun.memos }) in
+    let phase = c.step_conditions-stepped.ensures.phase m visited (lends-from b m k _ _ _ _ _ _ c.args.self.now.params c.args.self.now.keys c.keys.ensures begun.came told) (record { terms = begun.terms; phases = begun.phases; truths = begun.truths; was = begun.phase; lines = begun.lines; memos = begun.memos }) in
+    let lines = c.step_conditions-stepped.ensures.line_flags m visited (lends-from b m k _ _ _ _ _ _ c.args.self.now.params c.args.self.now.keys c.keys.ensures begun.came told) (record { terms = begun.terms; phases = begun.phases; truths = begun.truths; was = begun.phase; lines = begun.lines; memos = begun.memos }) in
+    let memos = c.step_conditions-stepped.ensures.memo_flags m visited (lends-from b m k _ _ _ _ _ _ c.args.self.now.params c.args.self.now.keys c.keys.ensures begun.came told) (record { terms = begun.terms; phases = begun.phases; truths = begun.truths; was = begun.phase; lines = begun.lines; memos = begun.memos }) in
     let enters = c.enters_one.ensures b m k begun.ticked phase begun.phase in
     let crew = c.step_crew.ensures.stands m k stepped.truths (subst (KeysStand (strokes_in b m) k) (sym c.keys-2.ensures) begun.came.strokes) enters (record { marks = begun.marks; lights = begun.attention; selection = begun.selector }) in
     let turned : AreTurned b m k c.of-turned.result =
-    are-turned b m k c.args.one_up c.args.two_up c.args.self.now c.of-turned.result c.step_conditions-stepped.result.phase c.args.values c.step_conditions-stepped.new.lines.items c.step_conditions-stepped.new.memos.items
+    are-turned b m k visited c.args.one_up c.args.two_up c.args.self.now c.of-turned.result c.step_conditions-stepped.result.phase c.args.values c.step_conditions-stepped.new.lines.items c.step_conditions-stepped.new.memos.items
     c.step_crew.new.marks c.normal-normal.result c.normal.result begun (record {
       first = c.of-turned.ensures.first;
       phase_kept = c.of-turned.ensures.phase;
       values = c.of-turned.ensures.values;
-      lines_kept = λ off. c.step_conditions-stepped.ensures.lines_kept (sym c.of-turned.ensures.lines ∙ off);
+      lines_kept = λ off a n on has. c.step_conditions-stepped.ensures.lines_kept (sym c.of-turned.ensures.lines ∙ off) a n (ap (λ fs. get_or fs a false) c.shown.ensures ∙ on) has;
       memos_kept = λ off. c.step_conditions-stepped.ensures.memos_kept (sym c.of-turned.ensures.memos ∙ off);
       marks_kept = λ off. c.step_crew.ensures.kept (sym c.changed.ensures ∙ sym c.of-turned.ensures.marks ∙ off);
       normal_kept = c.of-turned.ensures.normal;
@@ -50,7 +53,7 @@ returns-clause-whole c = λ m begun.
     record {
       counted = add-one k;
       ticked = sym (lt-ltb 0 (suc k) (omega arith));
-      terms = terms-after b m k c.args.self.now.terms.cells.visits c.step_conditions-stepped.new.terms c.args.self.now.params c.args.self.now.keys c.copy_from.new.self c.args.one_up c.args.two_up (λ x at. ap (λ (q : Keys). is_pressed q x) c.copy_from.ensures) stepped.terms begun.came;
+      terms = terms-after b m k visited c.step_conditions-stepped.new.terms c.args.self.now.params c.args.self.now.keys c.copy_from.new.self c.args.one_up c.args.two_up (λ x at. ap (λ (q : Keys). is_pressed q x) c.copy_from.ensures) stepped.terms begun.came;
       phases = stepped.phases;
       truths = stepped.truths;
       marks = crew.marks;
@@ -85,11 +88,11 @@ returns-clause-whole c = λ m begun.
     }
 
 pub returns-clause-visits : goal.returns-clause-visits
-returns-clause-visits c = λ m begun.
+returns-clause-visits c = λ m visited begun.
     let b = the_book c.args.book.now in
     let k = c.args.self.now.moments in
     let all = c.requires.fits.values in
     let told : (i : ℕ) → i < length c.deref.result.now → get_or c.deref.result.now i None ≡ value_in b m i k =
     λ i lt. ap (λ vs. get_or vs i None) c.deref.ensures.value ∙ begun.values i (omega (arith, ap length c.deref.ensures.value, all)) in
-    let stepped = c.step_conditions-stepped.ensures.stands m c.args.self.now.terms.cells.visits (lends-from b m k _ _ _ _ _ _ c.args.self.now.params c.args.self.now.keys c.keys.ensures begun.came told) (record { terms = begun.terms; phases = begun.phases; truths = begun.truths; was = begun.phase; lines = begun.lines; memos = begun.memos }) in
+    let stepped = c.step_conditions-stepped.ensures.stands m visited (lends-from b m k _ _ _ _ _ _ c.args.self.now.params c.args.self.now.keys c.keys.ensures begun.came told) (record { terms = begun.terms; phases = begun.phases; truths = begun.truths; was = begun.phase; lines = begun.lines; memos = begun.memos }) in
     stepped.terms.counted

@@ -1,6 +1,7 @@
 use Rattle.std.proofs.Common.{refl, ap}
 use Rattle.ecam_spec.specs.History.{flags_with, comes_up}
 use Rattle.book_model.specs.Sealed.{the_book}
+use Rattle.fwc_pair.proofs.Fitting.{fail-fits}
 use Rattle.fwc_pair.proofs.Pairs.{failed, fail-flags, quiet-up}
 use Rattle.fwc_pair.proofs.VisitSteps.{fail-visits}
 use Rattle.fwc_pair.proofs.pair.Pair.note_health.Goals as goal
@@ -53,3 +54,9 @@ returns-in-End-clause-stands c = λ h same up. quiet-up (the_book c.args.book.no
 
 pub returns-in-Fail-clause-unvisited : goal.returns-in-Fail-clause-unvisited
 returns-in-Fail-clause-unvisited c = fail-visits c.in-Fail.computer c.args.self.now c.fail.new.self c.fail.ensures
+
+pub returns-in-Fail-clause-fits : goal.returns-in-Fail-clause-fits
+returns-in-Fail-clause-fits c = fail-fits (the_book c.args.book.now) c.in-Fail.computer c.args.self.now c.fail.new.self c.fail.ensures c.requires
+
+pub returns-in-Up-clause-stands : goal.returns-in-Up-clause-stands
+returns-in-Up-clause-stands c = λ h same up. rw c.in-Up.is (c.wake.ensures.stands h same up)

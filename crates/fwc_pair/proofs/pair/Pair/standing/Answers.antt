@@ -1,9 +1,12 @@
-use Rattle.std.proofs.Common.{◌≡◌, ◌<◌, true, false, length, refl, sym, ap, ◌∙◌, arith}
+use Rattle.std.proofs.Common.{◌≡◌, ◌<◌, true, false, length, refl, sym, ap, subst, ◌∙◌, arith}
 use Rattle.ecam_spec.specs.History.{none_up, flags_after}
 use Rattle.book_model.specs.Sealed.{the_book}
 use Rattle.book_model.proofs.BookLists.{many-alerts}
+use Rattle.fwc_lane.specs.LaneFits.{LaneFits}
+use Rattle.fwc_pair.proofs.Fitting.{either-fits}
 use Rattle.fwc_pair.proofs.Pairs.{some-up}
 use Rattle.fwc_pair.proofs.Stood.{standing-by, dead-standing}
+use Rattle.fwc_pair.specs.PairState.{PairFits}
 use Rattle.fwc_pair.proofs.pair.Pair.standing.Goals as goal
 
 pub returns-in-Some : goal.returns-in-Some
@@ -15,3 +18,10 @@ returns-in-Some c = λ h st.
 
 pub returns-in-None : goal.returns-in-None
 returns-in-None c = λ h st. dead-standing (the_book c.args.book.now) h c.args.alert (ap none_up (sym st.flags) ∙ c.in-None.ensures.none.0 refl)
+
+pub standing_by-requires-clause-fits : goal.standing_by-requires-clause-fits
+unfolding PairFits
+standing_by-requires-clause-fits c =
+    let b = the_book c.args.book.now in
+    let p = c.args.self.now in
+    subst (LaneFits b) (sym c.in-Some.ensures.first) (either-fits b p.one_up p.one p.two c.requires.fits.one c.requires.fits.two)

@@ -1,22 +1,25 @@
-use Rattle.std.proofs.Common.{◌+◌, ◌∷◌, [], ◌++◌, refl, sym, ap, cond, ◌∙◌, subst}
+use Rattle.std.proofs.Common.{◌+◌, ◌^◌, ◌<◌, ◌∷◌, [], ◌++◌, refl, sym, ap, cond, ◌∙◌, subst}
 use Rattle.ecam_spec.specs.History.{changes_computers, flags_with, begun}
 use Rattle.ecam_spec.specs.Replay.{is_tick}
 use Rattle.ecam_kinds.specs.Shown.{picture_of}
 use Rattle.book_model.specs.Sealed.{the_book}
-use Rattle.fwc_pair.specs.PairState.{PairStands}
+use Rattle.fwc_pair.specs.PairState.{UpStand, PairFits, PairStands, moments_of}
 use Rattle.fwc_pair.specs.declared.pair.Pair.{Pair}
+use Rattle.fwc_pair.proofs.Fitting.{one-grows, two-grows}
 use Rattle.fwc_pair.proofs.Pairs.{ShowsUp, are-up, kept-still, went-on, ended}
 use Rattle.fwc_pair.specs.PairVisits.{Visits, tick_visits}
 use Rattle.fwc_pair.proofs.VisitSteps.{is-tick, visits-are}
 use Rattle.fwc_pair.proofs.pair.Pair.take.Goals as goal
 
 pub show-requires-clause-one : goal.show-requires-clause-one
+unfolding PairFits
 show-requires-clause-one c = λ calm. (c.step.ensures.fits.calm calm).changed
 
 pub show-requires-clause-two : goal.show-requires-clause-two
 show-requires-clause-two c = λ calm. (c.step-2.ensures.fits.calm calm).changed
 
 pub returns-clause-fits : goal.returns-clause-fits
+unfolding PairFits
 returns-clause-fits c =
     let x = c.args.event.now in
     let mid = c.note_health.new.self in
@@ -29,6 +32,7 @@ returns-clause-fits c =
     }
 
 pub returns-clause-stands : goal.returns-clause-stands
+unfolding PairFits UpStand
 returns-clause-stands c = λ h st.
     let b = the_book c.args.book.now in
     let x = c.args.event.now in
@@ -63,6 +67,7 @@ returns-clause-end c = λ is h st.
     ended b h new (subst (λ x. PairStands b (h ++ x ∷ []) new) is (returns-clause-stands c h st))
 
 pub returns-clause-visits : goal.returns-clause-visits
+unfolding UpStand
 returns-clause-visits c = λ h st tick.
     let b = the_book c.args.book.now in
     let x = c.args.event.now in
@@ -79,3 +84,22 @@ returns-clause-visits c = λ h st tick.
 
 pub returns-clause-unvisited : goal.returns-clause-unvisited
 returns-clause-unvisited c = λ quiet. (c.step.ensures.unvisited quiet ∙ c.note_health.ensures.unvisited.0, c.step-2.ensures.unvisited quiet ∙ c.note_health.ensures.unvisited.1)
+
+pub step-requires-clause-goes_on : goal.step-requires-clause-goes_on
+step-requires-clause-goes_on c = λ on tick.
+    let same = c.note_health.ensures.kept (ap changes_computers (is-tick c.args.event.now tick)) in
+    one-grows c.note_health.new.self (subst (λ p. moments_of p < 2 ^ 63) (sym same) (c.requires.moments tick)) on
+
+pub step-requires-2-clause-goes_on : goal.step-requires-2-clause-goes_on
+unfolding PairFits
+step-requires-2-clause-goes_on c = λ on tick.
+    let same = c.note_health.ensures.kept (ap changes_computers (is-tick c.args.event.now tick)) in
+    two-grows c.note_health.new.self (subst (λ p. moments_of p < 2 ^ 63) (sym same) (c.requires.moments tick)) c.note_health.ensures.fits.together on
+
+pub step-requires-clause-fits : goal.step-requires-clause-fits
+unfolding PairFits
+step-requires-clause-fits c = c.note_health.ensures.fits.one
+
+pub step-requires-2-clause-fits : goal.step-requires-2-clause-fits
+unfolding PairFits
+step-requires-2-clause-fits c = c.note_health.ensures.fits.two

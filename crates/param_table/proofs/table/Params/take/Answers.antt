@@ -15,7 +15,7 @@ nothing (Some n) none = absurd (let w : ⊥ = cc in w)
 pub returns-then-is_none-clause-stands : goal.returns-then-is_none-clause-stands
 returns-then-is_none-clause-stands c = λ old new k on stands.
     let w : BusWord = record { bus = c.args.bus; bits = c.args.bits } in
-    unheard_word (the_book c.args.book.now) old new k w c.args.self.now on (nothing c.last_listener.result c.if-is_none.ensures ∙ c.last_listener.ensures.value) stands
+    unheard_word (the_book c.args.book.now) old new k w c.args.self.now on (nothing c.last_listener-last.result c.if-is_none.ensures ∙ c.last_listener-last.ensures.value) stands
 
 pub returns-then-odd-clause-stands : goal.returns-then-odd-clause-stands
 returns-then-odd-clause-stands c = λ old new k on stands.

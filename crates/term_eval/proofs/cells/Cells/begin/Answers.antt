@@ -1,8 +1,9 @@
-use Rattle.std.proofs.Common.{ℕ, ◌≤◌, false, length, refl, sym, subst, ap, ◌∙◌, arith, rules}
+use Rattle.std.proofs.Common.{ℕ, ◌≤◌, length, refl, sym, subst, ap, ◌∙◌, arith, rules}
 use Rattle.std.specs.Vec.{with_items}
 use Rattle.std.proofs.lemmas.List.{with_items_is, get_or_default}
 use Rattle.ecam_spec.specs.Book.{Tree}
 use Rattle.term_eval.specs.declared.nodes.NodeState.{NodeState}
+use Rattle.term_eval.specs.NodeState.{unasked}
 use Rattle.term_eval.specs.CellWords.{never}
 use Rattle.term_eval.specs.Memory.{Memory, NodeMemory}
 use Rattle.term_eval.specs.Code.{IsReady}
@@ -10,7 +11,8 @@ use Rattle.term_eval.specs.Run.{Run}
 use Rattle.term_eval.specs.Begin.{ask_over, unasked_from}
 use Rattle.term_eval.proofs.Codes.{nodes-some}
 use Rattle.term_eval.proofs.AskedTree.{After}
-use Rattle.term_eval.proofs.Begun.{start, can-ready, room-ready, begun, same-run, done, due, nodes-stand, is-first, within}
+use Rattle.term_eval.proofs.SameRun.{same-run}
+use Rattle.term_eval.proofs.Begun.{start, can-ready, room-ready, begun, done, due, nodes-stand, is-first, within}
 use Rattle.term_eval.proofs.cells.Cells.begin.Goals as goal
 
 pub ask_all-due-requires-clause-can : goal.ask_all-due-requires-clause-can
@@ -71,7 +73,7 @@ returns-clause-truth c tree at ready w shows stands =
     let a = after c tree at ready in
     let d = done _ _ _ _ _ _ _ ready _ a w shows stands in
     let b = within _ _ _ _ _ _ _ ready _ a in
-    ap (λ (n : NodeState). n.told) (c.index.ensures ∙ get_or_default _ c.args.first c.index.result.now (record { count = 0; told = false }) (omega (arith, b.nodes, ready.held.nodes, nodes-some tree)))
+    ap (λ (n : NodeState). n.told) (c.index.ensures ∙ get_or_default _ c.args.first c.index.result.now unasked (omega (arith, b.nodes, ready.held.nodes, nodes-some tree)))
     ∙ d.told
 
 pub returns-clause-due : goal.returns-clause-due

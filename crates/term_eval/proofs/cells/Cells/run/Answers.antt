@@ -1,4 +1,4 @@
-use Rattle.std.proofs.Common.{◌≡◌, ℕ, suc, ◌+◌, ◌≤◌, false, length, inl, inr, refl, sym, subst, ap, ◌∙◌, arith, rules}
+use Rattle.std.proofs.Common.{◌≡◌, ℕ, suc, ◌+◌, ◌≤◌, length, inl, inr, refl, sym, subst, ap, ◌∙◌, arith, rules}
 use Rattle.std.specs.Vec.{with_items}
 use Rattle.std.proofs.lemmas.List.{with_items_is, get_or_default}
 use Rattle.ecam_spec.specs.Book.{Tree}
@@ -11,11 +11,12 @@ use Rattle.term_eval.specs.Asked.{heard}
 use Rattle.term_eval.specs.Woken.{moved}
 use Rattle.term_eval.specs.Memory.{Memory, NodeMemory}
 use Rattle.term_eval.specs.Code.{IsReady, owners}
-use Rattle.term_eval.specs.NodeState.{NodesWait}
+use Rattle.term_eval.specs.NodeState.{unasked, NodesWait}
 use Rattle.term_eval.specs.Run.{Run, pass_over, CanPass}
 use Rattle.term_eval.proofs.Codes.{nodes-some}
 use Rattle.term_eval.proofs.PassFrame.{Framed}
 use Rattle.term_eval.proofs.CanPass.{can-pass}
+use Rattle.term_eval.proofs.SameRun.{same-run}
 use Rattle.term_eval.proofs.Ran.{fresh, ran, ran-frame, Done, done}
 use Rattle.term_eval.proofs.cells.Cells.run.Goals as goal
 
@@ -25,7 +26,7 @@ pass-due-requires c =
     let states = ap length (c.deref_mut.ensures.value ∙ ap (λ (n : NodeMemory). n.states) c.states.view_is) in
     let wakes = ap length (c.deref_mut-2.ensures.value ∙ ap (λ (n : NodeMemory). n.wakes) c.states.view_is) in
     let cells = ap length (c.deref_mut-3.ensures.value ∙ ap (λ (m : Memory). m.slots) c.self.view_is) in
-    let can : CanPass c.args.steps.now c.args.first (length c.args.states.now.states) (length c.args.states.now.wakes) (length c.args.self.now.slots) c.args.temporals.now c.args.at =
+    let can : CanPass c.args.steps.now c.args.first (length c.args.states.now.states) (length c.args.states.now.wakes) (length c.args.self.now.slots) c.args.owners.now c.args.at =
     subst (λ l. CanPass c.args.steps.now c.args.first (length c.args.states.now.states) (length c.args.states.now.wakes) (length c.args.self.now.slots) l c.args.at) (sym listed)
     (can-pass c.args.steps.now c.args.self.now c.args.states.now tree c.args.at c.args.first ready) in
     rw states (rw wakes (rw cells can))
@@ -36,13 +37,6 @@ index-requires c =
     let len = ap (λ (n : NodeMemory). length n.states) c.states.view_is in
     let own = c.states.inside.states.items.ok.0 in
     omega (arith, ready.held.nodes, nodes-some tree, len, own)
-
-same-run : (s t : Run) → s.states ≡ t.states → s.wakes ≡ t.wakes → s.cells ≡ t.cells → s.due ≡ t.due → s ≡ t
-same-run s t states wakes cells due =
-    ap (λ l. record { states = l; wakes = s.wakes; cells = s.cells; due = s.due }) states
-    ∙ ap (λ l. record { states = t.states; wakes = l; cells = s.cells; due = s.due }) wakes
-    ∙ ap (λ l. record { states = t.states; wakes = t.wakes; cells = l; due = s.due }) cells
-    ∙ ap (λ n. record { states = t.states; wakes = t.wakes; cells = t.cells; due = n }) due
 
 -- what is kept when the temporal nodes were gone through
 last : goal.After-index → Run
@@ -58,7 +52,7 @@ passed : goal.After-index → Run
 passed c = record { states = c.pass-due.new.states; wakes = c.pass-due.new.wakes; cells = c.pass-due.new.cells; due = c.pass-due.result }
 
 after : (c : goal.After-index) (tree : Tree) (ready : IsReady c.args.steps.now c.args.self.now c.args.states.now tree c.args.at c.args.first) →
-    c.args.temporals.now ≡ owners 0 c.args.steps.now → ran c.args.now c.args.steps.now c.args.self.now c.args.states.now tree c.args.at c.args.first ready ≡ last c
+    c.args.owners.now ≡ owners 0 c.args.steps.now → ran c.args.now c.args.steps.now c.args.self.now c.args.states.now tree c.args.at c.args.first ready ≡ last c
 unfolding last passed
 after c tree ready listed =
     let states = c.deref_mut.ensures.value ∙ ap (λ (n : NodeMemory). n.states) c.states.view_is in
@@ -74,14 +68,14 @@ after c tree ready listed =
     ∙ sym {a = last c} (same-run (last c) (passed c) new-states new-wakes new-cells refl)
 
 frame : (c : goal.After-index) (tree : Tree) (ready : IsReady c.args.steps.now c.args.self.now c.args.states.now tree c.args.at c.args.first) →
-    c.args.temporals.now ≡ owners 0 c.args.steps.now →
+    c.args.owners.now ≡ owners 0 c.args.steps.now →
     Framed c.args.first (c.args.first + nodes tree) c.args.at (c.args.at + slots tree) c.args.at (slots tree) (fresh c.args.self.now c.args.states.now) (last c)
 frame c tree ready listed =
     subst (Framed c.args.first (c.args.first + nodes tree) c.args.at (c.args.at + slots tree) c.args.at (slots tree) (fresh c.args.self.now c.args.states.now)) (after c tree ready listed)
     (ran-frame c.args.now c.args.steps.now c.args.self.now c.args.states.now tree c.args.at c.args.first ready)
 
 all-done : (c : goal.After-index) (tree : Tree) → IsReady c.args.steps.now c.args.self.now c.args.states.now tree c.args.at c.args.first →
-    c.args.temporals.now ≡ owners 0 c.args.steps.now → (w : World) (h : ℕ) → c.args.now ≡ suc h → Stand w c.args.now tree c.args.at c.args.self.now.slots →
+    c.args.owners.now ≡ owners 0 c.args.steps.now → (w : World) (h : ℕ) → c.args.now ≡ suc h → Stand w c.args.now tree c.args.at c.args.self.now.slots →
     NodesWait w h (heard (moved w c.args.now) tree) tree c.args.at c.args.first c.args.states.now → Done w c.args.now tree c.args.at c.args.first (last c)
 all-done c tree ready listed w h is stand waits =
     let most : length c.args.states.now.states ≤ never = search rules in
@@ -93,7 +87,7 @@ unfolding last
 returns-clause-truth c tree ready listed w h is stand waits =
     let d = all-done c tree ready listed w h is stand waits in
     let f = frame c tree ready listed in
-    ap (λ (n : NodeState). n.told) (c.index.ensures ∙ get_or_default _ c.args.first c.index.result.now (record { count = 0; told = false }) (omega (arith, f.nodes, ready.held.nodes, nodes-some tree)))
+    ap (λ (n : NodeState). n.told) (c.index.ensures ∙ get_or_default _ c.args.first c.index.result.now unasked (omega (arith, f.nodes, ready.held.nodes, nodes-some tree)))
     ∙ d.told
 
 pub returns-clause-due : goal.returns-clause-due

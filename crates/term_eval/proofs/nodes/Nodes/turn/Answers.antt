@@ -51,11 +51,11 @@ ran c =
     lent c.args.steps.now c.args.first c.args.node c.atom_says-holds.result c.climb.result c.args.self.now _ _ _ _ _ states wakes new_states new_wakes c.climb.ensures
 
 pub returns-clause-waits : goal.returns-clause-waits
-returns-clause-waits c tree at ready w h asked x atoms asks reads waits =
+returns-clause-waits c tree at ready w h updated x atoms asks reads waits =
     let states = c.deref_mut.ensures.value ∙ ap (λ (n : NodeMemory). n.states) c.self.view_is in
     let few : length c.args.self.now.states < 2 ^ 64 = omega (arith, ap length states, c.deref_mut.type_inv.0) in
-    subst (λ (done : Climbed). NodesWait w h (also c.args.node asked) tree at c.args.first (kept_by done)) (ran c)
-    (turned-waits w h asked tree at c.args.first c.args.node x c.args.reading c.args.self.now c.args.steps.now c.atom_says-holds.result ready few
+    subst (λ (done : Climbed). NodesWait w h (also c.args.node updated) tree at c.args.first (kept_by done)) (ran c)
+    (turned-waits w h updated tree at c.args.first c.args.node x c.args.reading c.args.self.now c.args.steps.now c.atom_says-holds.result ready few
     atoms asks reads c.atom_says-holds.ensures waits)
 
 pub returns-clause-within : goal.returns-clause-within
