@@ -18,7 +18,7 @@ use Rattle.book_model.proofs.BookLists.{book-alerts, many-alerts, many-memos}
 use Rattle.book_model.proofs.BookReads.{view-get}
 
 -- two conditions a line
-two-each : (ls : List Line) → length (flat_map line_places ls) ≡ 2 * length ls
+pub two-each : (ls : List Line) → length (flat_map line_places ls) ≡ 2 * length ls
 two-each [] = refl
 two-each (l ∷ ls) = omega (arith, two-each ls)
 

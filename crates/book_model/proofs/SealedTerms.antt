@@ -76,8 +76,8 @@ module _ {params alerts : ℕ} where
 abbrev pub plain_terms : PlainDraft → List Tree
 plain_terms d = phase_terms d.phase ++ map (λ a. a.when) d.alerts ++ line_terms (flat_map (λ a. a.lines) d.alerts) ++ map (λ m. m.when) d.memos
 
--- the slots of a sound draft fit in memory
-pub slots-fit : (d : PlainDraft) → IsSound d → slots_in (plain_terms d) < 2 ^ 64
+-- the slots of a sound draft have numbers of 32 bits
+pub slots-fit : (d : PlainDraft) → IsSound d → slots_in (plain_terms d) < 2 ^ 32
 slots-fit d h =
     omega (
       arith,

@@ -11,6 +11,7 @@ use Rattle.book_model.specs.declared.draft.Draft.{Draft}
 use Rattle.book_model.proofs.BookLists.{many-parameters, many-alerts}
 use Rattle.term_eval.specs.Asked.{asked, node_asks, Asks}
 use Rattle.term_eval.specs.Code.{code}
+use Rattle.term_eval.specs.Reading.{test_of}
 use Rattle.term_eval.specs.Woken.{Operand}
 use Rattle.term_eval.specs.declared.code.Step.{Step}
 use Rattle.watch_lists.specs.declared.number.Sizes.{Sizes}
@@ -23,8 +24,11 @@ use Rattle.condition_codes.specs.Flat.{piece}
 use Rattle.condition_codes.specs.Chains.{wanted, Wants, AreAskers, AreNodes}
 use Rattle.condition_codes.specs.IsCodes.{IsCodes}
 use Rattle.condition_codes.specs.IsAskers.{IsAskers, IsAsking, sizes_in}
+use Rattle.condition_codes.specs.Places.{nodes_before}
 use Rattle.condition_codes.proofs.Flat.{piece-get, piece-within, piece-has, InPiece, in-piece}
-use Rattle.condition_codes.proofs.Places.{nodes-none}
+use Rattle.condition_codes.proofs.Linking.{step-at}
+use Rattle.condition_codes.proofs.Numbering.{node_of}
+use Rattle.condition_codes.proofs.Places.{nodes-none, nodes-next}
 
 -- the sizes that are read are the book's
 pub sizes-read : (d : Draft) (p a : ℕ) → p ≡ length d.params.items → a ≡ length d.alerts.items → (let n : Sizes = record { params = p; alerts = a } in n) ≡ sizes_in (the_book d)
@@ -76,26 +80,36 @@ module _ (b : Book) (c : CodeTable) (coded : IsCodes b c) (asks : (t : Tree) (at
   wants j i x found =
       want (slice_index starts j + i) found.step (piece-get starts steps j i found.step found.is) ∙ ap (λ o. Some (option_map (operand_number (sizes_in b)) o)) found.asks_for
 
-  module _ (nodes : List Asker) (are : AreNodes starts nodes) where
+  -- the node that is noted of a condition
+  abbrev node : ℕ → ℕ → Asker
+  node = node_of steps starts
+
+  module _ (nodes : List Asker) (are : AreNodes starts steps nodes) where
     -- among all nodes, one of a condition has its own number
-    numbered : (j i : ℕ) → j < length (places b) → slice_index starts j + i < slice_index starts (suc j) → slice_get nodes (slice_index starts j + i) ≡ Some (record { term = j; node = i })
+    numbered : (j i : ℕ) → j < length (places b) → slice_index starts j + i < slice_index starts (suc j) → slice_get nodes (slice_index starts j + i) ≡ Some (node j i)
     numbered j i lt less = are j i (omega (arith, lt, coded.codes.pieces.count)) less
 
     module _ (o m : ℕ) (wanting : Wants ws m o) where
       -- a node of a condition asks for what it wants
       module _ (j i : ℕ) (is : slice_index starts j + i ≡ m) (less : slice_index starts j + i < slice_index starts (suc j)) where
         by-operand : (p : Placed) (s : Step) (x : Option Operand) → slice_get (places b) j ≡ Some p → slice_get (own j) i ≡ Some s → node_asks s.node ≡ x
-            → option_map (operand_number (sizes_in b)) x ≡ Some o → IsAsking b o (record { term = j; node = i })
+            → option_map (operand_number (sizes_in b)) x ≡ Some o → IsAsking b o (node j i)
         by-operand p s None place step none number = absurd (let w : ⊥ = cc in w)
-        by-operand p s (Some x) place step some number = record {
-          place = p;
-          operand = x;
-          there = place;
-          asks = sym (told j i p place) ∙ ap (option_map (λ (t : Step). node_asks t.node)) step ∙ ap Some some;
-          number = same_Some (operand_number (sizes_in b) x) o number;
-        }
+        by-operand p s (Some x) place step some number =
+            let inside : j < length (places b) = slice_get_within (places b) j p place in
+            let start : slice_index starts j ≡ nodes_before (places b) j = coded.codes.nodes j (omega (arith, inside)) in
+            record {
+              place = p;
+              operand = x;
+              there = place;
+              asks = sym (told j i p place) ∙ ap (option_map (λ (t : Step). node_asks t.node)) step ∙ ap Some some;
+              number = same_Some (operand_number (sizes_in b) x) o number;
+              first = start;
+              size = omega (arith, start, coded.codes.nodes (suc j) (omega (arith, inside)), nodes-next (places b) j p place);
+              test = ap (λ (t : Step). test_of t.node) (step-at b c coded j i p place less);
+            }
 
-        by-step : (p : Placed) (s : Step) → slice_get (places b) j ≡ Some p → slice_get steps m ≡ Some s → IsAsking b o (record { term = j; node = i })
+        by-step : (p : Placed) (s : Step) → slice_get (places b) j ≡ Some p → slice_get steps m ≡ Some s → IsAsking b o (node j i)
         by-step p s place step =
             by-operand p s (node_asks s.node) place (piece-has starts steps j i s less (ap (slice_get steps) is ∙ step)) refl
             (same_Some (wanted (sizes_in b) s) (Some o) (sym (want m s step) ∙ wanting))
@@ -107,7 +121,7 @@ module _ (b : Book) (c : CodeTable) (coded : IsCodes b c) (asks : (t : Tree) (at
       here : InPiece (length (places b)) starts m
       here = in-piece starts (first-start b c coded) (length (places b)) m (omega (arith, in-steps, coded.codes.pieces.ends))
 
-      known : IsAsking b o (record { term = here.number; node = here.within })
+      known : IsAsking b o (node here.number here.within)
       known = elim (slice_get_cases (places b) here.number).1 [
         | inl place ↦ elim (slice_get_cases steps m).1 [
           | inl step ↦ by-step here.number here.within here.is here.high place.0 step.0 place.2 step.2
@@ -118,7 +132,7 @@ module _ (b : Book) (c : CodeTable) (coded : IsCodes b c) (asks : (t : Tree) (at
 
       asking : (a : Asker) → slice_get nodes m ≡ Some a → IsAsking b o a
       asking a there =
-          let x : Asker = record { term = here.number; node = here.within } in
+          let x = node here.number here.within in
           let same : x ≡ a = same_Some x a (sym (numbered here.number here.within here.low here.high) ∙ ap (slice_get nodes) here.is ∙ there) in
           subst (IsAsking b o) same known
 
@@ -129,6 +143,7 @@ module _ (b : Book) (c : CodeTable) (coded : IsCodes b c) (asks : (t : Tree) (at
           let found = find j i p x is atom in
           let m = slice_index starts j + i in
           let own = numbered j i (slice_get_within (places b) j p is) (piece-within starts steps j i found.step found.is) in
-          (lists.lists o lt).each m (record { term = j; node = i }) (subst (Wants ws m) number (wants j i x found)) own;
+          let listed = (lists.lists o lt).each m (node j i) (subst (Wants ws m) number (wants j i x found)) own in
+          (listed.0, node j i, listed.1, refl, refl);
       only = λ o k x lt is. let found = (lists.lists o lt).only k x is in asking o found.0 found.1 x found.2;
     }

@@ -1,5 +1,5 @@
 -- One list more is put behind the others.
-use Rattle.std.proofs.Common.{◌≡◌, ℕ, zero, suc, ◌+◌, ◌-◌, ◌<◌, ◌≤◌, List, [], ◌∷◌, ◌++◌, length, take, drop, slice_get, slice_index, Some, refl, sym, ap, ◌∙◌, inl, inr, arith}
+use Rattle.std.proofs.Common.{◌≡◌, ℕ, zero, suc, ◌+◌, ◌-◌, ◌<◌, ◌≤◌, List, [], ◌∷◌, ◌++◌, length, take, drop, slice_get, slice_index, slice_index_or, Some, refl, sym, ap, ◌∙◌, inl, inr, arith}
 use Rattle.std.proofs.lemmas.Bool.{cases_lt}
 use Rattle.std.proofs.lemmas.List.{get_or_append_left, get_or_push, get_or-take, get_or-drop, length-append, length-take, length-drop, take_all, drop_all, take-append-le, drop-append-le}
 use Rattle.std.proofs.lemmas.Option.{slice_get_within, slice_get-get_or, get_or_from_slice_get}
@@ -86,6 +86,14 @@ piece-within starts items j i x is =
     let b = slice_index starts (suc j) in
     omega (arith, slice_get_within (piece starts items j) i x is, length-take (b - a) (drop a items))
 
+-- where the piece goes so far, the same is read in it and among all items
+pub piece-at : {X : Type 0} (starts : List ℕ) (items : List X) (j i : ℕ) (d : X) → slice_index starts j + i < slice_index starts (suc j)
+    → slice_index_or (piece starts items j) i d ≡ slice_index_or items (slice_index starts j + i) d
+piece-at starts items j i d less =
+    let a = slice_index starts j in
+    let b = slice_index starts (suc j) in
+    get_or-take (b - a) (drop a items) i d (omega arith) ∙ get_or-drop a items i d
+
 -- what stands there among all items the piece has
 pub piece-has : {X : Type 0} (starts : List ℕ) (items : List X) (j i : ℕ) (x : X) → slice_index starts j + i < slice_index starts (suc j) → slice_get items (slice_index starts j + i) ≡ Some x
     → slice_get (piece starts items j) i ≡ Some x
@@ -96,7 +104,7 @@ piece-has starts items j i x less is =
     let own : i < b - a = omega arith in
     let lt : i < length (piece starts items j) = omega (arith, length-take (b - a) (drop a items), length-drop a items) in
     slice_get-get_or (piece starts items j) i x lt
-    ∙ ap Some (get_or-take (b - a) (drop a items) i x own ∙ get_or-drop a items i x ∙ get_or_from_slice_get items (a + i) x x is)
+    ∙ ap Some (piece-at starts items j i x less ∙ get_or_from_slice_get items (a + i) x x is)
 
 -- a place among all items is one in one of n pieces
 pub record InPiece (n : ℕ) (starts : List ℕ) (m : ℕ) : Type 0 where

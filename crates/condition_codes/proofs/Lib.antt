@@ -3,10 +3,11 @@ pub mod Behind
 pub mod Flat
 pub mod Appending
 pub mod Owning
+pub mod Limits
 pub mod Walking
-pub mod NamesWithin
 pub mod Asked
 pub mod Chaining
 pub mod Walked
 pub mod Numbering
+pub mod Linking
 pub mod Asking

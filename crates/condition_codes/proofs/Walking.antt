@@ -1,12 +1,11 @@
 -- The conditions of a book are gone through part by part.
-use Rattle.std.proofs.Common.{◌≡◌, ℕ, ◌+◌, ◌<◌, ◌^◌, List, [], ◌∷◌, ◌++◌, map, length, take, get_or, slice_get, Some, refl, sym, ap, subst, ◌∙◌, arith}
+use Rattle.std.proofs.Common.{◌≡◌, ℕ, ◌+◌, ◌<◌, List, [], ◌∷◌, ◌++◌, map, length, take, get_or, slice_get, Some, refl, sym, ap, subst, ◌∙◌}
 use Rattle.std.specs.List.{flat_map}
 use Rattle.std.specs.Prelude.{Result, Ok, Err, OnOk}
 use Rattle.std.proofs.lemmas.List.{append_assoc, append-nil, map-append, take_more}
 use Rattle.std.proofs.lemmas.Grind.{flat_map-append}
-use Rattle.ecam_spec.specs.BookTerms.{slots_in}
-use Rattle.ecam_spec.specs.TermSize.{Placed, slots}
-use Rattle.book_model.specs.View.{tree_in, placed_of, draft_of}
+use Rattle.ecam_spec.specs.TermSize.{Placed}
+use Rattle.book_model.specs.View.{placed_of}
 use Rattle.book_model.specs.Sealed.{the_book, IsSealed}
 use Rattle.book_model.specs.Conditions.{places}
 use Rattle.book_model.specs.Slots.{phase_places, when_place, lines_places, memo_place, draft_places}
@@ -15,50 +14,44 @@ use Rattle.book_model.specs.declared.draft.PhaseTerms.{PhaseTerms}
 use Rattle.book_model.specs.declared.draft.Line.{Line}
 use Rattle.book_model.specs.declared.draft.Alert.{Alert}
 use Rattle.book_model.specs.declared.draft.Draft.{Draft}
-use Rattle.book_model.proofs.SealedTerms.{slots-fit, terms_of-book}
-use Rattle.book_model.proofs.ConditionRanges.{range}
 use Rattle.book_model.proofs.ConditionPlaces.{phase-place, line-when, line-done}
-use Rattle.condition_codes.specs.Pieces.{HasCodes, AddsCodes}
+use Rattle.condition_codes.specs.Pieces.{HasCodes, AddsCodes, FitsLinks}
 use Rattle.condition_codes.specs.declared.pieces.Pieces.{Pieces}
+use Rattle.condition_codes.proofs.Limits.{fits}
 
 -- of an outcome
 pub on-ok : {A B : Type 0} (r : Result A B) (P Q : Type 0) → (P → Q) → OnOk r P → OnOk r Q
 on-ok (Ok x) P Q goes p = goes p
 on-ok (Err e) P Q goes p = p
 
--- the slots of a condition of a sealed book are numbers of 64 bits
-pub slots-within : (d : Draft) → IsSealed d → (i : ℕ) (t : Term) → slice_get (places (the_book d)) i ≡ Some (placed_of t) → t.at + slots (tree_in t) < 2 ^ 64
-slots-within d sealed i t is =
-    omega (arith, range (the_book d) i (placed_of t) is, ap slots_in (terms_of-book (draft_of d)), slots-fit (draft_of d) sealed.sound)
-
--- those of the inputs of the phase
+-- the inputs of the phase are small enough for their links
 pub record InputsFit (p : PhaseTerms) : Type 0 where
-  pub gnd : p.gnd.at + slots (tree_in p.gnd) < 2 ^ 64
-  pub run : p.run.at + slots (tree_in p.run) < 2 ^ 64
-  pub tp : p.tp.at + slots (tree_in p.tp) < 2 ^ 64
-  pub fast : p.fast.at + slots (tree_in p.fast) < 2 ^ 64
-  pub high : p.high.at + slots (tree_in p.high) < 2 ^ 64
-  pub low : p.low.at + slots (tree_in p.low) < 2 ^ 64
+  pub gnd : FitsLinks p.gnd
+  pub run : FitsLinks p.run
+  pub tp : FitsLinks p.tp
+  pub fast : FitsLinks p.fast
+  pub high : FitsLinks p.high
+  pub low : FitsLinks p.low
 
 pub inputs-fit : (d : Draft) → IsSealed d → (p : PhaseTerms) → p ≡ d.phase → InputsFit p
 inputs-fit d sealed p same =
-    let fits : (i : ℕ) (t : Term) → slice_get (phase_places p) i ≡ Some (placed_of t) → t.at + slots (tree_in t) < 2 ^ 64 =
-    λ i t is. slots-within d sealed i t (phase-place d sealed i (placed_of t) (ap (λ q. slice_get (phase_places q) i) (sym same) ∙ is)) in
+    let fit : (i : ℕ) (t : Term) → slice_get (phase_places p) i ≡ Some (placed_of t) → FitsLinks t =
+    λ i t is. fits d sealed i t (phase-place d sealed i (placed_of t) (ap (λ q. slice_get (phase_places q) i) (sym same) ∙ is)) in
     record {
-      gnd = fits 0 p.gnd refl;
-      run = fits 1 p.run refl;
-      tp = fits 2 p.tp refl;
-      fast = fits 3 p.fast refl;
-      high = fits 4 p.high refl;
-      low = fits 5 p.low refl;
+      gnd = fit 0 p.gnd refl;
+      run = fit 1 p.run refl;
+      tp = fit 2 p.tp refl;
+      fast = fit 3 p.fast refl;
+      high = fit 4 p.high refl;
+      low = fit 5 p.low refl;
     }
 
--- and those of both conditions of a line
+-- and so are both conditions of a line
 pub line-fits : (d : Draft) → IsSealed d → (a : ℕ) (x : Alert) → a < length d.alerts.items → x ≡ get_or d.alerts.items a x → (ls : List Line) (j : ℕ) (l : Line) → ls ≡ x.lines.items
-    → j < length ls → l ≡ get_or ls j l → (l.when.at + slots (tree_in l.when) < 2 ^ 64) × (l.done.at + slots (tree_in l.done) < 2 ^ 64)
+    → j < length ls → l ≡ get_or ls j l → FitsLinks l.when × FitsLinks l.done
 line-fits d sealed a x within here ls j l own inside at = (
-  slots-within d sealed _ l.when (line-when d sealed d.alerts.items a x refl within here ls j l own inside at),
-  slots-within d sealed _ l.done (line-done d sealed d.alerts.items a x refl within here ls j l own inside at),
+  fits d sealed _ l.when (line-when d sealed d.alerts.items a x refl within here ls j l own inside at),
+  fits d sealed _ l.done (line-done d sealed d.alerts.items a x refl within here ls j l own inside at),
 )
 
 module _ (old mid new : Pieces) where

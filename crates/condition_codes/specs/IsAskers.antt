@@ -1,15 +1,19 @@
 -- Which nodes of a book's conditions ask for which operand.
 use Rattle.std.specs.Prelude.{◌≡◌, ℕ, ◌<◌, List, length, slice_get, Some}
 use Rattle.ecam_spec.specs.Book.{Book}
-use Rattle.ecam_spec.specs.TermSize.{Placed}
+use Rattle.ecam_spec.specs.TermSize.{Placed, nodes}
 use Rattle.book_model.specs.Conditions.{places}
 use Rattle.term_eval.specs.Asked.{Asks}
+use Rattle.term_eval.specs.Climb.{step_at}
+use Rattle.term_eval.specs.Code.{code}
+use Rattle.term_eval.specs.Reading.{test_of}
 use Rattle.term_eval.specs.Woken.{Operand}
 use Rattle.watch_lists.specs.declared.number.Sizes.{Sizes}
 use Rattle.watch_lists.specs.Naming.{operand_count, operand_number}
 use Rattle.condition_codes.specs.declared.askers.Asker.{Asker}
 use Rattle.condition_codes.specs.declared.askers.AskerTable.{AskerTable}
 use Rattle.condition_codes.specs.Flat.{piece, ArePieces}
+use Rattle.condition_codes.specs.Places.{nodes_before}
 
 -- how many parameters and alerts a book has
 abbrev pub sizes_in : Book → Sizes
@@ -17,15 +21,18 @@ sizes_in b = record { params = length b.parameters; alerts = length b.alerts }
 
 -- the list has node i of condition j
 abbrev pub IsAmong : List Asker → ℕ → ℕ → Type 0
-IsAmong list j i = (k : ℕ) × (slice_get list k ≡ Some (record { term = j; node = i }))
+IsAmong list j i = (k : ℕ) × (a : Asker) × (slice_get list k ≡ Some a) × (a.term ≡ j) × (a.node ≡ i)
 
--- the node asks for an operand of this number
+-- the node asks for an operand of this number, and what is noted of it is so
 pub record IsAsking (b : Book) (o : ℕ) (a : Asker) : Type 0 where
   pub place : Placed
   pub operand : Operand
   pub there : slice_get (places b) a.term ≡ Some place
   pub asks : Asks place.tree a.node operand
   pub number : operand_number (sizes_in b) operand ≡ o
+  pub first : a.first ≡ nodes_before (places b) a.term
+  pub size : a.size ≡ nodes place.tree
+  pub test : a.test ≡ test_of (step_at (code place.at 0 place.tree) a.node).node
 
 -- the list of an operand has each node that asks for it, and no other
 pub record IsAskers (b : Book) (a : AskerTable) : Type 0 where

@@ -1,12 +1,21 @@
 -- Codes of conditions one behind another in one list, with the place where each starts, and where the last ends.
-use Rattle.std.specs.Prelude.{◌≡◌, ℕ, ◌≤◌, List, ◌++◌, length, slice_get, slice_index, Some}
+use Rattle.std.specs.Prelude.{◌≡◌, ℕ, ◌+◌, ◌≤◌, ◌^◌, List, ◌++◌, length, map, slice_get, slice_index, Some}
 use Rattle.std.specs.List.{flat_map}
-use Rattle.ecam_spec.specs.TermSize.{Placed}
+use Rattle.ecam_spec.specs.TermSize.{Placed, slots, nodes}
+use Rattle.ecam_spec.specs.declared.limits.TheConstants.{TERM_NODES}
+use Rattle.book_model.specs.View.{tree_in}
+use Rattle.book_model.specs.declared.draft.Term.{Term}
 use Rattle.term_eval.specs.Code.{code, owners, IsCode}
+use Rattle.term_eval.specs.Links.{link_of}
 use Rattle.term_eval.specs.declared.code.Step.{Step}
 use Rattle.condition_codes.specs.declared.pieces.Pieces.{Pieces}
 use Rattle.condition_codes.specs.Flat.{piece, ArePieces}
 use Rattle.condition_codes.specs.Places.{nodes_before}
+
+-- a condition has few enough nodes, and its slots low enough numbers, for the links of its code
+pub record FitsLinks (t : Term) : Type 0 where
+  pub small : nodes (tree_in t) ≤ TERM_NODES
+  pub few : t.at + slots (tree_in t) ≤ 2 ^ 32
 
 -- the pieces are the codes of the conditions, each with its slots, and with a step for each node
 pub record AreCodes (ps : List Placed) (starts : List ℕ) (steps : List Step) : Type 0 where
@@ -25,6 +34,7 @@ pub record AreOwners (ps : List Placed) (starts numbers slot_starts : List ℕ) 
 -- the pieces hold the codes of these conditions
 pub record HasCodes (ps : List Placed) (c : Pieces) : Type 0 where
   pub codes : AreCodes ps c.starts.items c.steps.items
+  pub links : c.links.items ≡ map link_of c.steps.items
   pub owners : AreOwners ps c.owner_starts.items c.owners.items c.slot_starts.items
 
 -- the codes of these conditions were put behind the others

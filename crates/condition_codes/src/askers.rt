@@ -1,7 +1,8 @@
 // The nodes that ask for an operand, listed for each operand of a book.
-ghost use Rattle.std.specs.Prelude.{◌≡◌, ℕ, suc, ◌-◌, ◌<◌, ◌≤◌, length, slice_get, slice_index, Some, IfOk};
+ghost use Rattle.std.specs.Prelude.{◌≡◌, ℕ, suc, ◌-◌, ◌^◌, ◌<◌, ◌≤◌, length, slice_get, slice_index, Some, IfOk};
 ghost use Rattle.ecam_spec.specs.Book as plain;
 ghost use Rattle.ecam_spec.specs.TermSize.{Placed};
+ghost use Rattle.ecam_spec.specs.declared.limits.TheConstants.{TERM_NODES};
 ghost use Rattle.book_model.specs.Sealed.{the_book};
 ghost use Rattle.book_model.specs.Conditions.{places};
 ghost use Rattle.term_eval.specs.Asked.{Asks};
@@ -18,16 +19,22 @@ use std::alloc::{AllocError, Global};
 use std::boxed::BoxedSlice;
 use std::marker::Model;
 use std::rc::Rc;
-use term_eval::code_asks_for_what_the_condition_asks_for;
+use term_eval::{Step, Test, code_asks_for_what_the_condition_asks_for, test_of};
 use watch_lists::Sizes;
 
-/// A node of a condition.
+/// A node of a condition which asks for an operand, with what is read of it where the operand is another, in twelve bytes.
 #[derive(Clone, Copy, Debug, PartialEq, Eq)]
 pub struct Asker {
     /// The condition's number in stepping order.
-    pub term: usize,
-    /// The number of the node within its code.
-    pub node: usize,
+    pub term: u32,
+    /// The number of the condition's first node among the nodes of all conditions.
+    pub first: u32,
+    /// The number of the node within the condition's code.
+    pub node: u8,
+    /// How many nodes the condition has.
+    pub size: u8,
+    /// How the node goes by what the operand reads.
+    pub test: Test,
 }
 
 /// Per operand of a book the nodes that ask for it, in one flat list, which its owners share. Nothing changes it, and it
@@ -66,7 +73,7 @@ impl Askers {
             alerts: book.alerts().len(),
         };
         let (firsts, nexts) = chains_of(alloc, codes.steps(), sizes)?;
-        let nodes = nodes_of(alloc, codes.starts())?;
+        let nodes = nodes_of(alloc, codes.starts(), codes.steps())?;
         let (starts, askers) = list_chains(alloc, &firsts, &nexts, &nodes)?;
         let table = AskerTable { starts, askers };
         Ok(Askers {
@@ -74,8 +81,8 @@ impl Askers {
         })
     }
 
-    /// The same askers, for one owner more. It takes no memory, and costs a look and a write. An error is want of memory: there
-    /// are as many owners as can be counted.
+    /// The same askers, for one owner more. It takes no memory, and costs a look and a write. An error is want of memory:
+    /// there are as many owners as can be counted.
     pub fn share(&self) -> Result<Askers, AllocError>
         ensures { IfOk result (λ a. a ≡ self.now) }
     {
@@ -103,19 +110,30 @@ impl Askers {
 }
 
 // All nodes, one condition behind another, by where the code of each starts.
-fn nodes_of(alloc: Global, starts: &[usize]) -> Result<Vec<Asker>, AllocError>
+fn nodes_of(alloc: Global, starts: &[usize], steps: &[Step]) -> Result<Vec<Asker>, AllocError>
     requires first { slice_index starts.now 0 ≡ 0 }
     requires some { 1 ≤ length starts.now }
     requires ordered { (j : ℕ) → suc j < length starts.now
         → slice_index starts.now j ≤ slice_index starts.now (suc j) }
-    ensures nodes { IfOk result (λ r. AreNodes starts.now r.items) }
-    ensures count { IfOk result (λ r. length r.items
-        ≡ slice_index starts.now (length starts.now - 1)) }
+    requires small { (j : ℕ) → suc j < length starts.now
+        → slice_index starts.now (suc j) - slice_index starts.now j ≤ TERM_NODES }
+    requires few { length starts.now ≤ 2 ^ 26 }
+    requires steps { slice_index starts.now (length starts.now - 1) ≡ length steps.now }
+    ensures nodes { IfOk result (λ r. AreNodes starts.now steps.now r.items) }
+    ensures count { IfOk result (λ r. length r.items ≡ length steps.now) }
 {
-    let mut nodes = Vec::with_capacity(alloc, starts[starts.len() - 1])?;
+    let mut nodes = Vec::with_capacity(alloc, steps.len())?;
     for term in 0..starts.len() - 1 {
-        for node in 0..starts[term + 1] - starts[term] {
-            nodes.push(Asker { term, node })?;
+        let first = starts[term];
+        let size = starts[term + 1] - first;
+        for node in 0..size {
+            nodes.push(Asker {
+                term: term as u32,
+                first: first as u32,
+                node: node as u8,
+                size: size as u8,
+                test: test_of(&steps[first + node].node),
+            })?;
         }
     }
     Ok(nodes)

@@ -1,18 +1,19 @@
 // Codes are put one behind another.
-ghost use Rattle.std.specs.Prelude.{◌+◌, ◌<◌, ◌^◌, [], ◌∷◌, OnOk, IfOk};
-ghost use Rattle.ecam_spec.specs.TermSize.{slots};
-ghost use Rattle.book_model.specs.View.{tree_in, placed_of};
-ghost use Rattle.condition_codes.specs.Pieces.{AddsCodes, HasCodes};
+ghost use Rattle.std.specs.Prelude.{[], ◌∷◌, OnOk, IfOk};
+ghost use Rattle.book_model.specs.View.{placed_of};
+ghost use Rattle.condition_codes.specs.Pieces.{AddsCodes, HasCodes, FitsLinks};
 
 use book_model::Term;
 use std::alloc::{AllocError, Global};
-use term_eval::{Step, add_code, add_owners};
+use term_eval::{Link, Step, add_code, add_links, add_owners};
 
 /// The codes of some conditions.
 #[derive(Drop)]
 pub struct Pieces {
     /// The codes, one behind another.
     pub steps: Vec<Step>,
+    /// The links of all steps.
+    pub links: Vec<Link>,
     /// Where each starts, and where the last ends.
     pub starts: Vec<usize>,
     /// The numbers of the temporal nodes of each, slot by slot, one condition behind another.
@@ -34,6 +35,7 @@ impl Pieces {
         owner_starts.push(0)?;
         Ok(Pieces {
             steps: Vec::new(alloc),
+            links: Vec::new(alloc),
             starts,
             owners: Vec::new(alloc),
             owner_starts,
@@ -41,13 +43,14 @@ impl Pieces {
         })
     }
 
-    /// Of one condition more. Its cost is two visits of each node.
+    /// Of one condition more. Its cost is three visits of each node.
     pub fn add(&mut self, term: &Term) -> Result<(), AllocError>
-        requires { term.now.at + slots (tree_in term.now) < 2 ^ 64 }
+        requires { FitsLinks term.now }
         ensures { OnOk result (AddsCodes (placed_of term.now ∷ []) self.old self.new) }
     {
         let first = self.steps.len();
         add_code(&mut self.steps, &term.cond, term.at)?;
+        add_links(&mut self.links, &self.steps[first..])?;
         self.starts.push(self.steps.len())?;
         add_owners(&mut self.owners, &self.steps[first..])?;
         self.owner_starts.push(self.owners.len())?;

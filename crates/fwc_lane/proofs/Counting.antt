@@ -1,9 +1,10 @@
 -- The nodes of the conditions that are marked: what one mark more adds, and that those of a moment's are the nodes that it visits.
-use Rattle.std.proofs.Common.{◌≡◌, ◌≢◌, ℕ, zero, suc, ◌+◌, ◌-◌, ◌^◌, ◌<◌, ◌≤◌, min, Bool, true, false, ◌||◌, eqb, cond, List, length, Option, None, Some, slice_get, refl, sym, ap, ◌∙◌, inl, inr, arith}
+use Rattle.std.proofs.Common.{◌≡◌, ◌≢◌, ℕ, zero, suc, ◌+◌, ◌-◌, ◌^◌, ◌<◌, ◌≤◌, min, Bool, true, false, ◌||◌, eqb, cond, not, List, length, get_or, Option, None, Some, slice_get, refl, sym, ap, ◌∙◌, inl, inr, arith}
 use Rattle.std.specs.Option.{option_map_or}
 use Rattle.std.proofs.Math.Nat.{eq-or-lt_of_le}
-use Rattle.std.proofs.lemmas.Bool.{eq-eqb, ne_eqb}
-use Rattle.std.proofs.lemmas.Option.{slice_get_within}
+use Rattle.std.proofs.lemmas.Bool.{cases_eq, eq-eqb, ne_eqb}
+use Rattle.std.proofs.lemmas.Option.{slice_get_within, slice_get-get_or}
+use Rattle.ecam_spec.specs.Book.{constant}
 use Rattle.ecam_spec.specs.Term.{World}
 use Rattle.ecam_spec.specs.TermSize.{Placed, nodes}
 use Rattle.term_eval.specs.Woken.{woken}
@@ -67,6 +68,31 @@ module _ (ps : List Placed) where
 
   pub counted-same : (old new : List ℕ) (visited count : ℕ) → ((j : ℕ) → is_marked new j ≡ is_marked old j) → IsCounted ps visited old count → IsCounted ps visited new count
   counted-same old new visited count same before = before ∙ ap (λ n. min (visited + n) (2 ^ 64 - 1)) (sym (marked-same old new (length ps) (λ j lt. same j)))
+
+  -- a condition was put in, and its nodes are counted where it is new
+  pub counted-put : (old new : List ℕ) (i size visited was now : ℕ) (is_new : Bool) → i < length ps → ((p : Placed) → slice_get ps i ≡ Some p → size ≡ nodes p.tree)
+      → is_new ≡ not (is_marked old i) → ((j : ℕ) → is_marked new j ≡ (eqb j i || is_marked old j)) → now ≡ min (was + cond is_new size 0) (2 ^ 64 - 1)
+      → IsCounted ps visited old was → IsCounted ps visited new now
+  counted-put old new i size visited was now is_new inside sizes is marks counts before = by (is_marked old i) refl where
+    none : Placed
+    none = record { tree = constant true; at = 0 }
+
+    here : slice_get ps i ≡ Some (get_or ps i none)
+    here = slice_get-get_or ps i none inside
+
+    by : (on : Bool) → is_marked old i ≡ on → IsCounted ps visited new now
+    by false off =
+        counted-more old new i (get_or ps i none) here off marks visited was now
+        (counts ∙ ap (λ b. min (was + cond b size 0) (2 ^ 64 - 1)) (is ∙ ap not off) ∙ ap (λ n. min (was + n) (2 ^ 64 - 1)) (sizes (get_or ps i none) here)) before
+    by true on =
+        let same : now ≡ was = counts ∙ ap (λ b. min (was + cond b size 0) (2 ^ 64 - 1)) (is ∙ ap not on) ∙ (let most : min (was + 0) (2 ^ 64 - 1) ≡ was = omega (arith, before) in most) in
+        same ∙ counted-same old new visited was stays before
+      where
+        stays : (j : ℕ) → is_marked new j ≡ is_marked old j
+        stays j = marks j ∙ elim (cases_eq j i) [
+          | inl e ↦ ap (λ b. b || is_marked old j) (eq-eqb j i e) ∙ sym (ap (is_marked old) e ∙ on)
+          | inr ne ↦ ap (λ b. b || is_marked old j) (ne_eqb j i ne)
+        ]
 
   pub counted-none : (marks : List ℕ) (visited count : ℕ) → ((j : ℕ) → is_marked marks j ≡ false) → count ≡ min visited (2 ^ 64 - 1) → IsCounted ps visited marks count
   counted-none marks visited count none is = let no = marked-none marks (length ps) none in omega (arith, no, is)

@@ -10,7 +10,7 @@ use Rattle.book_model.proofs.Getting.{get-piece}
 use Rattle.fwc_lane.specs.LineFlags.{lines_before, HasLine, KeepsShown}
 
 -- the more alerts, the more lines
-before-more : (xs : List Alert) (a c : ℕ) → a ≤ c → length (lines_of (take a xs)) ≤ length (lines_of (take c xs))
+pub before-more : (xs : List Alert) (a c : ℕ) → a ≤ c → length (lines_of (take a xs)) ≤ length (lines_of (take c xs))
 before-more [] zero c le = omega arith
 before-more [] (suc a) zero le = absurd (omega arith)
 before-more [] (suc a) (suc c) le = omega arith

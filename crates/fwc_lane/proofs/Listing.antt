@@ -35,7 +35,7 @@ any-at f (x ∷ xs) is = elim (one-of (f x) (list_any f xs) is) [
 ]
 
 -- so does one that is listed
-pub listed-at : (asking : List Asker) (j i : ℕ) → is_listed asking j i ≡ true → (k : ℕ) × (a : Asker) × (slice_get asking k ≡ Some a) × (a.term ≡ j) × (a.node ≡ i)
+pub listed-at : (asking : List Asker) (j i : ℕ) → is_listed asking j i ≡ true → IsAmong asking j i
 listed-at asking j i is =
     let found = any-at (λ (a : Asker). eqb a.term j && eqb a.node i) asking is in
     let a = found.1 in
@@ -43,8 +43,8 @@ listed-at asking j i is =
 
 pub among-listed : (asking : List Asker) (j i : ℕ) → IsAmong asking j i → is_listed asking j i ≡ true
 among-listed asking j i at =
-    any_passes_from_place (λ (a : Asker). eqb a.term j && eqb a.node i) asking at.0 (record { term = j; node = i }) at.1
-    (ap (λ x. x && eqb i i) (eq-eqb j j refl) ∙ eq-eqb i i refl)
+    any_passes_from_place (λ (a : Asker). eqb a.term j && eqb a.node i) asking at.0 at.1 at.2
+    (ap (λ x. x && eqb at.1.node i) (eq-eqb at.1.term j at.3) ∙ eq-eqb at.1.node i at.4)
 
 -- a condition has these of its nodes in the list which hear of the operand
 pub heard-listed : (b : Book) (operand : ℕ) (asking : List Asker) (other : Bool) → other ≡ true
@@ -94,7 +94,7 @@ asking-named b operand asking other on each only j p is = both-ways _ _ there ba
   by-asked i None at passes = absurd (let w : ⊥ = (let clash : false ≡ true = passes in cc) in w)
   by-asked i (Some x) at passes =
       let among = each j i p x is at (eqb-true (operand_number (sizes_in b) x) operand (right-true other _ passes)) in
-      any_passes_from_place (λ (a : Asker). eqb a.term j) asking among.0 (record { term = j; node = i }) among.1 (eq-eqb j j refl)
+      any_passes_from_place (λ (a : Asker). eqb a.term j) asking among.0 among.1 among.2 (eq-eqb among.1.term j among.3)
 
   back : list_any f (operands p.tree) ≡ true → is_asking asking j ≡ true
   back names =

@@ -9,8 +9,9 @@ use Rattle.ecam_spec.specs.TermSize.{Placed, nodes, slots}
 use Rattle.book_model.specs.Conditions.{places}
 use Rattle.book_model.proofs.ConditionRanges.{range}
 use Rattle.term_eval.specs.Asked.{Asks, AreAtoms, asked}
-use Rattle.term_eval.specs.Code.{IsCode, IsHeld}
-use Rattle.term_eval.specs.declared.code.Step.{Step}
+use Rattle.term_eval.specs.Linked.{AreLinked}
+use Rattle.term_eval.specs.Links.{links}
+use Rattle.term_eval.specs.declared.link.Link.{Link}
 use Rattle.term_eval.proofs.Codes.{length-asked}
 use Rattle.term_eval.specs.Memory.{Memory, NodeMemory}
 use Rattle.term_eval.specs.NodeState.{state_at, NodesWait, Within, also, first_wake}
@@ -58,14 +59,18 @@ listed-asks b n asking each j p is i listed =
     (own.operand, subst (λ n. Asks p.tree n own.operand) found.4 (subst (λ (q : Placed). Asks q.tree found.1.node own.operand) same own.asks))
 
 -- the condition's nodes and slots are there
-pub is-held : (b : Book) (asking : List Asker) (codes : CodeTable) (old now : NodeMemory) (woken stirred : List ℕ) → CanTurn b asking codes old woken stirred
+pub are-linked : (b : Book) (asking : List Asker) (codes : CodeTable) (old now : NodeMemory) (woken stirred : List ℕ) → CanTurn b asking codes old woken stirred
     → length now.states ≡ length old.states → length now.wakes ≡ length old.wakes
-    → (j : ℕ) (p : Placed) (steps : List Step) (first : ℕ) → slice_get (places b) j ≡ Some p → IsCode p.tree p.at steps → first ≡ nodes_before (places b) j → IsHeld steps now p.tree p.at first
-is-held b asking codes old now woken stirred can states wakes j p steps first is code at = record {
-  code = code;
-  nodes = omega (arith, can.states, states, at, nodes-apart (places b) j (length (places b)) p (slice_get_within (places b) j p is) is);
-  slots = omega (arith, can.slots, wakes, range b j p is);
-}
+    → (j : ℕ) (p : Placed) (own : List Link) (first : ℕ) → slice_get (places b) j ≡ Some p → own ≡ links p.at p.tree → first ≡ nodes_before (places b) j → AreLinked own now p.tree p.at first
+are-linked b asking codes old now woken stirred can states wakes j p own first is linked at =
+    let code = can.are.codes.codes j p is in
+    record {
+      links = linked;
+      short = code.short;
+      small = code.small;
+      nodes = omega (arith, can.states, states, at, nodes-apart (places b) j (length (places b)) p (slice_get_within (places b) j p is) is);
+      slots = omega (arith, can.slots, wakes, range b j p is);
+    }
 
 -- a node that asks is one of the condition's
 pub asks-within : (c : Tree) (i : ℕ) (x : Operand) → Asks c i x → i < nodes c

@@ -1,5 +1,5 @@
 // What a moment brings is read, and wakes the conditions that name what of it is another.
-ghost use Rattle.std.specs.Prelude.{◌≡◌, ◌<◌, ◌≤◌, ◌^◌, ℕ, List, false, None, length, slice_index_or};
+ghost use Rattle.std.specs.Prelude.{◌≡◌, ◌<◌, ◌^◌, ℕ, List, false, None, length, slice_index_or};
 ghost use Rattle.ecam_spec.specs.Value.{BusWord, value};
 ghost use Rattle.ecam_spec.specs.History.{Moment};
 ghost use Rattle.ecam_spec.specs.Situation.{parameter_at, words_in};

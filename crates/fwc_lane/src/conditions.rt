@@ -80,9 +80,10 @@ fn run_term(terms: &mut Terms, number: usize, env: &Env<'_>, now: u64) -> bool
     }
     let at = codes.at(number);
     let owners = codes.owners(number);
+    let links = codes.links(number);
     let turn = terms
         .cells
-        .run(&mut terms.nodes, steps, start, owners, at, now);
+        .run(&mut terms.nodes, steps, links, start, owners, at, now);
     note(terms, number, turn)
 }
 

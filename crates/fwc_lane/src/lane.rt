@@ -98,8 +98,8 @@ impl Lane {
         Lane::with(alloc, book, terms)
     }
 
-    /// The same, beside another lane of the same book, with which it shares what nothing changes: by which code each condition
-    /// is stepped, and which nodes ask for what. An error is want of memory.
+    /// The same, beside another lane of the same book. Both read one copy of the codes by which conditions are stepped, and of
+    /// which nodes ask for what; all else it has on memory of its own. An error is want of memory.
     pub fn beside(alloc: Global, book: &Book, other: &Lane) -> Result<Lane, AllocError>
         requires { LaneFits (the_book book.now) other.now }
         ensures fits { IfOk result (LaneFits (the_book book.now)) }

@@ -15,14 +15,15 @@ fn alert_of_line(book: &Book, line: usize) -> usize
     ensures has { HasLine (the_book book.now) result line }
 {
     let mut alert = 0;
-    let mut end = book.alerts().len();
-    while end - alert > 1 {
-        let middle = alert + (end - alert) / 2;
-        if book.line_at(middle) <= line {
-            alert = middle;
+    let mut count = book.alerts().len();
+    while count > 1 {
+        let half = count / 2;
+        alert = if book.line_at(alert + half) <= line {
+            alert + half
         } else {
-            end = middle;
-        }
+            alert
+        };
+        count -= half;
     }
     alert
 }

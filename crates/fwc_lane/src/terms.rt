@@ -48,7 +48,7 @@ pub struct Terms {
 }
 
 impl Terms {
-    /// Of conditions that no moment has stepped. Its cost is a few writes a condition and a slot, and at most six visits of
+    /// Of conditions that no moment has stepped. Its cost is a few writes a condition and a slot, and at most seven visits of
     /// each node. An error is want of memory.
     pub fn new(alloc: Global, book: &Book) -> Result<Terms, AllocError>
         ensures fits { IfOk result (TermsFit (the_book book.now)) }

@@ -1,11 +1,12 @@
 // Which conditions a moment wakes: all in the first, then those that are due, and those that name what is another.
-ghost use Rattle.std.specs.Prelude.{◌≡◌, ℕ, suc, ◌+◌, ◌-◌, ◌<◌, ◌≤◌, ◌^◌, ◌==◌, ◌&&◌, ◌||◌, not, min, nat_le, true, false, length, slice_index, MatchOption, if◌then◌else◌};
+ghost use Rattle.std.specs.Prelude.{◌≡◌, ℕ, suc, ◌+◌, ◌-◌, ◌<◌, ◌≤◌, ◌^◌, ◌==◌, ◌&&◌, ◌||◌, not, min, nat_le, true, false, List, length, slice_get, slice_index, Some, MatchOption, if◌then◌else◌};
 ghost use Rattle.ecam_spec.specs.Keys.{IsKey, key_number};
 ghost use Rattle.book_model.specs.Sealed.{the_book};
 ghost use Rattle.book_model.specs.Conditions.{places};
 ghost use Rattle.wakes.specs.Marks.{is_marked, room};
 ghost use Rattle.condition_codes.specs.IsCodes.{IsCodes};
 ghost use Rattle.ecam_spec.specs.Book as plain;
+ghost use Rattle.ecam_spec.specs.TermSize.{Placed, nodes};
 ghost use Rattle.term_eval.specs.declared.reading.Reading.TheVariants.{InPhase, Flag};
 ghost use Rattle.term_eval.specs.Reading.{IsReading};
 ghost use Rattle.term_eval.specs.Woken.{differ};
@@ -74,31 +75,33 @@ fn turn_each(
     ensures stirs { AreWoken woken.old stirred.old → AreWoken woken.new stirred.new }
 {
     for asker in asking {
-        mark_counted(woken, cells, codes, asker.term);
-        let first = codes.start(asker.term);
-        if nodes.turn(codes.code(asker.term), first, asker.node, reading) {
-            stirred.mark(asker.term);
+        let term = asker.term as usize;
+        mark_counted(woken, cells, term, usize::from(asker.size));
+        let holds = codes.says(asker, reading);
+        let links = codes.links_by(asker);
+        let first = asker.first as usize;
+        if nodes.turn(links, first, usize::from(asker.node), holds) {
+            stirred.mark(term);
         }
     }
 }
 
-// Marks a condition, and counts its nodes where it wasn't marked before.
+// Marks a condition of so many nodes, and counts these where it wasn't marked before. (It takes no branch, since which
+// conditions were marked can't be foreseen.)
 #[inline(always)]
-fn mark_counted(woken: &mut Marked, cells: &mut Cells, codes: &CodeTable, term: usize)
+fn mark_counted(woken: &mut Marked, cells: &mut Cells, term: usize, size: usize)
     requires room { term < room woken.old }
-    requires codes { (b : plain.Book) × IsCodes b codes.now × (term < length (places b)) }
     ensures room { room woken.new ≡ room woken.old }
     ensures marks { (j : ℕ) → is_marked woken.new j ≡ (j == term || is_marked woken.old j) }
     ensures slots { cells.new.slots ≡ cells.old.slots }
     ensures most { cells.old.visits ≤ 2 ^ 64 - 1 → cells.new.visits ≤ 2 ^ 64 - 1 }
-    ensures counts { (b : plain.Book) (visited : ℕ) → IsCodes b codes.now
-        → term < length (places b)
-        → IsCounted (places b) visited woken.old cells.old.visits
-        → IsCounted (places b) visited woken.new cells.new.visits }
+    ensures counts { (ps : List Placed) (visited : ℕ) → term < length ps
+        → ((p : Placed) → slice_get ps term ≡ Some p → size ≡ nodes p.tree)
+        → IsCounted ps visited woken.old cells.old.visits
+        → IsCounted ps visited woken.new cells.new.visits }
 {
-    if woken.put(term) {
-        cells.count(codes.size(term));
-    }
+    let is_new = woken.put(term);
+    cells.count(if is_new { size } else { 0 });
 }
 
 /// Wakes the conditions that name the flight phase, where it is another.
@@ -328,7 +331,7 @@ fn wake_all(
         → IsCounted (places b) visited woken.new cells.new.visits }
 {
     for term in 0..count {
-        mark_counted(woken, cells, codes, term);
+        mark_counted(woken, cells, term, codes.size(term));
         stirred.mark(term);
     }
 }
@@ -365,7 +368,7 @@ fn wake_due(
         → IsCounted (places b) visited woken.new cells.new.visits }
 {
     while let Some(next) = dues.first(now) {
-        mark_counted(woken, cells, codes, next);
+        mark_counted(woken, cells, next, codes.size(next));
         stirred.mark(next);
         // So that it isn't found again.
         dues.set(next, u64::MAX);

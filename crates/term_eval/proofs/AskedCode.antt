@@ -3,6 +3,7 @@ use Rattle.std.proofs.Common.{◌≡◌, ℕ, suc, ◌+◌, ◌≤◌, List, [],
 use Rattle.ecam_spec.specs.Book.{Tree, Trees, constant, discrete, valid, compared, in_phase, alert, press, computer, negation, all, any, at_least, confirmed, held, risen, latched, none, more}
 use Rattle.ecam_spec.specs.TermSize.{slots, slots_of, nodes, nodes_of, children}
 use Rattle.ecam_spec.specs.TermNames.{IsWithin, AreWithin}
+use Rattle.ecam_spec.specs.declared.limits.TheConstants.{TERM_NODES}
 use Rattle.term_eval.specs.declared.env.Env.{Env}
 use Rattle.term_eval.specs.declared.code.Step.{Step}
 use Rattle.term_eval.specs.CellWords.{never}
@@ -20,12 +21,12 @@ ask-append env i (x ∷ xs) ys s =
     let e : i + 1 + length xs ≡ i + suc (length xs) = omega arith in
     ap (ask env i x) (ask-append env (i + 1) xs ys s ∙ ap (λ n. ask_over env (i + 1) xs (ask_over env n ys s)) e)
 
--- there is room for the slots and states of some conditions, whose parent stands before them
+-- there is room for the slots and states of some conditions, whose parent stands before them, and their nodes can be counted
 pub record FitsAll (cs : Trees) (at p up : ℕ) (s : Run) : Type 0 where
   pub range : at + slots_of cs ≤ length s.cells
   pub slot : at + slots_of cs ≤ length s.wakes
   pub room : p + nodes_of cs ≤ length s.states
-  pub most : length s.states ≤ never
+  pub small : nodes_of cs ≤ TERM_NODES
   pub far : up ≤ p
   pub some : 1 ≤ up
   pub due : s.due ≤ never
@@ -66,7 +67,7 @@ module _ (env : Env) where
     range = omega (arith, fits.range, slots-is at c);
     slot = omega (arith, fits.slot, slots-is at c);
     room = omega (arith, fits.room, nodes-is c);
-    most = fits.most;
+    small = omega (arith, fits.small, nodes-is c);
     far = omega arith;
     some = omega arith;
     due = fits.due;
@@ -78,7 +79,7 @@ module _ (env : Env) where
     range = omega (arith, fits.range);
     slot = omega (arith, fits.slot);
     room = omega (arith, fits.room);
-    most = fits.most;
+    small = omega (arith, fits.small);
     far = omega (arith, fits.far);
     some = omega (arith, fits.some);
     due = fits.due;
@@ -90,7 +91,7 @@ module _ (env : Env) where
     range = omega (arith, fits.range, a.frame.cells);
     slot = omega (arith, fits.slot, a.frame.slots);
     room = omega (arith, fits.room, a.frame.nodes);
-    most = omega (arith, fits.most, a.frame.nodes);
+    small = omega (arith, fits.small);
     far = fits.far;
     due = omega (arith, fits.due, a.due);
   }

@@ -1,5 +1,5 @@
 -- Each node of a condition is asked in the first moment, children before the node that they stand in.
-use Rattle.std.proofs.Common.{◌≡◌, ◌≢◌, ℕ, zero, suc, ◌+◌, ◌<◌, ◌≤◌, ◌⊎◌, min, Bool, true, false, List, [], ◌∷◌, ◌++◌, length, Some, inl, inr, refl, sym, ◌∙◌, ap, subst, arith}
+use Rattle.std.proofs.Common.{◌≡◌, ◌≢◌, ℕ, zero, suc, ◌+◌, ◌<◌, ◌≤◌, ◌^◌, ◌⊎◌, min, Bool, true, false, List, [], ◌∷◌, ◌++◌, length, Some, inl, inr, refl, sym, ◌∙◌, ap, subst, arith}
 use Rattle.std.specs.Prelude.{slice_get, slice_index}
 use Rattle.std.proofs.lemmas.Option.{get_or_from_slice_get}
 use Rattle.std.proofs.lemmas.List.Sums.{count_by-le-length}
@@ -7,6 +7,7 @@ use Rattle.ecam_spec.specs.Book.{Tree, Trees, constant, discrete, valid, compare
 use Rattle.ecam_spec.specs.Term.{World, holds, truths}
 use Rattle.ecam_spec.specs.TermSize.{slots, slots_of, nodes, nodes_of, children}
 use Rattle.ecam_spec.specs.TermNames.{IsWithin}
+use Rattle.ecam_spec.specs.declared.limits.TheConstants.{TERM_NODES}
 use Rattle.term_eval.specs.declared.env.Env.{Env}
 use Rattle.term_eval.specs.declared.memory.Cell.{Cell}
 use Rattle.term_eval.specs.declared.nodes.NodeState.{NodeState}
@@ -86,7 +87,7 @@ pub record AfterAll (env : Env) (cs : Trees) (at p up : ℕ) (s t : Run) : Type 
   pub due : t.due ≡ min s.due (first_wake t.wakes at (slots_of cs))
   pub frame : Frame at (at + slots_of cs) p (p + nodes_of cs) up s t
   pub done : (w : World) → KnownAll env w cs at p s → DoneAll w cs at p up t
-  pub count : (w : World) → KnownAll env w cs at p s → (i n : ℕ) → i + up ≡ p → i < p → (state_at s.states i).count ≡ n → many cs + n ≤ never →
+  pub count : (w : World) → KnownAll env w cs at p s → (i n : ℕ) → i + up ≡ p → i < p → (state_at s.states i).count ≡ n → many cs + n < 2 ^ 8 →
       (state_at t.states i).count ≡ how_many (truths w cs 0) + n
 
 -- ---- several conditions, the last of them first
@@ -116,7 +117,7 @@ split [] ys i x is = inr (i, omega arith, is)
 split (y ∷ xs) ys zero x is = inl is
 split (y ∷ xs) ys (suc i) x is = elim (split xs ys i x is) [ inl first ↦ inl first | inr (j, at, rest) ↦ inr (j, omega (arith, at), rest) ]
 
-raised-count : (holds : Bool) (s : NodeState) (n : ℕ) → s.count ≡ n → n + 1 ≤ never → (raised holds s).count ≡ one_if holds + n
+raised-count : (holds : Bool) (s : NodeState) (n : ℕ) → s.count ≡ n → n + 1 < 2 ^ 8 → (raised holds s).count ≡ one_if holds + n
 raised-count true s n is few = omega arith
 raised-count false s n is few = omega arith
 
@@ -227,12 +228,12 @@ own-cell w k (held c n) at old new same is = same at (omega arith) ∙ is
 own-cell w k (risen c) at old new same is = same at (omega arith) ∙ is
 own-cell w k (latched s r) at old new same is = same at (omega arith) ∙ is
 
--- there is room for a condition's slots and states
+-- there is room for a condition's slots and states, and its nodes can be counted
 pub record Fits (c : Tree) (at p up : ℕ) (s : Run) : Type 0 where
   pub range : at + slots c ≤ length s.cells
   pub slot : at + slots c ≤ length s.wakes
   pub room : p + nodes c ≤ length s.states
-  pub most : length s.states ≤ never
+  pub small : nodes c ≤ TERM_NODES
   pub far : up ≤ p
   pub due : s.due ≤ never
 
@@ -283,7 +284,7 @@ module _ (env : Env) (c : Tree) (at p up : ℕ) (s m : Run) (names : IsWithin (l
 
   is-count : (w : World) → Known env w c at p s → count ≡ how_many (truths w (children c) 0)
   is-count w known =
-      let few : many (children c) + 0 ≤ never = omega (arith, many-nodes (children c), nodes-is c, fits.room, fits.most) in
+      let few : many (children c) + 0 < 2 ^ 8 = omega (arith, many-nodes (children c), nodes-is c, fits.small) in
       a.count w (kids w known) p 0 refl (omega arith) (known.fresh p (omega arith) (omega (arith, nodes-is c))) few ∙ omega arith
 
   own : (w : World) → Known env w c at p s → IsAsked w part (state_at t.states p) (slice_index t.wakes at) × OwnCell w 1 c (cell_at t.cells at)

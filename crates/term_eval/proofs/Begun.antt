@@ -48,15 +48,15 @@ module _ (env : Env) (steps : List Step) (m : Memory) (n : NodeMemory) (c : Tree
       (can env (length n.states) (length n.wakes) (length m.slots) c at first 0
       (record { range = ready.range; slot = ready.held.slots; room = ready.held.nodes; far = omega arith; names = names }))
 
-  pub begun : AllCanAsk env (length n.states) (length n.wakes) (length m.slots) first steps → length n.states ≤ never →
+  pub begun : AllCanAsk env (length n.states) (length n.wakes) (length m.slots) first steps →
       After env c at first 0 (start first (length steps) m n) (ask_over env first steps (start first (length steps) m n))
-  begun all most =
+  begun all =
       let s = start first (length steps) m n in
       let len = cleared-len first (length steps) n.states room-ready in
       let names = names-of env (length n.states) (length n.wakes) (length m.slots) c at first 0 (subst (AllCanAsk env (length n.states) (length n.wakes) (length m.slots) first) ready.held.code.is all) in
       subst (λ l. After env c at first 0 s (ask_over env first l s)) (sym ready.held.code.is)
       (over env c at first 0 s names
-      (record { range = ready.range; slot = ready.held.slots; room = omega (arith, len, ready.held.nodes); most = omega (arith, len, most); far = omega arith; due = omega arith }))
+      (record { range = ready.range; slot = ready.held.slots; room = omega (arith, len, ready.held.nodes); small = ready.held.code.small; far = omega arith; due = omega arith }))
 
   module _ (t : Run) (a : After env c at first 0 (start first (length steps) m n) t) where
     pub is-first : t.due ≡ first_wake t.wakes at (slots c)

@@ -5,14 +5,18 @@ use Rattle.std.proofs.lemmas.List.{length-map}
 use Rattle.ecam_spec.specs.Book.{Tree, constant, discrete, valid, compared, in_phase, alert, press, computer, negation, all, any, at_least, confirmed, held, risen, latched}
 use Rattle.ecam_spec.specs.TermSize.{nodes}
 use Rattle.term_eval.specs.declared.code.Step.{Step}
+use Rattle.term_eval.specs.declared.link.Link.{Link}
 use Rattle.term_eval.specs.Memory.{Memory, NodeMemory}
 use Rattle.term_eval.specs.Code.{IsReady, owners}
+use Rattle.term_eval.specs.Links.{link_of}
+use Rattle.term_eval.specs.Linked.{CanRun}
 use Rattle.term_eval.specs.Parts.{Part, parts, Heads, is_temporal}
 use Rattle.term_eval.specs.Run.{SlotWithin, CanPass}
 use Rattle.term_eval.proofs.Inside.{node_at}
 use Rattle.term_eval.proofs.NodeKinds.{own-slot}
 use Rattle.term_eval.proofs.PartLaws.{step_of, parts-code, parts-count, parts-ends, slots-within}
-use Rattle.term_eval.proofs.CodeParts.{can-climb, heads-node}
+use Rattle.term_eval.proofs.CodeParts.{heads-node}
+use Rattle.term_eval.proofs.Linking.{linked, can-climb}
 use Rattle.term_eval.proofs.RightBelow.{stands-over}
 use Rattle.term_eval.proofs.Owned.{Place, place-first, place-heads, place-slot, place-next, behind, has-slot}
 
@@ -60,18 +64,22 @@ has-cell at cells (held c n) less = less
 has-cell at cells (risen c) less = less
 has-cell at cells (latched s r) less = less
 
-module _ (steps : List Step) (m : Memory) (n : NodeMemory) (c : Tree) (at first : ℕ) (ready : IsReady steps m n c at first) where
+module _ (steps : List Step) (own : List Link) (temporal : List ℕ) (m : Memory) (n : NodeMemory) (c : Tree) (at first : ℕ) (can : CanRun steps own temporal m n c at first) where
+  abbrev ready : IsReady steps m n c at first
+  ready = can.ready
+
   pub is-code : steps ≡ map step_of (parts at 0 c)
   is-code = ready.held.code.is ∙ parts-code at 0 c
 
-  pub can-pass : CanPass steps first (length n.states) (length n.wakes) (length m.slots) (owners 0 steps) at
+  pub can-pass : CanPass steps own first (length n.states) (length n.wakes) (length m.slots) temporal at
   can-pass j i is =
-      let o = owns c at 0 at (parts at 0 c) (place-first c at) j i (ap (λ l. slice_get (owners 0 l) j) (sym is-code) ∙ is) in
+      let o = owns c at 0 at (parts at 0 c) (place-first c at) j i (ap (λ l. slice_get (owners 0 l) j) (sym is-code) ∙ ap (λ l. slice_get l j) (sym can.owners) ∙ is) in
       let size : length steps ≡ nodes c = ap length is-code ∙ length-map (parts at 0 c) step_of ∙ parts-count at 0 c in
       let within = slots-within at 0 c i o.part o.heads in
       let some = own-slot o.part.tree o.temporal in
       record {
-        climb = can-climb c at first n steps ready.held;
+        climb = can-climb c at first n own (linked c at first n steps own ready.held can.links);
+        linked = ap length can.links ∙ length-map steps link_of;
         within = omega (arith, size, stands-over o.part.tree o.temporal, parts-ends at 0 c i o.part o.heads);
         room = omega (arith, within.1, some, o.own, ready.held.slots);
         has =

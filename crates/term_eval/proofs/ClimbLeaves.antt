@@ -5,16 +5,18 @@ use Rattle.std.proofs.lemmas.List.{length-set, get_or-set_same, get_or-set_other
 use Rattle.std.proofs.lemmas.Bool.{cases_lt}
 use Rattle.ecam_spec.specs.Book.{Tree}
 use Rattle.term_eval.specs.declared.nodes.NodeState.{NodeState}
-use Rattle.term_eval.specs.declared.code.Step.{Step}
+use Rattle.term_eval.specs.declared.link.Link.{Link}
+use Rattle.term_eval.specs.declared.link.Gate.TheVariants.{Temporal}
 use Rattle.term_eval.specs.Memory.{NodeMemory}
 use Rattle.term_eval.specs.Woken.{differ}
-use Rattle.term_eval.specs.Code.{IsHeld}
-use Rattle.term_eval.specs.Climb.{Climbed, climb, count_with, gate_says, go_on, step_at, told_as, counted}
+use Rattle.term_eval.specs.Linked.{AreLinked}
+use Rattle.term_eval.specs.Climb.{Climbed, climb, count_with, gate_says, go_on, link_at, told_as, counted}
 use Rattle.term_eval.specs.Parts.{Part, Heads}
 use Rattle.term_eval.specs.NodeState.{state_at, unasked}
 use Rattle.term_eval.proofs.PartLaws.{slots-within}
-use Rattle.term_eval.proofs.CodeParts.{heads-one, heads-within, heads-node, heads-up, slots-rise, slot-of}
-use Rattle.term_eval.proofs.ClimbSteps.{told_in, counted_in, climb-same, climb-first, climb-above}
+use Rattle.term_eval.proofs.CodeParts.{heads-one, heads-within, heads-up, slots-rise}
+use Rattle.term_eval.proofs.Linking.{heads-link, slot-of}
+use Rattle.term_eval.proofs.ClimbSteps.{told_in, counted_in, climb-same, climb-first, climb-above, stops-at}
 
 -- Nothing changed but nodes from a place on up to one of them, and slots from one place up to another. Where nothing is
 -- stirred no slot did, and the first node says what it said
@@ -26,8 +28,8 @@ pub record LeavesOthers (at first i end : ℕ) (n : NodeMemory) (done : Climbed)
   pub quiet : done.stirs ≡ false → done.wakes ≡ n.wakes
   pub first_told : done.stirs ≡ false → (state_at done.states first).told ≡ (state_at n.states first).told
 
-module _ (at first i end : ℕ) (steps : List Step) (ups : (j : ℕ) → j ≤ i → (step_at steps j).up ≤ j)
-    (stops : (j count slot : ℕ) → j < i → gate_says (step_at steps j).node count ≡ Err slot → (at ≤ slot) × (slot < end)) where
+module _ (at first i end : ℕ) (links : List Link) (ups : (j : ℕ) → j ≤ i → (link_at links j).up ≤ j)
+    (stops : (j : ℕ) → j < i → (link_at links j).gate ≡ Temporal → (at ≤ (link_at links j).number) × ((link_at links j).number < end)) where
   none-left : (states : List NodeState) (wakes : List ℕ) →
       LeavesOthers at first i end (record { states = states; wakes = wakes }) (record { states = states; wakes = wakes; stirs = false })
   none-left states wakes = record {
@@ -94,12 +96,12 @@ module _ (at first i end : ℕ) (steps : List Step) (ups : (j : ℕ) → j ≤ i
   -- what climbs leave that start from a node up there
   Leaving : ℕ → Type 0
   Leaving fuel = (j : ℕ) (holds : Bool) (states : List NodeState) (wakes : List ℕ) → j ≤ i → first + i < length states →
-      LeavesOthers at first i end (record { states = states; wakes = wakes }) (climb fuel steps first j holds states wakes)
+      LeavesOthers at first i end (record { states = states; wakes = wakes }) (climb fuel links first j holds states wakes)
 
   leaving-above : (fuel : ℕ) → Leaving fuel → (j above : ℕ) (holds : Bool) (states : List NodeState) (wakes : List ℕ) → j ≤ i → first + i < length states → above < j →
-      (says : Result Bool ℕ) → gate_says (step_at steps above).node (count_with (state_at (told_in first j holds states) (first + above)).count holds) ≡ says →
+      (says : Result Bool ℕ) → gate_says (link_at links above).gate (link_at links above).number (count_with (state_at (told_in first j holds states) (first + above)).count holds) ≡ says →
       LeavesOthers at first i end (record { states = states; wakes = wakes })
-      (go_on says (λ says. climb fuel steps first above says (counted_in first j above holds states) wakes)
+      (go_on says (λ says. climb fuel links first above says (counted_in first j above holds states) wakes)
       (λ slot. record { states = counted_in first j above holds states; wakes = slice_set wakes slot 0; stirs = true }))
   unfolding Leaving
   leaving-above fuel rest j above holds states wakes within room before (Ok says) is =
@@ -115,7 +117,8 @@ module _ (at first i end : ℕ) (steps : List Step) (ups : (j : ℕ) → j ≤ i
         first_told = λ none. done.first_told none ∙ counted-told j above holds states before (omega arith);
       }
   leaving-above fuel rest j above holds states wakes within room before (Err slot) is =
-      let place = stops above _ slot (omega arith) is in
+      let (temporal, number) = stops-at (link_at links above).gate (link_at links above).number _ slot is in
+      let place = stops above (omega arith) temporal in
       record {
         nodes = counted-nodes j above holds states;
         slots = length-set wakes slot 0;
@@ -131,22 +134,22 @@ module _ (at first i end : ℕ) (steps : List Step) (ups : (j : ℕ) → j ≤ i
 
   leaving-more : (fuel : ℕ) → Leaving fuel → (j : ℕ) (holds : Bool) (states : List NodeState) (wakes : List ℕ) → j ≤ i → first + i < length states →
       (turns : Bool) → differ (state_at states (first + j)).told holds ≡ turns →
-      LeavesOthers at first i end (record { states = states; wakes = wakes }) (climb (suc fuel) steps first j holds states wakes)
+      LeavesOthers at first i end (record { states = states; wakes = wakes }) (climb (suc fuel) links first j holds states wakes)
   leaving-more fuel rest j holds states wakes within room false is =
-      subst (LeavesOthers at first i end (record { states = states; wakes = wakes })) (sym (climb-same fuel steps first j holds states wakes is)) (none-left states wakes)
+      subst (LeavesOthers at first i end (record { states = states; wakes = wakes })) (sym (climb-same fuel links first j holds states wakes is)) (none-left states wakes)
   leaving-more fuel rest j holds states wakes within room true is =
-      elim (cases_lt 0 (step_at steps j).up) [
+      elim (cases_lt 0 (link_at links j).up) [
         | inl some ↦
-            (let above : ℕ = j - (step_at steps j).up in
+            (let above : ℕ = j - (link_at links j).up in
             let far = ups j within in
             let before : above < j = omega arith in
-            let up : (step_at steps j).up + above ≡ j = omega arith in
-            subst (LeavesOthers at first i end (record { states = states; wakes = wakes })) (sym (climb-above fuel steps first j above holds states wakes is up before))
+            let up : (link_at links j).up + above ≡ j = omega arith in
+            subst (LeavesOthers at first i end (record { states = states; wakes = wakes })) (sym (climb-above fuel links first j above holds states wakes is up before))
             (leaving-above fuel rest j above holds states wakes within room before
-            (gate_says (step_at steps above).node (count_with (state_at (told_in first j holds states) (first + above)).count holds)) refl))
+            (gate_says (link_at links above).gate (link_at links above).number (count_with (state_at (told_in first j holds states) (first + above)).count holds)) refl))
         | inr top ↦
-            (let alone : (step_at steps j).up ≡ 0 = omega arith in
-            subst (LeavesOthers at first i end (record { states = states; wakes = wakes })) (sym (climb-first fuel steps first j holds states wakes is alone))
+            (let alone : (link_at links j).up ≡ 0 = omega arith in
+            subst (LeavesOthers at first i end (record { states = states; wakes = wakes })) (sym (climb-first fuel links first j holds states wakes is alone))
             (told-leaves j holds states wakes within))
       ]
 
@@ -158,23 +161,24 @@ module _ (at first i end : ℕ) (steps : List Step) (ups : (j : ℕ) → j ≤ i
 
 -- a climb leaves all that stands behind the node that it starts from, with the slots from this node's place on, and all
 -- outside the condition
-pub climb-leaves : (c : Tree) (at first i : ℕ) (x : Part) (n : NodeMemory) (steps : List Step) (now : Bool) → IsHeld steps n c at first → Heads c at i x →
-    LeavesOthers at first i x.at n (climb (suc i) steps first i now n.states n.wakes)
+pub climb-leaves : (c : Tree) (at first i : ℕ) (x : Part) (n : NodeMemory) (links : List Link) (now : Bool) → AreLinked links n c at first → Heads c at i x →
+    LeavesOthers at first i x.at n (climb (suc i) links first i now n.states n.wakes)
 unfolding Leaving
-climb-leaves c at first i x n steps now ready heads =
+climb-leaves c at first i x n links now ready heads =
     let within = heads-within c at i x heads in
     let room = ready.nodes in
-    leaving at first i x.at steps
+    leaving at first i x.at links
     (λ j low.
     let one = heads-one c at j (omega arith) in
     let far = heads-up c at j one.0 one.1 in
-    let up : (step_at steps j).up ≡ one.0.up = ap (λ (s : Step). s.up) (heads-node c at steps ready.code j one.0 one.1) in
+    let up : (link_at links j).up ≡ one.0.up = ap (λ (l : Link). l.up) (heads-link c at first n links ready j one.0 one.1) in
     omega arith)
-    (λ j count slot above is.
+    (λ j above is.
     let one = heads-one c at j (omega arith) in
-    let place = slot-of one.0.tree one.0.at count slot
-    (sym (ap (λ (s : Step). gate_says s.node count) (heads-node c at steps ready.code j one.0 one.1)) ∙ is) in
+    let link = heads-link c at first n links ready j one.0 one.1 in
+    let place = slot-of one.0.tree one.0.at (sym (ap (λ (l : Link). l.gate) link) ∙ is) in
+    let number : (link_at links j).number ≡ one.0.at = ap (λ (l : Link). l.number) link ∙ sym place.1 in
     let low = slots-within at 0 c j one.0 one.1 in
     let rise = slots-rise c at j i one.0 x one.1 heads above place.0 in
-    (omega (arith, place.1, low.0), omega (arith, place.1)))
+    (omega (arith, number, low.0), omega (arith, number)))
     (suc i) i now n.states n.wakes (omega arith) (omega arith)

@@ -1,11 +1,13 @@
 -- One step of a climb, by what it comes to.
-use Rattle.std.proofs.Common.{◌≡◌, ℕ, suc, ◌+◌, ◌-◌, ◌<◌, ◌^◌, Bool, true, false, not, List, eqb, refl, arith}
+use Rattle.std.proofs.Common.{◌≡◌, ℕ, suc, ◌+◌, ◌-◌, ◌<◌, ◌^◌, Bool, true, false, not, List, Err, eqb, refl, arith}
 use Rattle.std.proofs.Math.Bool.{beq}
 use Rattle.std.specs.Prelude.{slice_set}
 use Rattle.std.proofs.lemmas.Bool.Decides.{nat_tests}
 use Rattle.term_eval.specs.declared.nodes.NodeState.{NodeState}
-use Rattle.term_eval.specs.declared.code.Step.{Step}
-use Rattle.term_eval.specs.Climb.{climb, count_with, gate_says, go_on, step_at, told_as, counted}
+use Rattle.term_eval.specs.declared.link.Link.{Link}
+use Rattle.term_eval.specs.declared.link.Gate.{Gate}
+use Rattle.term_eval.specs.declared.link.Gate.TheVariants.{AtLeast, Fewer, Temporal}
+use Rattle.term_eval.specs.Climb.{climb, count_with, gate_says, go_on, link_at, told_as, counted}
 use Rattle.term_eval.specs.NodeState.{state_at, one_if}
 use Rattle.term_eval.specs.Woken.{differ}
 
@@ -18,32 +20,32 @@ counted_in first i above holds states =
     let own = told_in first i holds states in
     slice_set own (first + above) (counted (count_with (state_at own (first + above)).count holds) (state_at own (first + above)))
 
-pub climb-same : (n : ℕ) (steps : List Step) (first i : ℕ) (holds : Bool) (states : List NodeState) (wakes : List ℕ) →
+pub climb-same : (n : ℕ) (links : List Link) (first i : ℕ) (holds : Bool) (states : List NodeState) (wakes : List ℕ) →
     differ (state_at states (first + i)).told holds ≡ false →
-    climb (suc n) steps first i holds states wakes ≡ record { states = states; wakes = wakes; stirs = false }
+    climb (suc n) links first i holds states wakes ≡ record { states = states; wakes = wakes; stirs = false }
 unfolding climb
-climb-same n steps first i holds states wakes same = rw same refl
+climb-same n links first i holds states wakes same = rw same refl
 
-pub climb-first : (n : ℕ) (steps : List Step) (first i : ℕ) (holds : Bool) (states : List NodeState) (wakes : List ℕ) →
-    differ (state_at states (first + i)).told holds ≡ true → (step_at steps i).up ≡ 0 →
-    climb (suc n) steps first i holds states wakes ≡ record { states = told_in first i holds states; wakes = wakes; stirs = true }
+pub climb-first : (n : ℕ) (links : List Link) (first i : ℕ) (holds : Bool) (states : List NodeState) (wakes : List ℕ) →
+    differ (state_at states (first + i)).told holds ≡ true → (link_at links i).up ≡ 0 →
+    climb (suc n) links first i holds states wakes ≡ record { states = told_in first i holds states; wakes = wakes; stirs = true }
 unfolding climb
-climb-first n steps first i holds states wakes turns top = rw turns (rw top refl)
+climb-first n links first i holds states wakes turns top = rw turns (rw top refl)
 
-pub climb-above : (n : ℕ) (steps : List Step) (first i above : ℕ) (holds : Bool) (states : List NodeState) (wakes : List ℕ) →
-    differ (state_at states (first + i)).told holds ≡ true → (step_at steps i).up + above ≡ i → above < i →
-    climb (suc n) steps first i holds states wakes
-    ≡ go_on (gate_says (step_at steps above).node (count_with (state_at (told_in first i holds states) (first + above)).count holds))
-    (λ says. climb n steps first above says (counted_in first i above holds states) wakes)
+pub climb-above : (n : ℕ) (links : List Link) (first i above : ℕ) (holds : Bool) (states : List NodeState) (wakes : List ℕ) →
+    differ (state_at states (first + i)).told holds ≡ true → (link_at links i).up + above ≡ i → above < i →
+    climb (suc n) links first i holds states wakes
+    ≡ go_on (gate_says (link_at links above).gate (link_at links above).number (count_with (state_at (told_in first i holds states) (first + above)).count holds))
+    (λ says. climb n links first above says (counted_in first i above holds states) wakes)
     (λ slot. record { states = counted_in first i above holds states; wakes = slice_set wakes slot 0; stirs = true })
 unfolding climb
-climb-above n steps first i above holds states wakes turns up before =
-    let below : eqb (step_at steps i).up 0 ≡ false = grind (arith, nat_tests) in
-    let is : i - (step_at steps i).up ≡ above = omega arith in
+climb-above n links first i above holds states wakes turns up before =
+    let below : eqb (link_at links i).up 0 ≡ false = grind (arith, nat_tests) in
+    let is : i - (link_at links i).up ≡ above = omega arith in
     rw turns (rw below (rw is refl))
 
 -- one child more or less is counted, while there are few
-pub counts-one : (before now : Bool) (old new : ℕ) → differ before now ≡ true → new + one_if before ≡ old + one_if now → new < 2 ^ 64 → count_with old now ≡ new
+pub counts-one : (before now : Bool) (old new : ℕ) → differ before now ≡ true → new + one_if before ≡ old + one_if now → new < 2 ^ 8 → count_with old now ≡ new
 counts-one true true old new turns is few = absurd (let e : ⊥ = cc in e)
 counts-one false false old new turns is few = absurd (let e : ⊥ = cc in e)
 counts-one true false old new turns is few = omega arith
@@ -60,3 +62,9 @@ turns-by true true turns is = is
 turns-by true false turns is = is
 turns-by false true turns is = is
 turns-by false false turns is = is
+
+-- where a climb stops, a temporal node has the slot
+pub stops-at : (gate : Gate) (number count slot : ℕ) → gate_says gate number count ≡ Err slot → (gate ≡ Temporal) × (number ≡ slot)
+stops-at AtLeast number count slot is = absurd (let f : ⊥ = cc in f)
+stops-at Fewer number count slot is = absurd (let f : ⊥ = cc in f)
+stops-at Temporal number count slot is = (refl, (cc))

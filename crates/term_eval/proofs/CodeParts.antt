@@ -1,16 +1,15 @@
--- The steps of a condition's code by its parts: what stands where, and what a climb in it asks for.
-use Rattle.std.proofs.Common.{◌≡◌, ℕ, zero, suc, ◌+◌, ◌<◌, ◌≤◌, true, List, ◌++◌, length, inl, inr, Some, Err, get_or, refl, sym, ◌∙◌, ap, arith}
+-- The steps of a condition's code by its parts: what stands where.
+use Rattle.std.proofs.Common.{◌≡◌, ℕ, zero, suc, ◌+◌, ◌<◌, ◌≤◌, true, List, ◌++◌, length, inl, inr, Some, get_or, sym, ◌∙◌, ap, arith}
 use Rattle.std.specs.Option.{option_map}
 use Rattle.std.specs.List.{slice_get}
 use Rattle.std.proofs.lemmas.Option.{slice_get-map, slice_get-get_or, slice_get_within, get_or_from_slice_get, same_Some}
-use Rattle.ecam_spec.specs.Book.{Tree, Trees, constant, discrete, valid, compared, in_phase, alert, press, computer, negation, all, any, at_least, confirmed, held, risen, latched, none, more}
+use Rattle.ecam_spec.specs.Book.{Tree, Trees, none, more}
 use Rattle.ecam_spec.specs.TermSize.{nodes, slots, children}
 use Rattle.term_eval.specs.declared.code.Step.{Step}
-use Rattle.term_eval.specs.Memory.{NodeMemory}
-use Rattle.term_eval.specs.Code.{IsCode, IsHeld}
-use Rattle.term_eval.specs.Climb.{gate_says, step_at, CanClimb}
+use Rattle.term_eval.specs.Code.{IsCode}
+use Rattle.term_eval.specs.Climb.{step_at}
 use Rattle.term_eval.specs.Parts.{Part, parts, parts_of, Heads, is_temporal}
-use Rattle.term_eval.proofs.Inside.{node_at, inside}
+use Rattle.term_eval.proofs.Inside.{inside}
 use Rattle.term_eval.proofs.PartLaws.{step_of, for-tree, parts-is, parts-count, parts-code, get-left, get-right, split, slots-within, slots-within_of}
 use Rattle.term_eval.proofs.Codes.{length-code}
 use Rattle.term_eval.proofs.NodeKinds.{own-slot, own-inside}
@@ -123,48 +122,6 @@ pub heads-up : (c : Tree) (at j : ℕ) (y : Part) → Heads c at j y → y.up �
 unfolding UpIn
 heads-up c at j y heads = let far = for-tree UpIn UpOf up-node up-none up-more c at 0 j y heads in omega arith
 
--- where a climb stops at a slot, a temporal node has it
-pub slot-of : (c : Tree) (at count slot : ℕ) → gate_says (node_at at c) count ≡ Err slot → (is_temporal c ≡ true) × (at ≡ slot)
-unfolding is_temporal
-slot-of (constant b) at count slot is = absurd (let f : ⊥ = cc in f)
-slot-of (discrete x) at count slot is = absurd (let f : ⊥ = cc in f)
-slot-of (valid x) at count slot is = absurd (let f : ⊥ = cc in f)
-slot-of (compared x op n) at count slot is = absurd (let f : ⊥ = cc in f)
-slot-of (in_phase set) at count slot is = absurd (let f : ⊥ = cc in f)
-slot-of (alert a) at count slot is = absurd (let f : ⊥ = cc in f)
-slot-of (press key) at count slot is = absurd (let f : ⊥ = cc in f)
-slot-of (computer n) at count slot is = absurd (let f : ⊥ = cc in f)
-slot-of (negation c) at count slot is = absurd (let f : ⊥ = cc in f)
-slot-of (all cs) at count slot is = absurd (let f : ⊥ = cc in f)
-slot-of (any cs) at count slot is = absurd (let f : ⊥ = cc in f)
-slot-of (at_least n cs) at count slot is = absurd (let f : ⊥ = cc in f)
-slot-of (confirmed c n) at count slot is = (refl, (cc))
-slot-of (held c n) at count slot is = (refl, (cc))
-slot-of (risen c) at count slot is = (refl, (cc))
-slot-of (latched s r) at count slot is = (refl, (cc))
-
 -- there is a step for each node
 pub length-steps : (c : Tree) (at : ℕ) (steps : List Step) → IsCode c at steps → length steps ≡ nodes c
 length-steps c at steps is = ap length is.is ∙ length-code c at 0
-
-pub can-climb : (c : Tree) (at first : ℕ) (n : NodeMemory) (steps : List Step) → IsHeld steps n c at first → CanClimb steps first (length n.states) (length n.wakes)
-can-climb c at first n steps ready =
-    let long : length steps ≡ nodes c = length-steps c at steps ready.code in
-    let room = ready.nodes in
-    record {
-      room = omega arith;
-      ups = λ i s is.
-          let one = heads-one c at i (let within = slice_get_within steps i s is in omega arith) in
-          let far = heads-up c at i one.0 one.1 in
-          let same : step_of one.0 ≡ s = same_Some (step_of one.0) s (sym (heads-step c at steps ready.code i one.0 one.1) ∙ is) in
-          let up : one.0.up ≡ s.up = ap (λ (t : Step). t.up) same in
-          omega arith;
-      held = λ i count slot s is stops.
-          let one = heads-one c at i (let within = slice_get_within steps i s is in omega arith) in
-          let same : step_of one.0 ≡ s = same_Some (step_of one.0) s (sym (heads-step c at steps ready.code i one.0 one.1) ∙ is) in
-          let place = slot-of one.0.tree one.0.at count slot (ap (λ (t : Step). gate_says t.node count) same ∙ stops) in
-          let own = own-slot one.0.tree place.0 in
-          let high = slots-within at 0 c i one.0 one.1 in
-          let fits = ready.slots in
-          omega (arith, place.1, high.1);
-    }

@@ -23,6 +23,7 @@ pub mod TellingParts
 pub mod TellingBeside
 pub mod Telling
 pub mod CodeParts
+pub mod Linking
 pub mod ClimbLeaves
 pub mod Asking
 pub mod Turning
@@ -53,3 +54,4 @@ pub mod Cleared
 pub mod Begun
 pub mod Owning
 pub mod AskingEach
+pub mod Linkable

@@ -1,8 +1,11 @@
 -- Nodes by their kind: an atom, a gate, which goes at once by what its children say, or a temporal node.
-use Rattle.std.proofs.Common.{◌≡◌, ℕ, ◌+◌, ◌≤◌, Bool, true, false, Ok, Err, refl, sym, arith}
+use Rattle.std.proofs.Common.{◌≡◌, ℕ, ◌+◌, ◌≤◌, Bool, true, false, not, Result, Ok, Err, eqb, leb, refl, sym, ap, arith}
+use Rattle.std.proofs.lemmas.Bool.Decides.{nat_tests}
 use Rattle.ecam_spec.specs.Book.{Tree, constant, discrete, valid, compared, in_phase, alert, press, computer, negation, all, any, at_least, confirmed, held, risen, latched, none}
 use Rattle.ecam_spec.specs.Term.{World}
 use Rattle.ecam_spec.specs.TermSize.{children, slots}
+use Rattle.term_eval.specs.Code.{many}
+use Rattle.term_eval.specs.Links.{gate_of, number_of}
 use Rattle.term_eval.specs.Climb.{gate_says}
 use Rattle.term_eval.specs.Parts.{is_temporal}
 use Rattle.term_eval.specs.NodeState.{own_says}
@@ -17,10 +20,22 @@ is_gate (any cs) = true
 is_gate (at_least n cs) = true
 is_gate _ = false
 
+-- what the link of a node says of whose children so many hold
+abbrev pub link_says : ℕ → Tree → ℕ → Result Bool ℕ
+link_says at c count = gate_says (gate_of (node_at at c)) (number_of (node_at at c)) count
+
 pub data Kind (c : Tree) : Type 0 where
   an_atom : is_temporal c ≡ false → children c ≡ none → Kind c
-  a_gate : is_temporal c ≡ false → ((w : World) (h : ℕ) (updated : Bool) (at count : ℕ) → gate_says (node_at at c) count ≡ Ok (spoken w h updated c count)) → Kind c
-  a_temporal : is_temporal c ≡ true → ((at : ℕ) → inside at c ≡ at + 1) → ((at count : ℕ) → gate_says (node_at at c) count ≡ Err at) → is_gate c ≡ false → Kind c
+  a_gate : is_temporal c ≡ false →
+      ((w : World) (h : ℕ) (updated : Bool) (at count : ℕ) → count ≤ many (children c) → link_says at c count ≡ Ok (spoken w h updated c count)) → Kind c
+  a_temporal : is_temporal c ≡ true → ((at : ℕ) → inside at c ≡ at + 1) → ((at count : ℕ) → link_says at c count ≡ Err at) → is_gate c ≡ false → Kind c
+
+none-below : (count : ℕ) → not (leb 1 count) ≡ eqb count 0
+none-below count = grind (arith, nat_tests)
+
+-- of so many, all do where at least so many do
+all-do : (count most : ℕ) → count ≤ most → leb most count ≡ eqb count most
+all-do count most fits = grind (arith, nat_tests)
 
 pub kind-of : (c : Tree) → Kind c
 unfolding children is_temporal is_gate
@@ -32,10 +47,10 @@ kind-of (in_phase set) = an_atom refl refl
 kind-of (alert a) = an_atom refl refl
 kind-of (press key) = an_atom refl refl
 kind-of (computer n) = an_atom refl refl
-kind-of (negation c) = a_gate refl (λ w h updated at count. refl)
-kind-of (all cs) = a_gate refl (λ w h updated at count. refl)
-kind-of (any cs) = a_gate refl (λ w h updated at count. refl)
-kind-of (at_least n cs) = a_gate refl (λ w h updated at count. refl)
+kind-of (negation c) = a_gate refl (λ w h updated at count fits. ap Ok (none-below count))
+kind-of (all cs) = a_gate refl (λ w h updated at count fits. ap Ok (all-do count (many cs) fits))
+kind-of (any cs) = a_gate refl (λ w h updated at count fits. refl)
+kind-of (at_least n cs) = a_gate refl (λ w h updated at count fits. refl)
 kind-of (confirmed c n) = a_temporal refl (λ at. refl) (λ at count. refl) refl
 kind-of (held c n) = a_temporal refl (λ at. refl) (λ at count. refl) refl
 kind-of (risen c) = a_temporal refl (λ at. refl) (λ at count. refl) refl

@@ -37,7 +37,7 @@ use Rattle.term_eval.proofs.Short.{short-part}
 use Rattle.term_eval.proofs.Hearing.{wait-same}
 use Rattle.term_eval.proofs.AskedSoFar.{temporal_at, gone, gone-untimed, gone-through, gone-ahead, start-waits}
 use Rattle.term_eval.proofs.RightBelow.{still-truths, set-heads}
-use Rattle.term_eval.proofs.PassFrame.{nodes_of_run, look_by, leave, leaves, looks, Room, room-still, over, passes-by, goes-over, framed}
+use Rattle.term_eval.proofs.PassFrame.{nodes_of_run, links_of, links-held, look_by, leave, leaves, looks, Room, room-still, over, passes-by, goes-over, framed}
 
 module _ (w : World) (h : ℕ) (c : Tree) (at first : ℕ) where
   -- ---- from one node to that before it
@@ -146,7 +146,7 @@ module _ (w : World) (h : ℕ) (c : Tree) (at first : ℕ) (steps : List Step) (
       ∙ ap (λ b. own_says w h b x.tree) (own-unasked m x heads temporal)
 
   module _ (m slot : ℕ) (x : Part) (xs : List Part) (place : Place c at m slot (x ∷ xs)) (temporal : is_temporal x.tree ≡ true) (s : Run)
-      (room : Room (suc h) steps first c at s) (few : length s.states < 2 ^ 64) (g : Gone w h c at first (m + 1) s) where
+      (room : Room (suc h) steps first c at s) (g : Gone w h c at first (m + 1) s) where
     heads : Heads c at m x
     heads = place-heads c at m slot x xs place
 
@@ -175,8 +175,8 @@ module _ (w : World) (h : ℕ) (c : Tree) (at first : ℕ) (steps : List Step) (
           wake = λ t. r.due ∙ sym turn.due;
         } in
         let still : (state_at s.states (first + m)).told ≡ now = said-before-it m x s heads temporal g ∙ sym turn.truth in
-        let waits = climbed w h (gone c at (m + 1)) c at first m x n steps now room.nodes few heads (no-gate x.tree temporal) refl (before-free m) told in
-        let done = climb-same m steps first m now s.states s.wakes (differ-same (state_at s.states (first + m)).told now still) in
+        let waits = climbed w h (gone c at (m + 1)) c at first m x n (links_of steps) now (links-held steps n c at first room.nodes) heads (no-gate x.tree temporal) refl (before-free m) told in
+        let done = climb-same m (links_of steps) first m now s.states s.wakes (differ-same (state_at s.states (first + m)).told now still) in
         record {
           waits = gone-told w h c at first m x heads temporal (leave x.at s) (subst (λ d. NodesWait w h (also m (gone c at (m + 1))) c at first (kept_by d)) done waits);
           behind = behind-cells w h c at first m slot x xs place temporal s g s.cells (λ i other. refl) (left-cell w h x.tree (cell_at s.cells x.at) same own);
@@ -214,7 +214,7 @@ module _ (w : World) (h : ℕ) (c : Tree) (at first : ℕ) (steps : List Step) (
           count = kept.count;
           wake = λ t. set-wake ∙ r.wake;
         } in
-        let waits = climbed w h (gone c at (m + 1)) c at first m x n steps now ready few heads (no-gate x.tree temporal) r.told (before-free m) told in
+        let waits = climbed w h (gone c at (m + 1)) c at first m x n (links_of steps) now (links-held steps n c at first ready) heads (no-gate x.tree temporal) r.told (before-free m) told in
         record {
           waits = gone-told w h c at first m x heads temporal (look_by (suc h) steps first m x.at (node_at x.at x.tree) s) waits;
           behind = behind-cells w h c at first m slot x xs place temporal s g (cells_after (suc h) s.cells count set (node_at x.at x.tree)) a.others r.cell;
@@ -224,7 +224,7 @@ module _ (w : World) (h : ℕ) (c : Tree) (at first : ℕ) (steps : List Step) (
         other-slot : (j : ℕ) (y : Part) → Heads c at j y → j ≢ m → is_temporal y.tree ≡ true → (due : ℕ) → slice_index (slice_set s.wakes x.at due) y.at ≡ slice_index s.wakes y.at
         other-slot j y there other timed due = get_or-set_other s.wakes x.at y.at due _ (slots-apart c at m j x y heads there temporal timed other)
 
-    gone-one : x.at ≡ slot → Gone w h c at first m (look_or_leave (suc h) steps first m slot s)
+    gone-one : x.at ≡ slot → Gone w h c at first m (look_or_leave (suc h) steps (links_of steps) first m slot s)
     gone-one own = elim (cases_lt (suc h) (slice_index s.wakes slot)) [
       | inl later ↦
           (let there : suc h < slice_index s.wakes x.at = subst (λ p. suc h < slice_index s.wakes p) (sym own) later in
@@ -236,13 +236,12 @@ module _ (w : World) (h : ℕ) (c : Tree) (at first : ℕ) (steps : List Step) (
 
   gone-step : (m slot : ℕ) (x : Part) (xs : List Part) (s : Run) (b : Bool) → is_temporal x.tree ≡ b → Place c at m slot (x ∷ xs) →
       (Room (suc h) steps first c at (over (suc h) steps first c at (m + 1) (cond b (suc slot) slot) xs s)) →
-      length (over (suc h) steps first c at (m + 1) (cond b (suc slot) slot) xs s).states < 2 ^ 64 →
       Gone w h c at first (m + 1) (over (suc h) steps first c at (m + 1) (cond b (suc slot) slot) xs s) →
       Gone w h c at first m (over (suc h) steps first c at m slot (x ∷ xs) s)
-  gone-step m slot x xs s true temporal place room few g =
+  gone-step m slot x xs s true temporal place room g =
       subst (Gone w h c at first m) (sym (goes-over (suc h) steps first c at m slot x xs s temporal))
-      (gone-one m slot x xs place temporal (over (suc h) steps first c at (m + 1) (suc slot) xs s) room few g (place-slot c at m slot x xs place))
-  gone-step m slot x xs s false untimed place room few g =
+      (gone-one m slot x xs place temporal (over (suc h) steps first c at (m + 1) (suc slot) xs s) room g (place-slot c at m slot x xs place))
+  gone-step m slot x xs s false untimed place room g =
       subst (Gone w h c at first m) (sym (passes-by (suc h) steps first c at m slot x xs s untimed))
       (gone-by w h c at first m x (over (suc h) steps first c at (m + 1) slot xs s) (place-heads c at m slot x xs place) untimed g)
 
@@ -256,19 +255,18 @@ module _ (w : World) (h : ℕ) (c : Tree) (at first : ℕ) (steps : List Step) (
         absurd (let z : ⊥ = cc in z))
   ]
 
-  pub gone-over : (xs : List Part) (m slot : ℕ) (s : Run) → Place c at m slot xs → Room (suc h) steps first c at s → length s.states < 2 ^ 64 → s.due ≡ never →
+  pub gone-over : (xs : List Part) (m slot : ℕ) (s : Run) → Place c at m slot xs → Room (suc h) steps first c at s → s.due ≡ never →
       NodesWait w h (heard (moved w (suc h)) c) c at first (nodes_of_run s) → Stand w (suc h) c at s.cells →
       Gone w h c at first m (over (suc h) steps first c at m slot xs s)
   unfolding owners pass_over
-  gone-over [] m slot s place room few due waits stand = record {
+  gone-over [] m slot s place room due waits stand = record {
     waits = start-waits w h c at first m (nodes_of_run s) (none-behind m slot place) waits;
     behind = λ i x there reached. absurd (let z : ⊥ = let less = none-behind m slot place i x there in omega (arith, less) in z);
     ahead = λ i x there less. open-parts w (suc h) s.cells c at stand i x there;
   }
-  gone-over (x ∷ xs) m slot s place room few due waits stand =
+  gone-over (x ∷ xs) m slot s place room due waits stand =
       let next = place-next c at m slot x xs place in
       let f = framed (suc h) steps first c at xs (m + 1) (behind x.tree slot) s next room due in
       gone-step m slot x xs s (is_temporal x.tree) refl place
       (room-still (suc h) steps first c at (behind x.tree slot) (temporal_count xs) s (over (suc h) steps first c at (m + 1) (behind x.tree slot) xs s) f room)
-      (omega (arith, f.nodes, few))
-      (gone-over xs (m + 1) (behind x.tree slot) s next room few due waits stand)
+      (gone-over xs (m + 1) (behind x.tree slot) s next room due waits stand)

@@ -1,51 +1,55 @@
 -- How a climb from a node goes on within a part of a condition in which the node stands: it stops in the part, which then
 -- says what it said, or it comes to the part's own node with what that says now.
-use Rattle.std.proofs.Common.{◌≡◌, ◌≢◌, ℕ, suc, ◌+◌, ◌-◌, ◌<◌, ◌≤◌, ◌^◌, ◌⊎◌, Bool, true, false, List, length, inl, inr, Ok, refl, sym, ◌∙◌, ap, subst, arith}
+use Rattle.std.proofs.Common.{◌≡◌, ◌≢◌, ℕ, suc, ◌+◌, ◌-◌, ◌<◌, ◌≤◌, ◌⊎◌, Bool, true, false, List, length, inl, inr, Ok, refl, sym, ◌∙◌, ap, subst, arith}
 use Rattle.std.specs.Prelude.{slice_index, slice_set}
 use Rattle.std.proofs.lemmas.List.{length-set, get_or-set_same, get_or-set_other}
 use Rattle.ecam_spec.specs.Book.{Tree, Trees, none, more}
 use Rattle.ecam_spec.specs.Term.{World}
 use Rattle.ecam_spec.specs.TermSize.{nodes, nodes_of, slots, slots_of, children}
+use Rattle.ecam_spec.specs.declared.limits.TheConstants.{TERM_NODES}
 use Rattle.term_eval.specs.declared.nodes.NodeState.{NodeState}
-use Rattle.term_eval.specs.declared.code.Step.{Step}
+use Rattle.term_eval.specs.declared.link.Link.{Link}
 use Rattle.term_eval.specs.Memory.{NodeMemory}
 use Rattle.term_eval.specs.Woken.{differ}
-use Rattle.term_eval.specs.Climb.{Climbed, climb, count_with, gate_says, go_on, step_at, told_as, counted}
+use Rattle.term_eval.specs.Climb.{Climbed, climb, count_with, gate_says, go_on, link_at, told_as, counted}
+use Rattle.term_eval.specs.Code.{many}
 use Rattle.term_eval.specs.Parts.{Part, parts, parts_of}
 use Rattle.term_eval.specs.NodeState.{state_at, unasked, one_if, own_says, says, said, Wakes, SayTheSame, also}
-use Rattle.term_eval.proofs.Inside.{node_at, inside, nodes-is, slots-is}
+use Rattle.term_eval.proofs.Codes.{many-nodes}
+use Rattle.term_eval.proofs.Inside.{inside, nodes-is, slots-is}
 use Rattle.term_eval.proofs.PartLaws.{for-tree, parts-count, slots-within_of, split, low-inside, spoken, says-is}
-use Rattle.term_eval.proofs.NodeKinds.{Kind, an_atom, a_gate, a_temporal, kind-of, spoken-own, own-inside}
+use Rattle.term_eval.proofs.NodeKinds.{link_says, Kind, an_atom, a_gate, a_temporal, kind-of, spoken-own, own-inside}
 use Rattle.term_eval.proofs.KeptSame.{also-other, kept-same, wakes-by, Each, each-left, each-right, each-own, each-inner, each-whole}
 use Rattle.term_eval.proofs.ClimbSteps.{told_in, counted_in, climb-same, climb-first, climb-above, counts-one, same-truth}
-use Rattle.term_eval.proofs.TellingParts.{said-few, none-inside, here, wider, leaves-set, settled}
+use Rattle.term_eval.proofs.Linking.{said-many}
+use Rattle.term_eval.proofs.TellingParts.{none-inside, here, wider, leaves-set, settled}
 use Rattle.term_eval.proofs.TellingParts as tell
 use Rattle.term_eval.proofs.TellingBeside.{first-stops, rest-stops, first-comes, rest-comes}
 
-module _ (w : World) (h : ℕ) (updated : ℕ → Bool) (steps : List Step) (first i end : ℕ) (n : NodeMemory) (start : Climbed) (few : length n.states < 2 ^ 64) where
+module _ (w : World) (h : ℕ) (updated : ℕ → Bool) (links : List Link) (first i end : ℕ) (n : NodeMemory) (start : Climbed) where
   abbrev Given : ℕ → Part → Type 0
-  Given = tell.Given w h updated steps first i end n start few
+  Given = tell.Given w h updated links first i end n start
 
   abbrev Kept : NodeMemory → ℕ → Part → Type 0
-  Kept = tell.Kept w h updated steps first i end n start few
+  Kept = tell.Kept w h updated links first i end n start
 
   abbrev now : List NodeState → NodeMemory
-  now = tell.now w h updated steps first i end n start few
+  now = tell.now w h updated links first i end n start
 
   abbrev Leaves : ℕ → ℕ → ℕ → NodeMemory → Type 0
-  Leaves = tell.Leaves w h updated steps first i end n start few
+  Leaves = tell.Leaves w h updated links first i end n start
 
   abbrev Stops : Tree → ℕ → ℕ → ℕ → Type 0
-  Stops = tell.Stops w h updated steps first i end n start few
+  Stops = tell.Stops w h updated links first i end n start
 
   abbrev Comes : Tree → ℕ → ℕ → ℕ → Type 0
-  Comes = tell.Comes w h updated steps first i end n start few
+  Comes = tell.Comes w h updated links first i end n start
 
   abbrev StopsIn : Trees → ℕ → ℕ → ℕ → Type 0
-  StopsIn = tell.StopsIn w h updated steps first i end n start few
+  StopsIn = tell.StopsIn w h updated links first i end n start
 
   abbrev ComesIn : Trees → ℕ → ℕ → ℕ → Type 0
-  ComesIn = tell.ComesIn w h updated steps first i end n start few
+  ComesIn = tell.ComesIn w h updated links first i end n start
 
   -- ---- a node above the one that is told
 
@@ -87,10 +91,10 @@ module _ (w : World) (h : ℕ) (updated : ℕ → Bool) (steps : List Step) (fir
         is = stops.is;
         kept = each-whole (Kept stops.memory) p at up c
             (left c at up p stops.memory above own
-            (wider w h updated steps first i end n start few (p + 1) (inside at c) (at + slots c) (p + 1) (inside at c) (inside at c + slots_of (children c)) stops.memory (omega arith) (omega arith) (omega arith) leaves)
+            (wider w h updated links first i end n start (p + 1) (inside at c) (at + slots c) (p + 1) (inside at c) (inside at c + slots_of (children c)) stops.memory (omega arith) (omega arith) (omega arith) leaves)
             stops.same stops.all_same) stops.kept;
         same = says-same c p above stops.same;
-        leaves = wider w h updated steps first i end n start few p at (at + slots c) (p + 1) (inside at c) (inside at c + slots_of (children c)) stops.memory (omega arith) from (omega arith) leaves;
+        leaves = wider w h updated links first i end n start p at (at + slots c) (p + 1) (inside at c) (inside at c + slots_of (children c)) stops.memory (omega arith) from (omega arith) leaves;
       }
 
   -- the child to which it comes says what it said
@@ -108,20 +112,20 @@ module _ (w : World) (h : ℕ) (updated : ℕ → Bool) (steps : List Step) (fir
       record {
         memory = now comes.states;
         stirs = false;
-        is = comes.is ∙ climb-same comes.fuel steps first comes.node comes.says_now comes.states n.wakes
+        is = comes.is ∙ climb-same comes.fuel links first comes.node comes.says_now comes.states n.wakes
             (ap (λ b. differ b comes.says_now) comes.told ∙ same);
         kept = each-whole (Kept (now comes.states)) p at up c
             (left c at up p (now comes.states) above own
-            (wider w h updated steps first i end n start few (p + 1) (inside at c) (at + slots c) (p + 1) (inside at c) (inside at c + slots_of (children c)) (now comes.states) (omega arith) (omega arith) (omega arith) leaves)
+            (wider w h updated links first i end n start (p + 1) (inside at c) (at + slots c) (p + 1) (inside at c) (inside at c + slots_of (children c)) (now comes.states) (omega arith) (omega arith) (omega arith) leaves)
             children_same (comes.all_same is)) (comes.kept is);
         same = says-same c p above children_same;
-        leaves = wider w h updated steps first i end n start few p at (at + slots c) (p + 1) (inside at c) (inside at c + slots_of (children c)) (now comes.states) (omega arith) from (omega arith) leaves;
+        leaves = wider w h updated links first i end n start p at (at + slots c) (p + 1) (inside at c) (inside at c + slots_of (children c)) (now comes.states) (omega arith) from (omega arith) leaves;
       }
 
   -- it turned: the node above counts it
   record Counted (c : Tree) (at up p : ℕ) (comes : ComesIn (children c) (inside at c) 1 (p + 1)) (states : List NodeState) : Type 0 where
-    is : start ≡ go_on (gate_says (node_at at c) (said w h (also i updated) (children c) (p + 1)))
-        (λ says. climb comes.fuel steps first p says states n.wakes)
+    is : start ≡ go_on (link_says at c (said w h (also i updated) (children c) (p + 1)))
+        (λ says. climb comes.fuel links first p says states n.wakes)
         (λ slot. record { states = states; wakes = slice_set n.wakes slot 0; stirs = true })
     told : (state_at states (first + p)).told ≡ says w h updated c p
     count : (state_at states (first + p)).count ≡ said w h (also i updated) (children c) (p + 1)
@@ -141,12 +145,14 @@ module _ (w : World) (h : ℕ) (updated : ℕ → Bool) (steps : List Step) (fir
       let leaves = comes.leaves in
       let low = comes.low in
       let far_is = comes.far_is in
-      let far = comes.step in
+      let far = comes.link in
       let enough = comes.enough in
       let long = leaves.nodes in
       let room = own.room in
       let size = nodes-is c in
-      let fits : said_new ≤ nodes_of (children c) = said-few w h (also i updated) (children c) (p + 1) in
+      let fits : said_new ≤ many (children c) = said-many w h (also i updated) (children c) (p + 1) in
+      let fewer : many (children c) ≤ nodes_of (children c) = many-nodes (children c) in
+      let few : nodes c ≤ TERM_NODES = own.few in
       let told = told_in first comes.node comes.says_now comes.states in
       let other : first + p ≢ first + comes.node = λ e. (let f : ⊥ = omega arith in f) in
       let own_state : state_at told (first + p) ≡ state_at n.states (first + p)
@@ -160,14 +166,14 @@ module _ (w : World) (h : ℕ) (updated : ℕ → Bool) (steps : List Step) (fir
       let told_long : length told ≡ length comes.states
       = length-set comes.states (first + comes.node) (told_as comes.says_now (state_at comes.states (first + comes.node))) in
       let here_now : state_at after (first + p) ≡ value = get_or-set_same told (first + p) value unasked (omega arith) in
-      let up : (step_at steps comes.node).up + p ≡ comes.node = omega arith in
+      let up : (link_at links comes.node).up + p ≡ comes.node = omega arith in
       record {
         is = comes.is
-            ∙ climb-above comes.fuel steps first comes.node p comes.says_now comes.states n.wakes (ap (λ b. differ b comes.says_now) comes.told ∙ turns) up (omega arith)
-            ∙ ap (λ m. go_on (gate_says (step_at steps p).node m) (λ says. climb comes.fuel steps first p says after n.wakes)
+            ∙ climb-above comes.fuel links first comes.node p comes.says_now comes.states n.wakes (ap (λ b. differ b comes.says_now) comes.told ∙ turns) up (omega arith)
+            ∙ ap (λ m. go_on (gate_says (link_at links p).gate (link_at links p).number m) (λ says. climb comes.fuel links first p says after n.wakes)
             (λ slot. record { states = after; wakes = slice_set n.wakes slot 0; stirs = true })) counts
-            ∙ ap (λ s. go_on (gate_says s.node said_new) (λ says. climb comes.fuel steps first p says after n.wakes)
-            (λ slot. record { states = after; wakes = slice_set n.wakes slot 0; stirs = true })) own.step;
+            ∙ ap (λ (l : Link). go_on (gate_says l.gate l.number said_new) (λ says. climb comes.fuel links first p says after n.wakes)
+            (λ slot. record { states = after; wakes = slice_set n.wakes slot 0; stirs = true })) own.link;
         told = ap (λ s. s.told) here_now ∙ ap (λ s. s.told) own_state ∙ was.told;
         count = ap (λ s. s.count) here_now ∙ counts;
         inner = λ j y is.
@@ -177,9 +183,9 @@ module _ (w : World) (h : ℕ) (updated : ℕ → Bool) (steps : List Step) (fir
         leaves =
             let ends = slots-is at c in
             let from = low-inside at c in
-            leaves-set w h updated steps first i end n start few p at (at + slots c) p told value (omega arith) (omega arith)
-            (leaves-set w h updated steps first i end n start few p at (at + slots c) comes.node comes.states (told_as comes.says_now (state_at comes.states (first + comes.node))) (omega arith) comes.high
-            (wider w h updated steps first i end n start few p at (at + slots c) (p + 1) (inside at c) (inside at c + slots_of (children c)) (now comes.states) (omega arith) from (omega arith) leaves));
+            leaves-set w h updated links first i end n start p at (at + slots c) p told value (omega arith) (omega arith)
+            (leaves-set w h updated links first i end n start p at (at + slots c) comes.node comes.states (told_as comes.says_now (state_at comes.states (first + comes.node))) (omega arith) comes.high
+            (wider w h updated links first i end n start p at (at + slots c) (p + 1) (inside at c) (inside at c + slots_of (children c)) (now comes.states) (omega arith) from (omega arith) leaves));
         enough = omega arith;
       }
 
@@ -194,15 +200,15 @@ module _ (w : World) (h : ℕ) (updated : ℕ → Bool) (steps : List Step) (fir
       let left_over : ℕ = comes.fuel - 1 in
       let enough = done.enough in
       let fuel : comes.fuel ≡ suc left_over = omega arith in
-      let told : gate_says (node_at at c) (said w h (also i updated) (children c) (p + 1)) ≡ Ok (says w h (also i updated) c p)
-      = gate w h (also i updated p) at (said w h (also i updated) (children c) (p + 1)) ∙ ap Ok (sym (says-is w h (also i updated) c p)) in
+      let told : link_says at c (said w h (also i updated) (children c) (p + 1)) ≡ Ok (says w h (also i updated) c p)
+      = gate w h (also i updated p) at (said w h (also i updated) (children c) (p + 1)) (said-many w h (also i updated) (children c) (p + 1)) ∙ ap Ok (sym (says-is w h (also i updated) c p)) in
       inr (record {
         states = states;
         fuel = left_over;
         is = done.is
-            ∙ ap (λ g. go_on g (λ says. climb comes.fuel steps first p says states n.wakes)
+            ∙ ap (λ g. go_on g (λ says. climb comes.fuel links first p says states n.wakes)
             (λ slot. record { states = states; wakes = slice_set n.wakes slot 0; stirs = true })) told
-            ∙ ap (λ k. climb k steps first p (says w h (also i updated) c p) states n.wakes) fuel;
+            ∙ ap (λ k. climb k links first p (says w h (also i updated) c p) states n.wakes) fuel;
         enough = omega arith;
         told = done.told;
         count = done.count;
@@ -225,7 +231,7 @@ module _ (w : World) (h : ℕ) (updated : ℕ → Bool) (steps : List Step) (fir
         memory = record { states = states; wakes = wakes };
         stirs = true;
         is = done.is
-            ∙ ap (λ g. go_on g (λ says. climb comes.fuel steps first p says states n.wakes)
+            ∙ ap (λ g. go_on g (λ says. climb comes.fuel links first p says states n.wakes)
             (λ slot. record { states = states; wakes = slice_set n.wakes slot 0; stirs = true })) (stops at (said w h (also i updated) (children c) (p + 1)));
         kept = each-whole (Kept (record { states = states; wakes = wakes })) p at up c
             (record {
@@ -280,7 +286,7 @@ module _ (w : World) (h : ℕ) (updated : ℕ → Bool) (steps : List Step) (fir
       elim (split i (p + 1)) [
         | inl near ↦
             (let is : i ≡ p = omega arith in
-            inr (subst (λ q. Each Given q (parts at up c) → Comes c at up q) is (here w h updated steps first i end n start few c at up) given))
+            inr (subst (λ q. Each Given q (parts at up c) → Comes c at up q) is (here w h updated links first i end n start c at up) given))
         | inr far ↦
             (let above : p < i = omega (arith, far.1) in
             elim (inner (inside at c) 1 (p + 1) (omega arith) (omega arith) (each-inner Given p at up c given)) [
@@ -301,14 +307,14 @@ module _ (w : World) (h : ℕ) (updated : ℕ → Bool) (steps : List Step) (fir
       elim (split i (q + nodes c)) [
         | inl near ↦
             elim (one at up q low near (each-left Given q xs ys given)) [
-              | inl stops ↦ inl (first-stops w h updated steps first i end n start few c cs at up q near given stops)
-              | inr comes ↦ inr (first-comes w h updated steps first i end n start few c cs at up q low near given comes)
+              | inl stops ↦ inl (first-stops w h updated links first i end n start c cs at up q near given stops)
+              | inr comes ↦ inr (first-comes w h updated links first i end n start c cs at up q low near given comes)
             ]
         | inr far ↦
             (let behind_it : q + nodes c ≤ i = omega (arith, far.1) in
             elim (rest (at + slots c) (up + nodes c) (q + nodes c) behind_it (omega arith) (each-right Given q (nodes c) xs ys (parts-count at up c) given)) [
-              | inl stops ↦ inl (rest-stops w h updated steps first i end n start few c cs at up q behind_it given stops)
-              | inr comes ↦ inr (rest-comes w h updated steps first i end n start few c cs at up q behind_it given comes)
+              | inl stops ↦ inl (rest-stops w h updated links first i end n start c cs at up q behind_it given stops)
+              | inr comes ↦ inr (rest-comes w h updated links first i end n start c cs at up q behind_it given comes)
             ])
       ]
 
@@ -320,9 +326,9 @@ module _ (w : World) (h : ℕ) (updated : ℕ → Bool) (steps : List Step) (fir
       differ (says w h updated c 0) (says w h (also i updated) c 0) ≡ turns → Each (Kept (record { states = start.states; wakes = start.wakes })) 0 (parts at 0 c)
   ends c at given comes false is =
       subst (λ (done : Climbed). Each (Kept (record { states = done.states; wakes = done.wakes })) 0 (parts at 0 c))
-      (sym (comes.is ∙ climb-same comes.fuel steps first 0 (says w h (also i updated) c 0) comes.states n.wakes
+      (sym (comes.is ∙ climb-same comes.fuel links first 0 (says w h (also i updated) c 0) comes.states n.wakes
       (ap (λ b. differ b (says w h (also i updated) c 0)) comes.told ∙ is)))
-      (settled w h updated steps first i end n start few c at 0 0 comes comes.states (comes.told ∙ same-truth (says w h updated c 0) (says w h (also i updated) c 0) is) refl (λ s apart. refl))
+      (settled w h updated links first i end n start c at 0 0 comes comes.states (comes.told ∙ same-truth (says w h updated c 0) (says w h (also i updated) c 0) is) refl (λ s apart. refl))
   ends c at given comes true is =
       let own = each-own Given 0 at 0 c given in
       let size = nodes-is c in
@@ -332,9 +338,9 @@ module _ (w : World) (h : ℕ) (updated : ℕ → Bool) (steps : List Step) (fir
       let set : state_at (told_in first 0 (says w h (also i updated) c 0) comes.states) (first + 0) ≡ value
       = get_or-set_same comes.states (first + 0) value unasked room in
       subst (λ (done : Climbed). Each (Kept (record { states = done.states; wakes = done.wakes })) 0 (parts at 0 c))
-      (sym (comes.is ∙ climb-first comes.fuel steps first 0 (says w h (also i updated) c 0) comes.states n.wakes
-      (ap (λ b. differ b (says w h (also i updated) c 0)) comes.told ∙ is) (ap (λ s. s.up) own.step)))
-      (settled w h updated steps first i end n start few c at 0 0 comes (told_in first 0 (says w h (also i updated) c 0) comes.states) (ap (λ s. s.told) set) (ap (λ s. s.count) set)
+      (sym (comes.is ∙ climb-first comes.fuel links first 0 (says w h (also i updated) c 0) comes.states n.wakes
+      (ap (λ b. differ b (says w h (also i updated) c 0)) comes.told ∙ is) (ap (λ s. s.up) own.link)))
+      (settled w h updated links first i end n start c at 0 0 comes (told_in first 0 (says w h (also i updated) c 0) comes.states) (ap (λ s. s.told) set) (ap (λ s. s.count) set)
       (λ s apart. get_or-set_other comes.states (first + 0) s value unasked apart))
 
   pub told : (c : Tree) (at : ℕ) → i < nodes c → Each Given 0 (parts at 0 c) → Each (Kept (record { states = start.states; wakes = start.wakes })) 0 (parts at 0 c)

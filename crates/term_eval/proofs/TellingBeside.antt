@@ -1,11 +1,11 @@
 -- A climb that stops in one of some conditions, or comes to its node, does so in all of them.
-use Rattle.std.proofs.Common.{◌≡◌, ◌≢◌, ℕ, ◌+◌, ◌<◌, ◌≤◌, ◌^◌, Bool, List, length, refl, sym, ◌∙◌, ap, arith}
+use Rattle.std.proofs.Common.{◌≡◌, ◌≢◌, ℕ, ◌+◌, ◌<◌, ◌≤◌, Bool, List, length, refl, sym, ◌∙◌, ap, arith}
 use Rattle.std.proofs.lemmas.List.{get_or-set_same, get_or-set_other}
 use Rattle.ecam_spec.specs.Book.{Tree, Trees, more}
 use Rattle.ecam_spec.specs.Term.{World}
 use Rattle.ecam_spec.specs.TermSize.{nodes, slots, slots_of}
 use Rattle.term_eval.specs.declared.nodes.NodeState.{NodeState}
-use Rattle.term_eval.specs.declared.code.Step.{Step}
+use Rattle.term_eval.specs.declared.link.Link.{Link}
 use Rattle.term_eval.specs.Memory.{NodeMemory}
 use Rattle.term_eval.specs.Climb.{Climbed, told_as}
 use Rattle.term_eval.specs.Parts.{Part, parts, parts_of}
@@ -17,30 +17,30 @@ use Rattle.term_eval.proofs.ClimbSteps.{told_in}
 use Rattle.term_eval.proofs.TellingParts.{behind, ahead, wider, leaves-set, settled}
 use Rattle.term_eval.proofs.TellingParts as tell
 
-module _ (w : World) (h : ℕ) (updated : ℕ → Bool) (steps : List Step) (first i end : ℕ) (n : NodeMemory) (start : Climbed) (few : length n.states < 2 ^ 64) where
+module _ (w : World) (h : ℕ) (updated : ℕ → Bool) (links : List Link) (first i end : ℕ) (n : NodeMemory) (start : Climbed) where
   abbrev Given : ℕ → Part → Type 0
-  Given = tell.Given w h updated steps first i end n start few
+  Given = tell.Given w h updated links first i end n start
 
   abbrev Kept : NodeMemory → ℕ → Part → Type 0
-  Kept = tell.Kept w h updated steps first i end n start few
+  Kept = tell.Kept w h updated links first i end n start
 
   abbrev now : List NodeState → NodeMemory
-  now = tell.now w h updated steps first i end n start few
+  now = tell.now w h updated links first i end n start
 
   abbrev Leaves : ℕ → ℕ → ℕ → NodeMemory → Type 0
-  Leaves = tell.Leaves w h updated steps first i end n start few
+  Leaves = tell.Leaves w h updated links first i end n start
 
   abbrev Stops : Tree → ℕ → ℕ → ℕ → Type 0
-  Stops = tell.Stops w h updated steps first i end n start few
+  Stops = tell.Stops w h updated links first i end n start
 
   abbrev Comes : Tree → ℕ → ℕ → ℕ → Type 0
-  Comes = tell.Comes w h updated steps first i end n start few
+  Comes = tell.Comes w h updated links first i end n start
 
   abbrev StopsIn : Trees → ℕ → ℕ → ℕ → Type 0
-  StopsIn = tell.StopsIn w h updated steps first i end n start few
+  StopsIn = tell.StopsIn w h updated links first i end n start
 
   abbrev ComesIn : Trees → ℕ → ℕ → ℕ → Type 0
-  ComesIn = tell.ComesIn w h updated steps first i end n start few
+  ComesIn = tell.ComesIn w h updated links first i end n start
 
   pub first-stops : (c : Tree) (cs : Trees) (at up q : ℕ) → i < q + nodes c → Each Given q (parts_of at up (more c cs)) → Stops c at up q → StopsIn (more c cs) at up q
   unfolding parts said nodes slots SayTheSame
@@ -55,10 +55,10 @@ module _ (w : World) (h : ℕ) (updated : ℕ → Bool) (steps : List Step) (fir
         stirs = stops.stirs;
         is = stops.is;
         kept = each-both (Kept stops.memory) q (nodes c) (parts at up c) (parts_of (at + slots c) (up + nodes c) cs) (parts-count at up c) stops.kept
-            (behind w h updated steps first i end n start few cs (at + slots c) (up + nodes c) (q + nodes c) q at (at + slots c) stops.memory before rest leaves (omega arith));
+            (behind w h updated links first i end n start cs (at + slots c) (up + nodes c) (q + nodes c) q at (at + slots c) stops.memory before rest leaves (omega arith));
         same = ap (λ b. one_if b + said w h (also i updated) cs (q + nodes c)) stops.same ∙ ap (λ m. one_if (says w h updated c q) + m) other;
         all_same = λ all. (stops.same ∙ all.0, same-by w h updated (also i updated) cs (q + nodes c) (λ k low high. also-other i updated k (apart k low)) all.1);
-        leaves = wider w h updated steps first i end n start few q at (at + (slots c + slots_of cs)) q at (at + slots c) stops.memory (omega arith) (omega arith) (omega arith) leaves;
+        leaves = wider w h updated links first i end n start q at (at + (slots c + slots_of cs)) q at (at + slots c) stops.memory (omega arith) (omega arith) (omega arith) leaves;
       }
 
   pub rest-stops : (c : Tree) (cs : Trees) (at up q : ℕ) → q + nodes c ≤ i → Each Given q (parts_of at up (more c cs)) →
@@ -74,10 +74,10 @@ module _ (w : World) (h : ℕ) (updated : ℕ → Bool) (steps : List Step) (fir
         stirs = stops.stirs;
         is = stops.is;
         kept = each-both (Kept stops.memory) q (nodes c) (parts at up c) (parts_of (at + slots c) (up + nodes c) cs) (parts-count at up c)
-            (ahead w h updated steps first i end n start few c at up q (at + slots c + slots_of cs) stops.memory before one leaves) stops.kept;
+            (ahead w h updated links first i end n start c at up q (at + slots c + slots_of cs) stops.memory before one leaves) stops.kept;
         same = ap (λ b. one_if b + said w h (also i updated) cs (q + nodes c)) other ∙ ap (λ m. one_if (says w h updated c q) + m) stops.same;
         all_same = λ all. (other ∙ all.0, stops.all_same all.1);
-        leaves = wider w h updated steps first i end n start few q at (at + (slots c + slots_of cs)) (q + nodes c) (at + slots c) (at + slots c + slots_of cs) stops.memory (omega arith) (omega arith)
+        leaves = wider w h updated links first i end n start q at (at + (slots c + slots_of cs)) (q + nodes c) (at + slots c) (at + slots c + slots_of cs) stops.memory (omega arith) (omega arith)
             (omega arith) leaves;
       }
 
@@ -99,7 +99,7 @@ module _ (w : World) (h : ℕ) (updated : ℕ → Bool) (steps : List Step) (fir
       = get_or-set_same comes.states (first + q) (told_as now_says (state_at comes.states (first + q))) unasked room in
       let both = λ (states : List NodeState) (first_kept : Each (Kept (now states)) q (parts at up c)) (l : Leaves q at (at + slots c) (now states)).
       each-both (Kept (now states)) q (nodes c) (parts at up c) (parts_of (at + slots c) (up + nodes c) cs) (parts-count at up c) first_kept
-      (behind w h updated steps first i end n start few cs (at + slots c) (up + nodes c) (q + nodes c) q at (at + slots c) (now states) before rest l (omega arith)) in
+      (behind w h updated links first i end n start cs (at + slots c) (up + nodes c) (q + nodes c) q at (at + slots c) (now states) before rest l (omega arith)) in
       record {
         node = q;
         far = up;
@@ -112,17 +112,17 @@ module _ (w : World) (h : ℕ) (updated : ℕ → Bool) (steps : List Step) (fir
         low = omega arith;
         high = low;
         far_is = omega arith;
-        step = ap (λ s. s.up) own.step;
+        link = ap (λ s. s.up) own.link;
         told = comes.told;
         counts = (let e : one_if now_says + said w h (also i updated) cs (q + nodes c) + one_if (says w h updated c q)
             ≡ one_if (says w h updated c q) + said w h updated cs (q + nodes c) + one_if now_says = omega (arith, other) in e);
         all_same = λ same all. (sym same ∙ all.0, same-by w h updated (also i updated) cs (q + nodes c) (λ k low high. also-other i updated k (apart k low)) all.1);
-        kept = λ same. both comes.states (settled w h updated steps first i end n start few c at up q comes comes.states (comes.told ∙ same) refl (λ s apart. refl)) leaves;
+        kept = λ same. both comes.states (settled w h updated links first i end n start c at up q comes comes.states (comes.told ∙ same) refl (λ s apart. refl)) leaves;
         turned = both (told_in first q now_says comes.states)
-            (settled w h updated steps first i end n start few c at up q comes (told_in first q now_says comes.states) (ap (λ s. s.told) told) (ap (λ s. s.count) told)
+            (settled w h updated links first i end n start c at up q comes (told_in first q now_says comes.states) (ap (λ s. s.told) told) (ap (λ s. s.count) told)
             (λ s apart. get_or-set_other comes.states (first + q) s (told_as now_says (state_at comes.states (first + q))) unasked apart))
-            (leaves-set w h updated steps first i end n start few q at (at + slots c) q comes.states (told_as now_says (state_at comes.states (first + q))) (omega arith) low leaves);
-        leaves = wider w h updated steps first i end n start few q at (at + (slots c + slots_of cs)) q at (at + slots c) (now comes.states) (omega arith) (omega arith) (omega arith) leaves;
+            (leaves-set w h updated links first i end n start q at (at + slots c) q comes.states (told_as now_says (state_at comes.states (first + q))) (omega arith) low leaves);
+        leaves = wider w h updated links first i end n start q at (at + (slots c + slots_of cs)) q at (at + slots c) (now comes.states) (omega arith) (omega arith) (omega arith) leaves;
       }
 
   pub rest-comes : (c : Tree) (cs : Trees) (at up q : ℕ) → q + nodes c ≤ i → Each Given q (parts_of at up (more c cs)) →
@@ -146,17 +146,17 @@ module _ (w : World) (h : ℕ) (updated : ℕ → Bool) (steps : List Step) (fir
         low = omega (arith, comes.low);
         high = comes.high;
         far_is = (let e = comes.far_is in omega arith);
-        step = comes.step;
+        link = comes.link;
         told = comes.told;
         counts = (let e : one_if (says w h (also i updated) c q) ≡ one_if (says w h updated c q) = ap one_if other in
             let counts = comes.counts in omega arith);
         all_same = λ same all. (other ∙ all.0, comes.all_same same all.1);
         kept = λ same. each-both (Kept (now comes.states)) q (nodes c) (parts at up c) (parts_of (at + slots c) (up + nodes c) cs) (parts-count at up c)
-            (ahead w h updated steps first i end n start few c at up q (at + slots c + slots_of cs) (now comes.states) before one leaves) (comes.kept same);
+            (ahead w h updated links first i end n start c at up q (at + slots c + slots_of cs) (now comes.states) before one leaves) (comes.kept same);
         turned = each-both (Kept (now turned)) q (nodes c) (parts at up c) (parts_of (at + slots c) (up + nodes c) cs) (parts-count at up c)
-            (ahead w h updated steps first i end n start few c at up q (at + slots c + slots_of cs) (now turned) before one
-            (leaves-set w h updated steps first i end n start few (q + nodes c) (at + slots c) (at + slots c + slots_of cs) comes.node comes.states
+            (ahead w h updated links first i end n start c at up q (at + slots c + slots_of cs) (now turned) before one
+            (leaves-set w h updated links first i end n start (q + nodes c) (at + slots c) (at + slots c + slots_of cs) comes.node comes.states
             (told_as comes.says_now (state_at comes.states (first + comes.node))) comes.low comes.high leaves)) comes.turned;
-        leaves = wider w h updated steps first i end n start few q at (at + (slots c + slots_of cs)) (q + nodes c) (at + slots c) (at + slots c + slots_of cs) (now comes.states) (omega arith) (omega arith)
+        leaves = wider w h updated links first i end n start q at (at + (slots c + slots_of cs)) (q + nodes c) (at + slots c) (at + slots c + slots_of cs) (now comes.states) (omega arith) (omega arith)
             (omega arith) leaves;
       }

@@ -1,15 +1,17 @@
 -- What is given of each part of a condition, and how far a climb has come that goes through it: it stopped in the part, or it
 -- comes to the part's own node with what that says now.
-use Rattle.std.proofs.Common.{◌≡◌, ◌≢◌, ℕ, suc, ◌+◌, ◌<◌, ◌≤◌, ◌^◌, ◌⊎◌, Bool, true, false, List, length, inl, inr, refl, sym, ◌∙◌, ap, subst, arith}
+use Rattle.std.proofs.Common.{◌≡◌, ◌≢◌, ℕ, suc, ◌+◌, ◌<◌, ◌≤◌, ◌⊎◌, Bool, true, false, List, length, inl, inr, refl, sym, ◌∙◌, ap, subst, arith}
 use Rattle.std.specs.Prelude.{slice_index, slice_set}
 use Rattle.std.proofs.lemmas.List.{length-set, get_or-set_other}
-use Rattle.ecam_spec.specs.Book.{Tree, Trees, none, more}
+use Rattle.ecam_spec.specs.Book.{Tree, Trees, none}
 use Rattle.ecam_spec.specs.Term.{World, holds}
 use Rattle.ecam_spec.specs.TermSize.{nodes, nodes_of, slots, slots_of, children}
+use Rattle.ecam_spec.specs.declared.limits.TheConstants.{TERM_NODES}
 use Rattle.term_eval.specs.declared.nodes.NodeState.{NodeState}
-use Rattle.term_eval.specs.declared.code.Step.{Step}
+use Rattle.term_eval.specs.declared.link.Link.{Link}
+use Rattle.term_eval.specs.Links.{link_of}
 use Rattle.term_eval.specs.Memory.{NodeMemory}
-use Rattle.term_eval.specs.Climb.{Climbed, climb, step_at}
+use Rattle.term_eval.specs.Climb.{Climbed, climb, link_at}
 use Rattle.term_eval.specs.OwnDue.{own_due}
 use Rattle.term_eval.specs.Parts.{Part, parts, parts_of, is_temporal}
 use Rattle.term_eval.specs.NodeState.{state_at, unasked, one_if, says, said, IsKept, Wakes, SayTheSame, also}
@@ -19,24 +21,11 @@ use Rattle.term_eval.proofs.NodeKinds.{is_gate, spoken-own, own-slot}
 use Rattle.term_eval.proofs.KeptSame.{also-own, also-other, kept-same, kept-by, Each, each-own, each-inner, each-whole}
 use Rattle.term_eval.proofs.ClimbSteps.{told_in}
 
--- not more of some conditions say that they hold than they have nodes
-pub said-few : (w : World) (h : ℕ) (updated : ℕ → Bool) (cs : Trees) (p : ℕ) → said w h updated cs p ≤ nodes_of cs
-unfolding said nodes
-said-few w h updated none p = omega arith
-said-few w h updated (more c cs) p =
-    let rest = said-few w h updated cs (p + nodes c) in
-    let size = nodes-is c in
-    one-more (says w h updated c p) (said w h updated cs (p + nodes c)) (nodes c) (nodes_of cs) (omega arith) rest
-  where
-    one-more : (b : Bool) (m k l : ℕ) → 1 ≤ k → m ≤ l → one_if b + m ≤ k + l
-    one-more true m k l some fits = omega arith
-    one-more false m k l some fits = omega arith
-
 pub none-inside : (c : Tree) → children c ≡ none → nodes c ≡ 1
 unfolding nodes
 none-inside c is = nodes-is c ∙ ap (λ cs. nodes_of cs + 1) is
 
-module _ (w : World) (h : ℕ) (updated : ℕ → Bool) (steps : List Step) (first i end : ℕ) (n : NodeMemory) (start : Climbed) (few : length n.states < 2 ^ 64) where
+module _ (w : World) (h : ℕ) (updated : ℕ → Bool) (links : List Link) (first i end : ℕ) (n : NodeMemory) (start : Climbed) where
   -- ---- what is given of each node
 
   -- of the one that is told
@@ -46,10 +35,11 @@ module _ (w : World) (h : ℕ) (updated : ℕ → Bool) (steps : List Step) (fir
     pub wake : is_temporal y.tree ≡ true → slice_index n.wakes y.at ≡ own_due w y.tree (suc h)
     pub own : is_gate y.tree ≡ false
     pub ends : end ≡ y.at
-    pub starts : start ≡ climb (suc i) steps first i (holds w y.tree (suc h)) n.states n.wakes
+    pub starts : start ≡ climb (suc i) links first i (holds w y.tree (suc h)) n.states n.wakes
 
   pub record Given (j : ℕ) (y : Part) : Type 0 where
-    pub step : step_at steps j ≡ step_of y
+    pub link : link_at links j ≡ link_of (step_of y)
+    pub few : nodes y.tree ≤ TERM_NODES
     pub room : first + (j + nodes y.tree) ≤ length n.states
     pub slot : is_temporal y.tree ≡ true → y.at < length n.wakes
     pub free : j < i → is_temporal y.tree ≡ true → updated j ≡ false
@@ -84,7 +74,7 @@ module _ (w : World) (h : ℕ) (updated : ℕ → Bool) (steps : List Step) (fir
   pub record Comes (c : Tree) (at up p : ℕ) : Type 0 where
     pub states : List NodeState
     pub fuel : ℕ
-    pub is : start ≡ climb (suc fuel) steps first p (says w h (also i updated) c p) states n.wakes
+    pub is : start ≡ climb (suc fuel) links first p (says w h (also i updated) c p) states n.wakes
     pub enough : p ≤ fuel
     pub told : (state_at states (first + p)).told ≡ says w h updated c p
     pub count : (state_at states (first + p)).count ≡ said w h (also i updated) (children c) (p + 1)
@@ -109,12 +99,12 @@ module _ (w : World) (h : ℕ) (updated : ℕ → Bool) (steps : List Step) (fir
     pub says_now : Bool
     pub states : List NodeState
     pub fuel : ℕ
-    pub is : start ≡ climb (suc fuel) steps first node says_now states n.wakes
+    pub is : start ≡ climb (suc fuel) links first node says_now states n.wakes
     pub enough : node ≤ fuel
     pub low : q ≤ node
     pub high : node ≤ i
     pub far_is : node + up ≡ far + q
-    pub step : (step_at steps node).up ≡ far
+    pub link : (link_at links node).up ≡ far
     pub told : (state_at states (first + node)).told ≡ before
     pub counts : said w h (also i updated) cs q + one_if before ≡ said w h updated cs q + one_if says_now
     pub all_same : before ≡ says_now → SayTheSame w h updated cs q → SayTheSame w h (also i updated) cs q
@@ -163,7 +153,7 @@ module _ (w : World) (h : ℕ) (updated : ℕ → Bool) (steps : List Step) (fir
       record {
         states = n.states;
         fuel = i;
-        is = own.starts ∙ ap (λ b. climb (suc i) steps first i b n.states n.wakes) (sym holds_now);
+        is = own.starts ∙ ap (λ b. climb (suc i) links first i b n.states n.wakes) (sym holds_now);
         enough = omega arith;
         told = own.told;
         count = own.count ∙ sym (said-by w h updated (also i updated) (children c) (i + 1) (λ k low high. also-other i updated k (apart k low)));

@@ -2,6 +2,7 @@
 use Rattle.std.specs.Prelude.{◌≡◌, ℕ, suc, ◌+◌, ◌<◌, ◌≤◌, ◌^◌, Bool, true, false, if◌then◌else◌, List, [], ◌∷◌, ◌++◌, length}
 use Rattle.ecam_spec.specs.Book.{Tree, Trees, constant, discrete, valid, compared, in_phase, alert, press, computer, negation, all, any, at_least, confirmed, held, risen, latched, none, more}
 use Rattle.ecam_spec.specs.TermSize.{slots, nodes}
+use Rattle.ecam_spec.specs.declared.limits.TheConstants.{TERM_NODES}
 use Rattle.term_eval.specs.declared.code.Step.{Step}
 use Rattle.term_eval.specs.declared.code.Node.{Node}
 use Rattle.term_eval.specs.declared.code.Node.TheVariants.{Const, Disc, Valid, Cmp, InPhase, Alert, Press, Fwc, Not, All, Any, AtLeast, Conf, Hold, Rise, Latch}
@@ -71,10 +72,11 @@ unfoldable pub owners : ℕ → List Step → List ℕ
 owners p [] = []
 owners p (s ∷ steps) = if has_slot s.node then p ∷ owners (p + 1) steps else owners (p + 1) steps
 
--- the steps are the code of the condition
+-- the steps are the code of the condition, which keeps its limits
 pub record IsCode (c : Tree) (at : ℕ) (steps : List Step) : Type 0 where
   pub is : steps ≡ code at 0 c
   pub short : IsShort c
+  pub small : nodes c ≤ TERM_NODES
 
 -- the steps are the code of the condition, and what is kept has room for its nodes and slots
 pub record IsHeld (steps : List Step) (n : NodeMemory) (c : Tree) (at first : ℕ) : Type 0 where

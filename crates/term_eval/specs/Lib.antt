@@ -7,6 +7,7 @@ pub mod Due
 pub mod Settles
 pub mod Steps
 pub mod Code
+pub mod Links
 pub mod Climb
 pub mod Run
 pub mod Asked
@@ -15,3 +16,4 @@ pub mod NodeState
 pub mod Parts
 pub mod Reading
 pub mod Begin
+pub mod Linked

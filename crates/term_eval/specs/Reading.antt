@@ -6,6 +6,8 @@ use Rattle.term_eval.specs.Woken.{Operand}
 use Rattle.term_eval.specs.Woken.Operand.{value, phase, activity, key, health}
 use Rattle.term_eval.specs.declared.reading.Reading.{Reading}
 use Rattle.term_eval.specs.declared.reading.Reading.TheVariants.{Value, InPhase, Flag}
+use Rattle.term_eval.specs.declared.reading.Test.{Test}
+use Rattle.term_eval.specs.declared.reading.Test.TheVariants.{IsOne, HasValue, IsSet, OfNode}
 use Rattle.term_eval.specs.declared.code.Node.{Node}
 use Rattle.term_eval.specs.declared.code.Node.TheVariants as node
 
@@ -45,6 +47,15 @@ atom_says (node.Alert a) r = flag_read r
 atom_says (node.Press k) r = flag_read r
 atom_says (node.Fwc n) r = flag_read r
 atom_says _ r = false
+
+-- the test that an atom makes
+abbrev pub test_of : Node → Test
+test_of (node.Disc p) = IsOne
+test_of (node.Valid p) = HasValue
+test_of (node.Alert a) = IsSet
+test_of (node.Press k) = IsSet
+test_of (node.Fwc n) = IsSet
+test_of _ = OfNode
 
 -- a phase that is read is one of the ten
 abbrev pub IsReading : Reading → Type 0

@@ -4,6 +4,7 @@ use Rattle.term_eval.specs.declared.memory.Cell.{Cell}
 use Rattle.term_eval.specs.declared.memory.Cell.TheVariants.{Off, On, At}
 use Rattle.term_eval.specs.declared.nodes.NodeState.{NodeState}
 use Rattle.term_eval.specs.declared.code.Step.{Step}
+use Rattle.term_eval.specs.declared.link.Link.{Link}
 use Rattle.term_eval.specs.declared.code.Node.{Node}
 use Rattle.term_eval.specs.declared.code.Node.TheVariants.{Conf, Hold, Rise, Latch}
 use Rattle.term_eval.specs.CellWords.{never, cell_at, on_if, is_on, at_last, start_by, last_by, end_of}
@@ -54,34 +55,35 @@ SlotWithin slots (Latch i) = i < slots
 SlotWithin slots _ = Unit {0}
 
 -- a look at node i of those from a place on, which has this slot
-unfoldable pub look : ℕ → List Step → ℕ → ℕ → ℕ → Run → Run
-look k steps first i slot s =
+unfoldable pub look : ℕ → List Step → List Link → ℕ → ℕ → ℕ → Run → Run
+look k steps links first i slot s =
     let own = state_at s.states (first + i) in
     let first_child = (state_at s.states (first + i + 1)).told in
     let node = (step_at steps i).node in
     let due = due_after k s.cells own.count node in
-    let done = climb (suc i) steps first i (temporal_says k s.cells own.count first_child node) s.states (slice_set s.wakes slot due) in
+    let done = climb (suc i) links first i (temporal_says k s.cells own.count first_child node) s.states (slice_set s.wakes slot due) in
     record { states = done.states; wakes = done.wakes; cells = cells_after k s.cells own.count first_child node; due = min s.due due }
 
 -- one that isn't to be looked at yet is left as it is
-unfoldable pub look_or_leave : ℕ → List Step → ℕ → ℕ → ℕ → Run → Run
-look_or_leave k steps first i slot s =
+unfoldable pub look_or_leave : ℕ → List Step → List Link → ℕ → ℕ → ℕ → Run → Run
+look_or_leave k steps links first i slot s =
     if nat_lt k (slice_index s.wakes slot)
     then (record { states = s.states; wakes = s.wakes; cells = s.cells; due = min s.due (slice_index s.wakes slot) })
-    else look k steps first i slot s
+    else look k steps links first i slot s
 
 -- some nodes, whose slots follow one another from a place on, the last of them first
-unfoldable pub pass_over : ℕ → List Step → ℕ → List ℕ → ℕ → Run → Run
-pass_over k steps first [] slot s = s
-pass_over k steps first (i ∷ is) slot s = look_or_leave k steps first i slot (pass_over k steps first is (suc slot) s)
+unfoldable pub pass_over : ℕ → List Step → List Link → ℕ → List ℕ → ℕ → Run → Run
+pass_over k steps links first [] slot s = s
+pass_over k steps links first (i ∷ is) slot s = look_or_leave k steps links first i slot (pass_over k steps links first is (suc slot) s)
 
--- what the look at a node asks for is there, of so many nodes and slots
-pub record CanLook (steps : List Step) (first nodes slots cells i slot : ℕ) : Type 0 where
-  pub climb : CanClimb steps first nodes slots
+-- what the look at a node asks for is there, of so many nodes and slots, and a link for each step
+pub record CanLook (steps : List Step) (links : List Link) (first nodes slots cells i slot : ℕ) : Type 0 where
+  pub climb : CanClimb links first nodes slots
+  pub linked : length links ≡ length steps
   pub within : suc i < length steps
   pub room : slot < slots
   pub has : SlotWithin cells (step_at steps i).node
 
 -- the same of all
-abbrev pub CanPass : List Step → ℕ → ℕ → ℕ → ℕ → List ℕ → ℕ → Type 0
-CanPass steps first nodes slots cells owners at = (j i : ℕ) → slice_get owners j ≡ Some i → CanLook steps first nodes slots cells i (at + j)
+abbrev pub CanPass : List Step → List Link → ℕ → ℕ → ℕ → ℕ → List ℕ → ℕ → Type 0
+CanPass steps links first nodes slots cells owners at = (j i : ℕ) → slice_get owners j ≡ Some i → CanLook steps links first nodes slots cells i (at + j)

@@ -101,7 +101,8 @@ fn ask(
         }) }
 {
     let first = first_child(states, i);
-    let turn = answer(&step.node, states[i].count, first, cells, env);
+    let count = usize::from(states[i].count);
+    let turn = answer(&step.node, count, first, cells, env);
     earlier(due, turn.due);
     keep_wake(&step.node, wakes, turn.due);
     keep_told(states, i, turn.holds);

@@ -10,7 +10,7 @@ ghost use Rattle.term_eval.specs.CellState.{Stand, StandForNone};
 ghost use Rattle.term_eval.specs.Due.{staying, IsDue};
 ghost use Rattle.term_eval.specs.Shown.{Shows};
 ghost use Rattle.term_eval.specs.Code.{IsReady};
-ghost use Rattle.term_eval.specs.Code as coded;
+ghost use Rattle.term_eval.specs.Linked.{CanRun};
 ghost use Rattle.term_eval.specs.NodeState.{NodesWait, NodesStand, Within, first_wake};
 ghost use Rattle.term_eval.specs.Asked.{heard};
 ghost use Rattle.term_eval.specs.Woken.{moved};
@@ -18,6 +18,7 @@ ghost use Rattle.term_eval.specs.Woken.{moved};
 use crate::begin::ask_all;
 use crate::code::Step;
 use crate::env::Env;
+use crate::link::Link;
 use crate::memory::Cell;
 use crate::nodes::Nodes;
 use crate::run::pass;
@@ -158,60 +159,67 @@ impl Cells {
         }
     }
 
-    /// Steps a condition, whose slots start at `at`, and whose temporal nodes these are, by a moment after the first, once
-    /// each of its atoms has been turned whose operand moves in it. The cost is a look at each temporal node, and one at each
-    /// node that turns and at those right above.
+    /// Steps a condition, whose slots start at `at`, and which has these links and temporal nodes, by a moment after the
+    /// first, once each of its atoms has been turned whose operand moves in it. The cost is a look at each temporal node, and
+    /// one at each node that turns and at those right above.
     pub fn run(
         &mut self,
         states: &mut Nodes,
         steps: &[Step],
+        links: &[Link],
         first: usize,
         owners: &[usize],
         at: usize,
         now: u64,
     ) -> Turn
-        requires ready { (c : Tree) × IsReady steps.now self.old states.old c at first
-            × (owners.now ≡ coded.owners 0 steps.now) }
+        requires ready { (c : Tree)
+            × CanRun steps.now links.now owners.now self.old states.old c at first }
         requires now { now < 2 ^ 63 }
-        ensures truth { (c : Tree) → IsReady steps.now self.old states.old c at first
-            → owners.now ≡ coded.owners 0 steps.now → (w : World) (h : ℕ) → now ≡ suc h
+        ensures truth { (c : Tree)
+            → CanRun steps.now links.now owners.now self.old states.old c at first
+            → (w : World) (h : ℕ) → now ≡ suc h
             → Stand w now c at self.old.slots
             → NodesWait w h (heard (moved w now) c) c at first states.old
             → result.holds ≡ holds w c now }
-        ensures due { (c : Tree) → IsReady steps.now self.old states.old c at first
-            → owners.now ≡ coded.owners 0 steps.now → (w : World) (h : ℕ) → now ≡ suc h
+        ensures due { (c : Tree)
+            → CanRun steps.now links.now owners.now self.old states.old c at first
+            → (w : World) (h : ℕ) → now ≡ suc h
             → Stand w now c at self.old.slots
             → NodesWait w h (heard (moved w now) c) c at first states.old
             → IsDue (staying w now) c now result.due }
-        ensures wake { (c : Tree) → IsReady steps.now self.old states.old c at first
-            → owners.now ≡ coded.owners 0 steps.now → (w : World) (h : ℕ) → now ≡ suc h
+        ensures wake { (c : Tree)
+            → CanRun steps.now links.now owners.now self.old states.old c at first
+            → (w : World) (h : ℕ) → now ≡ suc h
             → Stand w now c at self.old.slots
             → NodesWait w h (heard (moved w now) c) c at first states.old
             → result.due ≡ first_wake states.new.wakes at (slots c) }
-        ensures stands { (c : Tree) → IsReady steps.now self.old states.old c at first
-            → owners.now ≡ coded.owners 0 steps.now → (w : World) (h : ℕ) → now ≡ suc h
+        ensures stands { (c : Tree)
+            → CanRun steps.now links.now owners.now self.old states.old c at first
+            → (w : World) (h : ℕ) → now ≡ suc h
             → Stand w now c at self.old.slots
             → NodesWait w h (heard (moved w now) c) c at first states.old
             → Stand w (suc now) c at self.new.slots }
-        ensures nodes { (c : Tree) → IsReady steps.now self.old states.old c at first
-            → owners.now ≡ coded.owners 0 steps.now → (w : World) (h : ℕ) → now ≡ suc h
+        ensures nodes { (c : Tree)
+            → CanRun steps.now links.now owners.now self.old states.old c at first
+            → (w : World) (h : ℕ) → now ≡ suc h
             → Stand w now c at self.old.slots
             → NodesWait w h (heard (moved w now) c) c at first states.old
             → NodesStand w now c at first states.new }
-        ensures within { (c : Tree) → IsReady steps.now self.old states.old c at first
-            → owners.now ≡ coded.owners 0 steps.now
+        ensures within { (c : Tree)
+            → CanRun steps.now links.now owners.now self.old states.old c at first
             → Within first (first + nodes c) at (at + slots c) states.old states.new }
-        ensures before { (c : Tree) → IsReady steps.now self.old states.old c at first
-            → owners.now ≡ coded.owners 0 steps.now
+        ensures before { (c : Tree)
+            → CanRun steps.now links.now owners.now self.old states.old c at first
             → (i : ℕ) → i < at → cell_at self.new.slots i ≡ cell_at self.old.slots i }
-        ensures behind { (c : Tree) → IsReady steps.now self.old states.old c at first
-            → owners.now ≡ coded.owners 0 steps.now
+        ensures behind { (c : Tree)
+            → CanRun steps.now links.now owners.now self.old states.old c at first
             → (i : ℕ) → at + slots c ≤ i → cell_at self.new.slots i ≡ cell_at self.old.slots i }
         ensures len { length self.new.slots ≡ length self.old.slots }
         ensures visits { self.new.visits ≡ self.old.visits }
     {
         let due = pass(
             steps,
+            links,
             first,
             owners,
             at,

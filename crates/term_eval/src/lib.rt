@@ -9,6 +9,7 @@ mod code;
 mod env;
 mod laws;
 mod leaf;
+mod link;
 mod memory;
 mod nodes;
 mod reading;
@@ -24,8 +25,9 @@ pub use laws::{
     code_asks_for_what_the_condition_asks_for, nodes_wait_by_their_own_states,
     nodes_wait_by_whom_was_asked, operands_and_the_due_moment_wake, what_is_named_decides,
 };
+pub use link::{Gate, Link, add_links};
 pub use nodes::{NodeState, Nodes};
-pub use reading::Reading;
+pub use reading::{Reading, Test, says, test_of};
 pub use turn::Turn;
 
 #[cfg(test)]

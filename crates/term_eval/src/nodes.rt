@@ -4,14 +4,16 @@ ghost use Rattle.ecam_spec.specs.Book.{Tree};
 ghost use Rattle.ecam_spec.specs.Term.{World};
 ghost use Rattle.ecam_spec.specs.TermSize.{slots, nodes};
 ghost use Rattle.term_eval.specs.Asked.{Asks, AreAtoms};
-ghost use Rattle.term_eval.specs.Code.{IsHeld};
+ghost use Rattle.term_eval.specs.Code.{code};
+ghost use Rattle.term_eval.specs.Climb.{step_at};
+ghost use Rattle.term_eval.specs.Linked.{AreLinked};
 ghost use Rattle.term_eval.specs.NodeState.{state_at, unasked, NodesWait, also, Within};
-ghost use Rattle.term_eval.specs.Reading.{IsReading, Reads};
+ghost use Rattle.term_eval.specs.Reading.{Reads, atom_says};
+ghost use Rattle.term_eval.specs.declared.reading.Reading.{Reading};
 ghost use Rattle.term_eval.specs.Woken.{Operand};
 
 use crate::climb::climb;
-use crate::code::Step;
-use crate::reading::{Reading, atom_says};
+use crate::link::Link;
 use std::alloc::{AllocError, Global};
 use std::boxed::BoxedSlice;
 use std::marker::Model;
@@ -20,7 +22,7 @@ use std::marker::Model;
 #[derive(Clone, Copy, Debug, PartialEq, Eq)]
 pub struct NodeState {
     /// How many of the nodes right below it hold.
-    pub count: usize,
+    pub count: u8,
     /// It holds.
     pub told: bool,
 }
@@ -77,27 +79,26 @@ impl Nodes {
         self.wakes.copy_from_slice(&other.wakes);
     }
 
-    /// The operand of node `node` of a condition, whose nodes start at `first`, reads so in a moment: the node is told, and
-    /// with it each node right above one that turned, up to a temporal one, which is then to be looked at. `false` says that
-    /// no temporal node is to be looked at that wasn't, and that the condition's first node tells what it told. Its cost is a
-    /// look at each of these nodes.
+    /// Node `node` of a condition, whose nodes start at `first` and have these links, is an atom, which says so in a moment:
+    /// it is told, and with it each node right above one that turned, up to a temporal one, which is then to be looked at.
+    /// `false` says that no temporal node is to be looked at that wasn't, and that the condition's first node tells what it
+    /// told. Its cost is a look at each of these nodes.
     #[inline(always)]
-    pub fn turn(&mut self, steps: &[Step], first: usize, node: usize, reading: Reading) -> bool
-        requires held { (c : Tree) × (at : ℕ) × IsHeld steps.now self.old c at first
+    pub fn turn(&mut self, links: &[Link], first: usize, node: usize, holds: bool) -> bool
+        requires { (c : Tree) × (at : ℕ) × AreLinked links.now self.old c at first
             × (node < nodes c) }
-        requires reading { IsReading reading }
-        ensures waits { (c : Tree) (at : ℕ) → IsHeld steps.now self.old c at first
-            → (w : World) (h : ℕ) (updated : ℕ → Bool) (x : Operand) → AreAtoms c updated
-            → Asks c node x → Reads w (suc h) x reading
+        ensures waits { (c : Tree) (at : ℕ) → AreLinked links.now self.old c at first
+            → (w : World) (h : ℕ) (updated : ℕ → Bool) (x : Operand) (reading : Reading)
+            → AreAtoms c updated → Asks c node x → Reads w (suc h) x reading
+            → holds ≡ atom_says (step_at (code at 0 c) node).node reading
             → NodesWait w h updated c at first self.old
             → NodesWait w h (also node updated) c at first self.new }
-        ensures within { (c : Tree) (at : ℕ) → IsHeld steps.now self.old c at first
+        ensures within { (c : Tree) (at : ℕ) → AreLinked links.now self.old c at first
             → Within first (first + nodes c) at (at + slots c) self.old self.new }
         ensures wakes { result ≡ false → self.new.wakes ≡ self.old.wakes }
         ensures told { result ≡ false
             → (state_at self.new.states first).told ≡ (state_at self.old.states first).told }
     {
-        let holds = atom_says(&steps[node].node, reading);
-        climb(&mut self.states, &mut self.wakes, steps, first, node, holds)
+        climb(&mut self.states, &mut self.wakes, links, first, node, holds)
     }
 }

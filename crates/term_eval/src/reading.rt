@@ -2,7 +2,7 @@
 ghost use Rattle.std.specs.Prelude.{◌≡◌, pos, is_some};
 ghost use Rattle.std.specs.Ordering.{int_eq};
 ghost use Rattle.ecam_spec.specs.Term.{in_set, is_so, stands};
-ghost use Rattle.term_eval.specs.Reading.{IsReading, atom_says, value_read, phase_read, flag_read};
+ghost use Rattle.term_eval.specs.Reading.{IsReading, atom_says, test_of, value_read, phase_read, flag_read};
 
 use crate::code::Node;
 use crate::env::stands;
@@ -20,9 +20,50 @@ pub enum Reading {
     Flag(bool),
 }
 
-/// What an atom says whose operand reads so.
+/// How an atom goes by what its operand reads, as far as a byte tells it.
+#[derive(Clone, Copy, Debug, PartialEq, Eq)]
+pub enum Test {
+    /// It asks whether a parameter's value is 1.
+    IsOne,
+    /// It asks whether a parameter has a value.
+    HasValue,
+    /// It asks whether an alert is active, a key is pressed, or a computer is up.
+    IsSet,
+    /// It goes by numbers that its node has.
+    OfNode,
+}
+
+/// The test that an atom makes.
+pub fn test_of(node: &Node) -> Test
+    ensures { result ≡ test_of node.now }
+{
+    match node {
+        Node::Disc(_) => Test::IsOne,
+        Node::Valid(_) => Test::HasValue,
+        Node::Alert(_) | Node::Press(_) | Node::Fwc(_) => Test::IsSet,
+        _ => Test::OfNode,
+    }
+}
+
+/// What an atom says whose operand reads so, and which makes this test. The node is looked at only where the test goes by its
+/// numbers.
 #[inline(always)]
-pub(crate) fn atom_says(node: &Node, reading: Reading) -> bool
+pub fn says(test: Test, node: &Node, reading: Reading) -> bool
+    requires test { test ≡ test_of node.now }
+    requires reading { IsReading reading }
+    ensures { result ≡ atom_says node.now reading }
+{
+    match test {
+        Test::IsOne => is_one(reading),
+        Test::HasValue => has_value(reading),
+        Test::IsSet => is_set(reading),
+        Test::OfNode => atom_says(node, reading),
+    }
+}
+
+// What an atom says whose operand reads so.
+#[inline(always)]
+fn atom_says(node: &Node, reading: Reading) -> bool
     requires { IsReading reading }
     ensures { result ≡ atom_says node.now reading }
 {

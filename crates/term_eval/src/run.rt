@@ -5,6 +5,7 @@ ghost use Rattle.term_eval.specs.Run.{look, look_or_leave, pass_over, temporal_s
 
 use crate::climb::climb;
 use crate::code::{Node, Step};
+use crate::link::Link;
 use crate::memory::{Cell, confirm, hold, latch, rise};
 use crate::nodes::NodeState;
 use crate::turn::{NEVER, Turn, lasting};
@@ -42,6 +43,7 @@ pub fn tell(node: &Node, count: usize, first: bool, cells: &mut [Cell], now: u64
 #[inline(always)]
 fn look(
     steps: &[Step],
+    links: &[Link],
     first: usize,
     node: usize,
     slot: usize,
@@ -51,10 +53,10 @@ fn look(
     due: &mut u64,
     now: u64,
 )
-    requires { CanLook steps.now first (length states.old) (length wakes.old) (length cells.old)
-        node slot }
+    requires { CanLook steps.now links.now first (length states.old) (length wakes.old)
+        (length cells.old) node slot }
     ensures { record { states = states.new; wakes = wakes.new; cells = cells.new; due = due.new }
-        ≡ look now steps.now first node slot (record {
+        ≡ look now steps.now links.now first node slot (record {
           states = states.old;
           wakes = wakes.old;
           cells = cells.old;
@@ -64,20 +66,21 @@ fn look(
     let at = first + node;
     let turn = tell(
         &steps[node].node,
-        states[at].count,
+        usize::from(states[at].count),
         states[at + 1].told,
         cells,
         now,
     );
     wakes[slot] = turn.due;
     earlier(due, turn.due);
-    climb(states, wakes, steps, first, node, turn.holds);
+    climb(states, wakes, links, first, node, turn.holds);
 }
 
 // Looks at it, or leaves it as it is where it isn't to be looked at yet.
 #[inline(always)]
 fn look_or_leave(
     steps: &[Step],
+    links: &[Link],
     first: usize,
     node: usize,
     slot: usize,
@@ -87,10 +90,10 @@ fn look_or_leave(
     due: &mut u64,
     now: u64,
 )
-    requires { CanLook steps.now first (length states.old) (length wakes.old) (length cells.old)
-        node slot }
+    requires { CanLook steps.now links.now first (length states.old) (length wakes.old)
+        (length cells.old) node slot }
     ensures { record { states = states.new; wakes = wakes.new; cells = cells.new; due = due.new }
-        ≡ look_or_leave now steps.now first node slot (record {
+        ≡ look_or_leave now steps.now links.now first node slot (record {
           states = states.old;
           wakes = wakes.old;
           cells = cells.old;
@@ -101,14 +104,17 @@ fn look_or_leave(
     if now < wake {
         earlier(due, wake);
     } else {
-        look(steps, first, node, slot, states, wakes, cells, due, now);
+        look(
+            steps, links, first, node, slot, states, wakes, cells, due, now,
+        );
     }
 }
 
-/// Steps a condition's code, whose states start at `first`, and whose temporal nodes these are, with slots from `at` on, and
-/// answers when the condition turns by itself. Children come before the node that they stand in.
+/// Steps a condition's code, whose links and temporal nodes these are, with states from `first` on and slots from `at` on,
+/// and answers when the condition turns by itself. Children come before the node that they stand in.
 pub fn pass(
     steps: &[Step],
+    links: &[Link],
     first: usize,
     owners: &[usize],
     at: usize,
@@ -117,10 +123,10 @@ pub fn pass(
     cells: &mut [Cell],
     now: u64,
 ) -> u64
-    requires { CanPass steps.now first (length states.old) (length wakes.old) (length cells.old)
-        owners.now at }
+    requires { CanPass steps.now links.now first (length states.old) (length wakes.old)
+        (length cells.old) owners.now at }
     ensures { record { states = states.new; wakes = wakes.new; cells = cells.new; due = result }
-        ≡ pass_over now steps.now first owners.now at (record {
+        ≡ pass_over now steps.now links.now first owners.now at (record {
           states = states.old;
           wakes = wakes.old;
           cells = cells.old;
@@ -134,6 +140,7 @@ pub fn pass(
         let node = owners[slot];
         look_or_leave(
             steps,
+            links,
             first,
             node,
             at + slot,

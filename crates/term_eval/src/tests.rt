@@ -1,14 +1,18 @@
 // Worked histories of five moments, over a that holds in one of them, b in another, and d in each.
-#![tactic(auto, unfolding(ecam_spec::specs::TermSize::slots, ecam_spec::specs::TermNames::IsWithin))]
+#![tactic(auto, unfolding(ecam_spec::specs::TermSize::slots, ecam_spec::specs::TermSize::nodes, ecam_spec::specs::TermNames::IsWithin))]
 
-ghost use Rattle.std.specs.Prelude.{◌≡◌, ◌≤◌, length, IfOk};
+ghost use Rattle.std.specs.Prelude.{◌≡◌, ◌≤◌, length, map, IfOk};
 ghost use Rattle.ecam_spec.specs.Book.{Tree};
-ghost use Rattle.ecam_spec.specs.TermSize.{slots};
+ghost use Rattle.ecam_spec.specs.TermSize.{slots, nodes};
 ghost use Rattle.ecam_spec.specs.TermNames.{IsWithin};
+ghost use Rattle.ecam_spec.specs.declared.limits.TheConstants.{TERM_NODES};
 ghost use Rattle.term_tree.specs.View.{tree_of};
 ghost use Rattle.term_eval.specs.Code.{IsCode, IsHeld};
+ghost use Rattle.term_eval.specs.Links.{link_of};
 
-use crate::{Cells, Env, Node, Nodes, Reading, Step, add_code, add_owners};
+use crate::{
+    Cells, Env, Link, Node, Nodes, Reading, Step, add_code, add_links, add_owners, says, test_of,
+};
 use ecam_kinds::{Keys, Phase};
 use std::alloc::{AllocError, Global};
 use std::test::Fail;
@@ -50,7 +54,8 @@ fn answers(alloc: Global, cond: &Cond, a: usize, b: usize) -> Result<[bool; 5], 
 
 // The code of a condition, whose slots start at 0.
 fn code_of(alloc: Global, cond: &Cond) -> Result<Vec<Step>, AllocError>
-    requires { slots (tree_of cond.now) ≤ 2 }
+    requires few { slots (tree_of cond.now) ≤ 2 }
+    requires small { nodes (tree_of cond.now) ≤ TERM_NODES }
     ensures { IfOk result (λ steps. IsCode (tree_of cond.now) 0 steps.items) }
 {
     let mut steps = Vec::new(alloc);
@@ -73,8 +78,15 @@ fn value_at(values: &[Option<i64>], param: u32) -> Option<i64> {
 }
 
 // Tells each discrete that reads otherwise than it did.
-fn hear(nodes: &mut Nodes, steps: &[Step], was: &[Option<i64>], values: &[Option<i64>])
-    requires { (c : Tree) × IsHeld steps.now nodes.old c 0 0 }
+fn hear(
+    nodes: &mut Nodes,
+    steps: &[Step],
+    links: &[Link],
+    was: &[Option<i64>],
+    values: &[Option<i64>],
+)
+    requires held { (c : Tree) × IsHeld steps.now nodes.old c 0 0 }
+    requires links { links.now ≡ map link_of steps.now }
     ensures states { length nodes.new.states ≡ length nodes.old.states }
     ensures wakes { length nodes.new.wakes ≡ length nodes.old.wakes }
 {
@@ -82,7 +94,9 @@ fn hear(nodes: &mut Nodes, steps: &[Step], was: &[Option<i64>], values: &[Option
         if let Node::Disc(param) = step.node {
             let value = value_at(values, param);
             if value != value_at(was, param) {
-                nodes.turn(steps, 0, node, Reading::Value(value));
+                let test = test_of(&step.node);
+                let holds = says(test, &step.node, Reading::Value(value));
+                nodes.turn(links, 0, node, holds);
             }
         }
     }
@@ -97,9 +111,12 @@ fn answers_by_code(
     heard: [bool; 5],
 ) -> Result<([bool; 5], [u64; 5]), AllocError>
     requires few { slots (tree_of cond.now) ≤ 2 }
+    requires small { nodes (tree_of cond.now) ≤ TERM_NODES }
     requires names { IsWithin 3 0 (tree_of cond.now) }
 {
     let steps = code_of(alloc, cond)?;
+    let mut links = Vec::new(alloc);
+    add_links(&mut links, &steps)?;
     let mut owners = Vec::new(alloc);
     add_owners(&mut owners, &steps)?;
     let mut nodes = Nodes::new(alloc, steps.len(), 2)?;
@@ -123,9 +140,9 @@ fn answers_by_code(
         } else {
             values
         };
-        hear(&mut nodes, &steps, &values, &next);
+        hear(&mut nodes, &steps, &links, &values, &next);
         values = next;
-        let turn = cells.run(&mut nodes, &steps, 0, &owners, 0, moment as u64);
+        let turn = cells.run(&mut nodes, &steps, &links, 0, &owners, 0, moment as u64);
         found[moment] = turn.holds;
         dues[moment] = turn.due;
     }

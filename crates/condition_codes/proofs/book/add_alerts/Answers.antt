@@ -2,7 +2,8 @@ use Rattle.std.proofs.Common.{◌+◌}
 use Rattle.book_model.specs.Slots.{when_place}
 use Rattle.book_model.specs.Conditions.{alerts_from}
 use Rattle.book_model.proofs.ConditionPlaces.{own-place}
-use Rattle.condition_codes.proofs.Walking.{slots-within, adds-next}
+use Rattle.condition_codes.proofs.Limits.{fits}
+use Rattle.condition_codes.proofs.Walking.{adds-next}
 use Rattle.condition_codes.proofs.book.add_alerts.Goals as goal
 
 pub add-requires : goal.add-requires
@@ -10,7 +11,7 @@ add-requires c =
     let alerts = c.alerts-alerts in
     let i = c.loop-alert.alert-index in
     let x = c.alert-item.result in
-    slots-within c.args.book.now alerts.ensures.sealed (alerts_from + i) x.when
+    fits c.args.book.now alerts.ensures.sealed (alerts_from + i) x.when
     (own-place c.args.book.now alerts.ensures.sealed alerts.result.now i x alerts.ensures.value c.loop-alert-test.true c.alert-item.is)
 
 pub loop-alert-preserved : goal.loop-alert-preserved

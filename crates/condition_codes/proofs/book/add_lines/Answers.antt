@@ -1,4 +1,4 @@
-use Rattle.std.proofs.Common.{[], ◌∷◌, arith}
+use Rattle.std.proofs.Common.{[], ◌∷◌}
 use Rattle.book_model.specs.View.{placed_of}
 use Rattle.book_model.specs.Slots.{line_places}
 use Rattle.condition_codes.proofs.Walking.{line-fits, adds-both, adds-more}
@@ -6,15 +6,13 @@ use Rattle.condition_codes.proofs.book.add_lines.Goals as goal
 
 pub add-requires : goal.add-requires
 add-requires c =
-    let fit = line-fits c.args.book.now c.sealed.ensures c.requires.0 c.args.alert.now c.requires.1 c.requires.2 c.as_slice-lines.result.now c.loop-line.line-index c.line-item.result
-    c.as_slice-lines.ensures.value c.loop-line-test.true c.line-item.is in
-    omega (arith, fit.0, fit.1)
+    (line-fits c.args.book.now c.sealed.ensures c.requires.0 c.args.alert.now c.requires.1 c.requires.2 c.as_slice-lines.result.now c.loop-line.line-index c.line-item.result
+    c.as_slice-lines.ensures.value c.loop-line-test.true c.line-item.is).0
 
 pub add-requires-in-loop-line : goal.add-requires-in-loop-line
 add-requires-in-loop-line c =
-    let fit = line-fits c.args.book.now c.sealed.ensures c.requires.0 c.args.alert.now c.requires.1 c.requires.2 c.as_slice-lines.result.now c.loop-line.line-index c.line-item.result
-    c.as_slice-lines.ensures.value c.loop-line-test.true c.line-item.is in
-    omega (arith, fit.0, fit.1)
+    (line-fits c.args.book.now c.sealed.ensures c.requires.0 c.args.alert.now c.requires.1 c.requires.2 c.as_slice-lines.result.now c.loop-line.line-index c.line-item.result
+    c.as_slice-lines.ensures.value c.loop-line-test.true c.line-item.is).1
 
 pub loop-line-preserved : goal.loop-line-preserved
 loop-line-preserved c =

@@ -3,7 +3,8 @@ use Rattle.book_model.specs.Slots.{memo_place}
 use Rattle.book_model.specs.Sealed.{the_book}
 use Rattle.book_model.specs.Conditions.{memos_from}
 use Rattle.book_model.proofs.ConditionPlaces.{memo-place-at}
-use Rattle.condition_codes.proofs.Walking.{slots-within, adds-next}
+use Rattle.condition_codes.proofs.Limits.{fits}
+use Rattle.condition_codes.proofs.Walking.{adds-next}
 use Rattle.condition_codes.proofs.book.add_memos.Goals as goal
 
 pub add-requires : goal.add-requires
@@ -12,7 +13,7 @@ add-requires c =
     let memos = c.memos-memos in
     let i = c.loop-memo.memo-index in
     let x = c.memo-item.result in
-    slots-within d memos.ensures.sealed (memos_from (the_book d) + i) x.when
+    fits d memos.ensures.sealed (memos_from (the_book d) + i) x.when
     (memo-place-at d memos.ensures.sealed memos.result.now i x memos.ensures.value c.loop-memo-test.true c.memo-item.is)
 
 pub loop-memo-preserved : goal.loop-memo-preserved

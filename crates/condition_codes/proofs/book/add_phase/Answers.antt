@@ -1,4 +1,4 @@
-use Rattle.std.proofs.Common.{subst, arith}
+use Rattle.std.proofs.Common.{subst}
 use Rattle.book_model.specs.Slots.{phase_places}
 use Rattle.condition_codes.specs.Pieces.{AddsCodes}
 use Rattle.condition_codes.proofs.Walking.{on-ok, inputs-fit, adds-six}
@@ -7,38 +7,32 @@ use Rattle.condition_codes.proofs.book.add_phase.Goals as goal
 pub add-requires : goal.add-requires
 add-requires c =
     let terms = c.phase_terms-terms in
-    let fit = inputs-fit c.args.book.now terms.ensures.sealed terms.result.now terms.ensures.value in
-    omega (arith, fit.gnd, fit.run, fit.tp, fit.fast, fit.high, fit.low)
+    (inputs-fit c.args.book.now terms.ensures.sealed terms.result.now terms.ensures.value).gnd
 
 pub add-requires-2 : goal.add-requires-2
 add-requires-2 c =
     let terms = c.phase_terms-terms in
-    let fit = inputs-fit c.args.book.now terms.ensures.sealed terms.result.now terms.ensures.value in
-    omega (arith, fit.gnd, fit.run, fit.tp, fit.fast, fit.high, fit.low)
+    (inputs-fit c.args.book.now terms.ensures.sealed terms.result.now terms.ensures.value).run
 
 pub add-requires-3 : goal.add-requires-3
 add-requires-3 c =
     let terms = c.phase_terms-terms in
-    let fit = inputs-fit c.args.book.now terms.ensures.sealed terms.result.now terms.ensures.value in
-    omega (arith, fit.gnd, fit.run, fit.tp, fit.fast, fit.high, fit.low)
+    (inputs-fit c.args.book.now terms.ensures.sealed terms.result.now terms.ensures.value).tp
 
 pub add-requires-4 : goal.add-requires-4
 add-requires-4 c =
     let terms = c.phase_terms-terms in
-    let fit = inputs-fit c.args.book.now terms.ensures.sealed terms.result.now terms.ensures.value in
-    omega (arith, fit.gnd, fit.run, fit.tp, fit.fast, fit.high, fit.low)
+    (inputs-fit c.args.book.now terms.ensures.sealed terms.result.now terms.ensures.value).fast
 
 pub add-requires-5 : goal.add-requires-5
 add-requires-5 c =
     let terms = c.phase_terms-terms in
-    let fit = inputs-fit c.args.book.now terms.ensures.sealed terms.result.now terms.ensures.value in
-    omega (arith, fit.gnd, fit.run, fit.tp, fit.fast, fit.high, fit.low)
+    (inputs-fit c.args.book.now terms.ensures.sealed terms.result.now terms.ensures.value).high
 
 pub add-requires-6 : goal.add-requires-6
 add-requires-6 c =
     let terms = c.phase_terms-terms in
-    let fit = inputs-fit c.args.book.now terms.ensures.sealed terms.result.now terms.ensures.value in
-    omega (arith, fit.gnd, fit.run, fit.tp, fit.fast, fit.high, fit.low)
+    (inputs-fit c.args.book.now terms.ensures.sealed terms.result.now terms.ensures.value).low
 
 pub returns : goal.returns
 returns c =

@@ -1,13 +1,12 @@
-use Rattle.std.proofs.Common.{◌≡◌, ◌<◌, ℕ, zero, suc, length, refl, sym, ap, subst, ◌∙◌, arith}
+use Rattle.std.proofs.Common.{◌≡◌, ◌<◌, ℕ, zero, suc, length, refl, sym, subst, arith}
 use Rattle.std.proofs.lemmas.Option.{slice_get_within}
 use Rattle.book_model.specs.Conditions.{places}
-use Rattle.term_eval.specs.Code.{owners, IsReady}
 use Rattle.term_eval.specs.CellState.{Stand}
 use Rattle.term_eval.specs.Shown.{Shows}
 use Rattle.condition_codes.specs.IsCodes.{IsCodes}
 use Rattle.condition_codes.specs.Places.{nodes_before}
 use Rattle.fwc_lane.specs.Conditions.{StepsTerm}
-use Rattle.fwc_lane.proofs.Stepping.{is-ready, moved-asked}
+use Rattle.fwc_lane.proofs.Stepping.{is-ready, can-run, moved-asked}
 use Rattle.fwc_lane.proofs.Running.{IsRun, noted, noted-run, run-fits, run-steps}
 use Rattle.fwc_lane.proofs.conditions.run_term.Goals as goal
 
@@ -97,16 +96,21 @@ owners-owners-requires c =
     let inside : c.args.number < length (places b) = slice_get_within (places b) c.args.number p here in
     (b, coded, inside)
 
+pub links-links-requires : goal.links-links-requires
+links-links-requires c =
+    let (b, p, fits, here, names) = c.requires.place in
+    let coded : IsCodes b c.table-codes.result.now = subst (IsCodes b) (sym c.table-codes.ensures) fits.codes in
+    let inside : c.args.number < length (places b) = slice_get_within (places b) c.args.number p here in
+    (b, coded, inside)
+
 pub run-turn-requires-clause-ready : goal.run-turn-requires-clause-ready
 run-turn-requires-clause-ready c =
     let (b, p, fits, here, names) = c.requires.place in
     let coded : IsCodes b c.table-codes.result.now = subst (IsCodes b) (sym c.table-codes.ensures) fits.codes in
-    let inside : c.args.number < length (places b) = slice_get_within (places b) c.args.number p here in
-    let code = c.code-steps.ensures b coded p here in
-    let ready = is-ready b c.args.terms.now c.args.number p c.code-steps.result.now c.start-start.result fits here code (c.start-start.ensures b coded inside) in (
+    let inside : c.args.number < length (places b) = slice_get_within (places b) c.args.number p here in (
       p.tree,
-      subst (λ at. IsReady c.code-steps.result.now c.args.terms.now.cells c.args.terms.now.nodes p.tree at c.start-start.result) (sym (c.at-at.ensures b coded p here)) ready,
-      c.owners-owners.ensures b coded p here ∙ ap (owners 0) (sym code.is),
+      can-run b c.args.terms.now c.args.number p c.code-steps.result.now c.links-links.result.now c.owners-owners.result.now c.start-start.result c.at-at.result fits here
+          (c.code-steps.ensures b coded p here) (c.links-links.ensures b coded p here) (c.owners-owners.ensures b coded p here) (c.start-start.ensures b coded inside) (c.at-at.ensures b coded p here),
     )
 
 pub note-requires-2-clause-truths : goal.note-requires-2-clause-truths
@@ -127,13 +131,12 @@ returns-clause-fits c b fits =
     let coded : IsCodes b' c.table-codes.result.now = subst (IsCodes b') (sym c.table-codes.ensures) own.codes in
     let inside : c.args.number < length (places b') = slice_get_within (places b') c.args.number p here in
     let first = c.start-start.result in
-    let code = c.code-steps.ensures b' coded p here in
-    let ready = is-ready b' c.args.terms.now c.args.number p c.code-steps.result.now first own here code (c.start-start.ensures b' coded inside) in
-    let own_nodes = c.owners-owners.ensures b' coded p here ∙ ap (owners 0) (sym code.is) in
+    let can = can-run b' c.args.terms.now c.args.number p c.code-steps.result.now c.links-links.result.now c.owners-owners.result.now first p.at own here
+    (c.code-steps.ensures b' coded p here) (c.links-links.ensures b' coded p here) (c.owners-owners.ensures b' coded p here) (c.start-start.ensures b' coded inside) refl in
     let run = rw (c.at-at.ensures b' coded p here) at c.run-turn.ensures in
     run-fits b c.args.number first p c.run-turn.result.holds c.run-turn.result.due c.args.terms.now c.note-2.new.terms
     (noted c.args.number first p c.run-turn.result.holds c.run-turn.result.due c.args.terms.now c.note-2.new.terms c.run-turn.new.states c.run-turn.new.self c.note-2.ensures.rest
-    (run.within p.tree ready own_nodes) (run.before p.tree ready own_nodes) (run.behind p.tree ready own_nodes) run.len run.visits c.note-2.ensures.truths c.note-2.ensures.dues)
+    (run.within p.tree can) (run.before p.tree can) (run.behind p.tree can) run.len run.visits c.note-2.ensures.truths c.note-2.ensures.dues)
     fits
 
 pub returns-clause-steps : goal.returns-clause-steps
@@ -142,19 +145,18 @@ returns-clause-steps c b p fits here names =
     let inside : c.args.number < length (places b) = slice_get_within (places b) c.args.number p here in
     let start = nodes_before (places b) c.args.number in
     let first = c.start-start.ensures b coded inside in
-    let code = c.code-steps.ensures b coded p here in
-    let ready = is-ready b c.args.terms.now c.args.number p c.code-steps.result.now start fits here code refl in
-    let own_nodes = c.owners-owners.ensures b coded p here ∙ ap (owners 0) (sym code.is) in
+    let can = can-run b c.args.terms.now c.args.number p c.code-steps.result.now c.links-links.result.now c.owners-owners.result.now start p.at fits here
+    (c.code-steps.ensures b coded p here) (c.links-links.ensures b coded p here) (c.owners-owners.ensures b coded p here) refl refl in
     let run = rw (first, c.at-at.ensures b coded p here) at c.run-turn.ensures in
     subst (StepsTerm (places b) c.args.env.now c.args.now c.args.number p c.args.terms.now c.note-2.new.terms) (sym c.note-2.ensures.holds)
     (run-steps b c.args.env.now c.args.now c.args.number p c.run-turn.result.holds c.run-turn.result.due c.args.terms.now c.note-2.new.terms c.requires.now here fits
     (noted c.args.number start p c.run-turn.result.holds c.run-turn.result.due c.args.terms.now c.note-2.new.terms c.run-turn.new.states c.run-turn.new.self c.note-2.ensures.rest
-    (run.within p.tree ready own_nodes) (run.before p.tree ready own_nodes) (run.behind p.tree ready own_nodes) run.len run.visits c.note-2.ensures.truths c.note-2.ensures.dues)
+    (run.within p.tree can) (run.before p.tree can) (run.behind p.tree can) run.len run.visits c.note-2.ensures.truths c.note-2.ensures.dues)
     (λ w hit shows tells left.
     let later = before-it c.args.now c.if-now-eq0.false in
     let h = later.0 in
     let is = later.1 in
     let waits = moved-asked w hit c.args.now h c.args.number start p c.args.terms.now tells (left.later h is) in
     noted-run c.args.number start p c.run-turn.result.holds c.run-turn.result.due c.args.terms.now c.note-2.new.terms c.run-turn.new.states c.run-turn.new.self c.note-2.ensures.rest w c.args.now
-    (run.truth p.tree ready own_nodes w h is left.stands waits) (run.due p.tree ready own_nodes w h is left.stands waits) (run.wake p.tree ready own_nodes w h is left.stands waits)
-    (run.stands p.tree ready own_nodes w h is left.stands waits) (run.nodes p.tree ready own_nodes w h is left.stands waits)))
+    (run.truth p.tree can w h is left.stands waits) (run.due p.tree can w h is left.stands waits) (run.wake p.tree can w h is left.stands waits)
+    (run.stands p.tree can w h is left.stands waits) (run.nodes p.tree can w h is left.stands waits)))

@@ -1,6 +1,7 @@
 use Rattle.std.proofs.Common.{◌≡◌, ◌+◌, ◌-◌, ◌<◌, ℕ, suc, List, [], length, drop, refl, sym, ◌∙◌, ap, arith, drop_of_length-le, drop-cons, slice_index_or}
 use Rattle.std.proofs.lemmas.Option.{slice_get-get_or}
 use Rattle.term_eval.specs.declared.code.Step.{Step}
+use Rattle.term_eval.specs.declared.link.Link.{Link}
 use Rattle.term_eval.specs.CellWords.{never}
 use Rattle.term_eval.specs.Run.{Run, look_or_leave, pass_over}
 use Rattle.term_eval.proofs.run.pass.Goals as goal
@@ -25,13 +26,13 @@ look_or_leave-requires c =
     rw (c.loop-slot.auto.states) (rw (c.loop-slot.auto.wakes) (rw (c.loop-slot.auto.cells) can))
 
 -- the first of some nodes is gone through behind all the others
-first-last : (k first at j : ℕ) (steps : List Step) (xs : List ℕ) (s : Run) → j < length xs →
-    look_or_leave k steps first (slice_index_or xs j 0) (at + j) (pass_over k steps first (drop (suc j) xs) (at + suc j) s) ≡ pass_over k steps first (drop j xs) (at + j) s
+first-last : (k first at j : ℕ) (steps : List Step) (links : List Link) (xs : List ℕ) (s : Run) → j < length xs →
+    look_or_leave k steps links first (slice_index_or xs j 0) (at + j) (pass_over k steps links first (drop (suc j) xs) (at + suc j) s) ≡ pass_over k steps links first (drop j xs) (at + j) s
 unfolding pass_over
-first-last k first at j steps xs s within =
+first-last k first at j steps links xs s within =
     let next : at + suc j ≡ suc (at + j) = omega arith in
-    ap (λ n. look_or_leave k steps first (slice_index_or xs j 0) (at + j) (pass_over k steps first (drop (suc j) xs) n s)) next
-    ∙ ap (λ l. pass_over k steps first l (at + j) s) (sym (drop-cons xs j 0 within))
+    ap (λ n. look_or_leave k steps links first (slice_index_or xs j 0) (at + j) (pass_over k steps links first (drop (suc j) xs) n s)) next
+    ∙ ap (λ l. pass_over k steps links first l (at + j) s) (sym (drop-cons xs j 0 within))
 
 pub loop-slot-preserved : goal.loop-slot-preserved
 loop-slot-preserved c =
@@ -44,9 +45,9 @@ loop-slot-preserved c =
       range = omega (arith, c.loop-slot.invariant.range);
       is =
           c.look_or_leave.ensures
-          ∙ ap (look_or_leave a.now a.steps.now a.first (slice_index_or xs j 0) (a.at + j))
-          (c.loop-slot.invariant.is ∙ ap (λ n. pass_over a.now a.steps.now a.first (drop n xs) (a.at + n) start) back)
-          ∙ first-last a.now a.first a.at j a.steps.now xs start (omega (arith, c.loop-slot.invariant.range));
+          ∙ ap (look_or_leave a.now a.steps.now a.links.now a.first (slice_index_or xs j 0) (a.at + j))
+          (c.loop-slot.invariant.is ∙ ap (λ n. pass_over a.now a.steps.now a.links.now a.first (drop n xs) (a.at + n) start) back)
+          ∙ first-last a.now a.first a.at j a.steps.now a.links.now xs start (omega (arith, c.loop-slot.invariant.range));
     }
 
 pub returns : goal.returns
@@ -56,5 +57,5 @@ returns c =
     let none : c.loop-slot.slot ≡ 0 = omega arith in
     let place : a.at + c.loop-slot.slot ≡ a.at = omega arith in
     c.loop-slot.invariant.is
-    ∙ ap (λ n. pass_over a.now a.steps.now a.first (drop c.loop-slot.slot a.owners.now) n start) place
-    ∙ ap (λ n. pass_over a.now a.steps.now a.first (drop n a.owners.now) a.at start) none
+    ∙ ap (λ n. pass_over a.now a.steps.now a.links.now a.first (drop c.loop-slot.slot a.owners.now) n start) place
+    ∙ ap (λ n. pass_over a.now a.steps.now a.links.now a.first (drop n a.owners.now) a.at start) none

@@ -1,10 +1,11 @@
-use Rattle.std.proofs.Common.{rules, ◌≡◌, ◌≤◌, ◌++◌, List, length, ap, subst, sym, ◌∙◌, arith}
+use Rattle.std.proofs.Common.{rules, ◌≡◌, ◌≤◌, [], ◌++◌, List, map, length, ap, subst, sym, ◌∙◌, arith}
 use Rattle.ecam_spec.specs.Book.{Tree}
 use Rattle.ecam_spec.specs.TermSize.{nodes, slots}
 use Rattle.term_tree.specs.View.{tree_of}
 use Rattle.term_eval.specs.declared.code.Step.{Step}
 use Rattle.term_eval.specs.Memory.{Memory, NodeMemory}
 use Rattle.term_eval.specs.Code.{IsCode, IsReady, owners}
+use Rattle.term_eval.specs.Links.{link_of}
 use Rattle.term_eval.proofs.Codes.{length-code}
 use Rattle.term_eval.proofs.tests.answers_by_code.Goals as goal
 
@@ -18,12 +19,16 @@ has-room c steps now m n code same few cells states wakes =
       range = omega (arith, few, cells);
     }
 
+-- what was gathered of the steps is of the same steps as they are lent again
+gathered : {A : Type 0} (of : List Step → List A) (now items none : List A) (steps first again : List Step) → now ≡ items → items ≡ none ++ of first → none ≡ [] → first ≡ steps → again ≡ steps → now ≡ of again
+gathered of now items none steps first again lent is empty once twice = lent ∙ is ∙ ap (λ l. l ++ of first) empty ∙ ap of (once ∙ sym twice)
+
 pub begin-first-requires-clause-ready : goal.begin-first-requires-clause-ready
 begin-first-requires-clause-ready c =
     let states : length c.in_ok-nodes.nodes.states ≡ length c.in_ok-steps.steps.items = search rules in (
       tree_of c.args.cond.now,
       0,
-      has-room (tree_of c.args.cond.now) c.in_ok-steps.steps.items c.deref-2.result.now c.in_ok-cells.cells c.in_ok-nodes.nodes c.in_ok-steps.ensures c.deref-2.ensures.value c.requires.few
+      has-room (tree_of c.args.cond.now) c.in_ok-steps.steps.items c.deref-3.result.now c.in_ok-cells.cells c.in_ok-nodes.nodes c.in_ok-steps.ensures c.deref-3.ensures.value c.requires.few
           c.in_ok-cells.ensures.len states c.in_ok-nodes.ensures.slots,
       rw c.values_in-values.ensures c.requires.names,
     )
@@ -31,36 +36,48 @@ begin-first-requires-clause-ready c =
 pub loop-moment-init : goal.loop-moment-init
 loop-moment-init c =
     let states : length c.in_ok-nodes.nodes.states ≡ length c.in_ok-steps.steps.items = search rules in
-    let ready = has-room (tree_of c.args.cond.now) c.in_ok-steps.steps.items c.deref-2.result.now c.in_ok-cells.cells c.in_ok-nodes.nodes c.in_ok-steps.ensures c.deref-2.ensures.value c.requires.few
+    let ready = has-room (tree_of c.args.cond.now) c.in_ok-steps.steps.items c.deref-3.result.now c.in_ok-cells.cells c.in_ok-nodes.nodes c.in_ok-steps.ensures c.deref-3.ensures.value c.requires.few
     c.in_ok-cells.ensures.len states c.in_ok-nodes.ensures.slots in
     let within = c.begin-first.ensures.within (tree_of c.args.cond.now) 0 ready in
     record { cells = c.begin-first.ensures.len ∙ c.in_ok-cells.ensures.len; states = within.nodes ∙ states; wakes = within.slots ∙ c.in_ok-nodes.ensures.slots }
 
-pub hear-requires : goal.hear-requires
-hear-requires c =
+pub hear-requires-clause-held : goal.hear-requires-clause-held
+hear-requires-clause-held c =
     let i = c.loop-moment.invariant in (
       tree_of c.args.cond.now,
       (has-room (tree_of c.args.cond.now) c.in_ok-steps.steps.items c.deref-in-loop-moment.result.now c.loop-moment.cells c.loop-moment.nodes c.in_ok-steps.ensures c.deref-in-loop-moment.ensures.value
           c.requires.few i.cells i.states i.wakes).held,
     )
 
+pub hear-requires-clause-links : goal.hear-requires-clause-links
+hear-requires-clause-links c =
+    gathered (map link_of) _ _ _ _ _ _ c.deref-in-loop-moment-2.ensures.value c.in_ok-add_links.ensures c.new-links.ensures.items c.deref.ensures.value c.deref-in-loop-moment.ensures.value
+
 pub run-turn-requires-clause-ready : goal.run-turn-requires-clause-ready
 run-turn-requires-clause-ready c =
-    let i = c.loop-moment.invariant in
-    let listed = c.deref-in-loop-moment-3.ensures.value ∙ c.in_ok-add_owners.ensures ∙ ap (λ l. l ++ owners 0 c.deref.result.now) c.new-owners.ensures.items
-    ∙ ap (owners 0) (c.deref.ensures.value ∙ sym c.deref-in-loop-moment-2.ensures.value) in (
+    let i = c.loop-moment.invariant in (
       tree_of c.args.cond.now,
-      has-room (tree_of c.args.cond.now) c.in_ok-steps.steps.items c.deref-in-loop-moment-2.result.now c.loop-moment.cells c.hear.new.nodes c.in_ok-steps.ensures c.deref-in-loop-moment-2.ensures.value
-          c.requires.few i.cells (c.hear.ensures.states ∙ i.states) (c.hear.ensures.wakes ∙ i.wakes),
-      listed,
+      record {
+        ready =
+            has-room (tree_of c.args.cond.now) c.in_ok-steps.steps.items c.deref-in-loop-moment-3.result.now c.loop-moment.cells c.hear.new.nodes c.in_ok-steps.ensures
+            c.deref-in-loop-moment-3.ensures.value c.requires.few i.cells (c.hear.ensures.states ∙ i.states) (c.hear.ensures.wakes ∙ i.wakes);
+        links =
+            gathered (map link_of) _ _ _ _ _ _ c.deref-in-loop-moment-4.ensures.value c.in_ok-add_links.ensures c.new-links.ensures.items c.deref.ensures.value
+            c.deref-in-loop-moment-3.ensures.value;
+        owners =
+            gathered (owners 0) _ _ _ _ _ _ c.deref-in-loop-moment-5.ensures.value c.in_ok-add_owners.ensures c.new-owners.ensures.items c.deref-2.ensures.value
+            c.deref-in-loop-moment-3.ensures.value;
+      },
     )
 
 pub loop-moment-preserved : goal.loop-moment-preserved
 loop-moment-preserved c =
     let i = c.loop-moment.invariant in
-    let ready = has-room (tree_of c.args.cond.now) c.in_ok-steps.steps.items c.deref-in-loop-moment-2.result.now c.loop-moment.cells c.hear.new.nodes c.in_ok-steps.ensures
-    c.deref-in-loop-moment-2.ensures.value c.requires.few i.cells (c.hear.ensures.states ∙ i.states) (c.hear.ensures.wakes ∙ i.wakes) in
-    let listed = c.deref-in-loop-moment-3.ensures.value ∙ c.in_ok-add_owners.ensures ∙ ap (λ l. l ++ owners 0 c.deref.result.now) c.new-owners.ensures.items
-    ∙ ap (owners 0) (c.deref.ensures.value ∙ sym c.deref-in-loop-moment-2.ensures.value) in
-    let within = c.run-turn.ensures.within (tree_of c.args.cond.now) ready listed in
+    let ready = has-room (tree_of c.args.cond.now) c.in_ok-steps.steps.items c.deref-in-loop-moment-3.result.now c.loop-moment.cells c.hear.new.nodes c.in_ok-steps.ensures
+    c.deref-in-loop-moment-3.ensures.value c.requires.few i.cells (c.hear.ensures.states ∙ i.states) (c.hear.ensures.wakes ∙ i.wakes) in
+    let links = gathered (map link_of) _ _ _ _ _ _ c.deref-in-loop-moment-4.ensures.value c.in_ok-add_links.ensures c.new-links.ensures.items c.deref.ensures.value
+    c.deref-in-loop-moment-3.ensures.value in
+    let owners = gathered (owners 0) _ _ _ _ _ _ c.deref-in-loop-moment-5.ensures.value c.in_ok-add_owners.ensures c.new-owners.ensures.items c.deref-2.ensures.value
+    c.deref-in-loop-moment-3.ensures.value in
+    let within = c.run-turn.ensures.within (tree_of c.args.cond.now) (record { ready = ready; links = links; owners = owners }) in
     record { cells = c.run-turn.ensures.len ∙ i.cells; states = within.nodes ∙ c.hear.ensures.states ∙ i.states; wakes = within.slots ∙ c.hear.ensures.wakes ∙ i.wakes }

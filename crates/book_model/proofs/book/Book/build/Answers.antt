@@ -26,7 +26,7 @@ pub new-requires-clause-sound : goal.new-requires-clause-sound
 new-requires-clause-sound c = rw c.as_slice-4.ensures.value (sound-parameters c.args.draft c.requires.sound)
 
 pub place-slots-requires : goal.place-slots-requires
-place-slots-requires c = rw (draft_trees-view c.args.draft) (slots-fit (draft_of c.args.draft) c.requires.sound)
+place-slots-requires c = rw (draft_trees-view c.args.draft) (omega (arith, slots-fit (draft_of c.args.draft) c.requires.sound))
 
 pub invariant_of-result : goal.invariant_of-result
 invariant_of-result c =

@@ -1,4 +1,4 @@
-use Rattle.std.proofs.Common.{◌≡◌, All, map, length, slice_index, sym, ap, subst, ◌∙◌}
+use Rattle.std.proofs.Common.{◌≡◌, All, map, length, slice_index, sym, ap, subst, ◌∙◌, arith}
 use Rattle.std.proofs.lemmas.List.{length-map}
 use Rattle.ecam_spec.specs.TermSize.{Placed}
 use Rattle.ecam_spec.specs.TermNames.{IsWithin}
@@ -13,8 +13,9 @@ use Rattle.watch_lists.proofs.Lines.{sizes-are}
 use Rattle.condition_codes.specs.Chains.{AsksWithin, wanted, AreChains, AreAskers, AreNodes}
 use Rattle.condition_codes.specs.IsAskers.{IsAskers, sizes_in}
 use Rattle.condition_codes.specs.declared.askers.AskerTable.{AskerTable}
-use Rattle.condition_codes.proofs.NamesWithin.{all-names}
+use Rattle.condition_codes.proofs.Limits.{all-sound, few-places}
 use Rattle.condition_codes.proofs.Asked.{steps-within}
+use Rattle.condition_codes.proofs.Linking.{few-nodes}
 use Rattle.condition_codes.proofs.Asking.{sizes-read, first-start, askers-of}
 use Rattle.condition_codes.proofs.askers.Askers.new.Goals as goal
 
@@ -29,12 +30,18 @@ chains_of-requires-clause-own c =
     let same : n ≡ sizes_of d = sizes-are d _ _ (ap length c.params.ensures.value) (ap length c.alerts.ensures.value) in
     let ps = places (the_book d) in
     let names : All (λ (p : Placed). IsWithin n.params n.alerts p.tree) ps =
-    subst (λ (m : Sizes). All (λ (p : Placed). IsWithin m.params m.alerts p.tree) ps) (sym same) (all-names d c.sealed.ensures) in
+    subst (λ (m : Sizes). All (λ (p : Placed). IsWithin m.params m.alerts p.tree) ps) (sym same) (λ i p lt. (all-sound d c.sealed.ensures i p lt).within) in
     subst (All (λ (s : Step). AsksWithin n (node_asks s.node))) (sym (c.steps.ensures ∙ c.requires.codes.whole))
     (steps-within n c.code_asks_for_what_the_condition_asks_for.ensures ps names)
 
 pub nodes_of-requires-clause-first : goal.nodes_of-requires-clause-first
 nodes_of-requires-clause-first c = ap (λ l. slice_index l 0) c.starts.ensures ∙ first-start (the_book c.args.book.now) c.args.codes.now c.requires
+
+pub nodes_of-requires-clause-small : goal.nodes_of-requires-clause-small
+nodes_of-requires-clause-small c = rw c.starts.ensures (few-nodes (the_book c.args.book.now) c.args.codes.now c.requires)
+
+pub nodes_of-requires-clause-few : goal.nodes_of-requires-clause-few
+nodes_of-requires-clause-few c = omega (arith, ap length c.starts.ensures, c.requires.codes.pieces.count, few-places c.args.book.now c.sealed.ensures)
 
 pub returns : goal.returns
 returns c =
@@ -57,7 +64,8 @@ returns c =
     let all : AreAskers ws c.deref-3.result.now (length c.deref.result.now) starts askers = c.in_ok-starts.ensures ws long chains in
     let own : AreAskers ws nodes (length c.deref.result.now) starts askers = subst (λ l. AreAskers ws l (length c.deref.result.now) starts askers) c.deref-3.ensures.value all in
     let counted : AreAskers ws nodes (operand_count n) starts askers = subst (λ m. AreAskers ws nodes m starts askers) (ap length c.deref.ensures.value ∙ c.in_ok-firsts.ensures.operands) own in
-    let numbered : AreNodes c.args.codes.now.starts.items.items nodes = subst (λ l. AreNodes l nodes) c.starts.ensures c.in_ok-nodes.ensures.nodes in
+    let numbered : AreNodes c.args.codes.now.starts.items.items steps nodes =
+    subst (λ l. AreNodes c.args.codes.now.starts.items.items l nodes) c.steps-2.ensures (subst (λ l. AreNodes l c.steps-2.result.now nodes) c.starts.ensures c.in_ok-nodes.ensures.nodes) in
     let table : AskerTable = record { starts = c.in_ok-starts.starts; askers = c.in_ok-starts.askers } in
     subst (IsAskers b) (sym c.in_ok-new.ensures.ok)
     (askers-of b c.args.codes.now c.requires c.code_asks_for_what_the_condition_asks_for.ensures nodes numbered table

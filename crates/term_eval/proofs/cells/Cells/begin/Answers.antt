@@ -1,4 +1,4 @@
-use Rattle.std.proofs.Common.{ℕ, ◌≤◌, length, refl, sym, subst, ap, ◌∙◌, arith, rules}
+use Rattle.std.proofs.Common.{ℕ, length, refl, sym, subst, ap, ◌∙◌, arith}
 use Rattle.std.specs.Vec.{with_items}
 use Rattle.std.proofs.lemmas.List.{with_items_is, get_or_default}
 use Rattle.ecam_spec.specs.Book.{Tree}
@@ -56,7 +56,6 @@ after c tree at ready =
     let new-states = with_items_is c.states.inside.states.items c.ask_all-due.new.states (c.ask_all-due.auto.states ∙ ap length c.deref_mut.ensures.value ∙ sym c.states.inside.states.items.ok.0) in
     let new-wakes = with_items_is c.states.inside.wakes.items c.ask_all-due.new.wakes (c.ask_all-due.auto.wakes ∙ ap length c.deref_mut-2.ensures.value ∙ sym c.states.inside.wakes.items.ok.0) in
     let new-cells = with_items_is c.self.inside.cells.items c.ask_all-due.new.cells (c.ask_all-due.auto.cells ∙ ap length c.deref_mut-3.ensures.value ∙ sym c.self.inside.cells.items.ok.0) in
-    let most : length c.args.states.now.states ≤ never = search rules in
     let count = length c.args.steps.now in
     let s = start c.args.first count c.args.self.now c.args.states.now in
     let was : Run = record { states = unasked_from c.args.first count c.deref_mut.result.now; wakes = c.deref_mut-2.result.now; cells = c.deref_mut-3.result.now; due = never } in
@@ -65,7 +64,7 @@ after c tree at ready =
     ∙ sym c.ask_all-due.ensures
     ∙ sym (same-run (last c) (record { states = c.ask_all-due.new.states; wakes = c.ask_all-due.new.wakes; cells = c.ask_all-due.new.cells; due = c.ask_all-due.result }) new-states new-wakes new-cells refl))
     (begun c.args.env.now c.args.steps.now c.args.self.now c.args.states.now tree at c.args.first ready
-    (can-ready c.args.env.now c.args.steps.now c.args.self.now c.args.states.now t a c.args.first is-ready names) most)
+    (can-ready c.args.env.now c.args.steps.now c.args.self.now c.args.states.now t a c.args.first is-ready names))
 
 pub returns-clause-truth : goal.returns-clause-truth
 unfolding last

@@ -1,4 +1,4 @@
-use Rattle.std.proofs.Common.{◌≡◌, ℕ, suc, ◌+◌, ◌≤◌, length, inl, inr, refl, sym, subst, ap, ◌∙◌, arith, rules}
+use Rattle.std.proofs.Common.{◌≡◌, ℕ, suc, ◌+◌, length, inl, inr, refl, sym, subst, ap, ◌∙◌, arith}
 use Rattle.std.specs.Vec.{with_items}
 use Rattle.std.proofs.lemmas.List.{with_items_is, get_or_default}
 use Rattle.ecam_spec.specs.Book.{Tree}
@@ -10,9 +10,9 @@ use Rattle.term_eval.specs.CellState.{Stand}
 use Rattle.term_eval.specs.Asked.{heard}
 use Rattle.term_eval.specs.Woken.{moved}
 use Rattle.term_eval.specs.Memory.{Memory, NodeMemory}
-use Rattle.term_eval.specs.Code.{IsReady, owners}
+use Rattle.term_eval.specs.Linked.{CanRun}
 use Rattle.term_eval.specs.NodeState.{unasked, NodesWait}
-use Rattle.term_eval.specs.Run.{Run, pass_over, CanPass}
+use Rattle.term_eval.specs.Run.{Run, pass_over}
 use Rattle.term_eval.proofs.Codes.{nodes-some}
 use Rattle.term_eval.proofs.PassFrame.{Framed}
 use Rattle.term_eval.proofs.CanPass.{can-pass}
@@ -22,21 +22,18 @@ use Rattle.term_eval.proofs.cells.Cells.run.Goals as goal
 
 pub pass-due-requires : goal.pass-due-requires
 pass-due-requires c =
-    let (tree, ready, listed) = c.requires.ready in
+    let (tree, can) = c.requires.ready in
     let states = ap length (c.deref_mut.ensures.value ∙ ap (λ (n : NodeMemory). n.states) c.states.view_is) in
     let wakes = ap length (c.deref_mut-2.ensures.value ∙ ap (λ (n : NodeMemory). n.wakes) c.states.view_is) in
     let cells = ap length (c.deref_mut-3.ensures.value ∙ ap (λ (m : Memory). m.slots) c.self.view_is) in
-    let can : CanPass c.args.steps.now c.args.first (length c.args.states.now.states) (length c.args.states.now.wakes) (length c.args.self.now.slots) c.args.owners.now c.args.at =
-    subst (λ l. CanPass c.args.steps.now c.args.first (length c.args.states.now.states) (length c.args.states.now.wakes) (length c.args.self.now.slots) l c.args.at) (sym listed)
-    (can-pass c.args.steps.now c.args.self.now c.args.states.now tree c.args.at c.args.first ready) in
-    rw states (rw wakes (rw cells can))
+    rw states (rw wakes (rw cells (can-pass c.args.steps.now c.args.links.now c.args.owners.now c.args.self.now c.args.states.now tree c.args.at c.args.first can)))
 
 pub index-requires : goal.index-requires
 index-requires c =
-    let (tree, ready, listed) = c.requires.ready in
+    let (tree, can) = c.requires.ready in
     let len = ap (λ (n : NodeMemory). length n.states) c.states.view_is in
     let own = c.states.inside.states.items.ok.0 in
-    omega (arith, ready.held.nodes, nodes-some tree, len, own)
+    omega (arith, can.ready.held.nodes, nodes-some tree, len, own)
 
 -- what is kept when the temporal nodes were gone through
 last : goal.After-index → Run
@@ -51,10 +48,13 @@ last c = record {
 passed : goal.After-index → Run
 passed c = record { states = c.pass-due.new.states; wakes = c.pass-due.new.wakes; cells = c.pass-due.new.cells; due = c.pass-due.result }
 
-after : (c : goal.After-index) (tree : Tree) (ready : IsReady c.args.steps.now c.args.self.now c.args.states.now tree c.args.at c.args.first) →
-    c.args.owners.now ≡ owners 0 c.args.steps.now → ran c.args.now c.args.steps.now c.args.self.now c.args.states.now tree c.args.at c.args.first ready ≡ last c
+abbrev Runs : goal.After-index → Tree → Type 0
+Runs c tree = CanRun c.args.steps.now c.args.links.now c.args.owners.now c.args.self.now c.args.states.now tree c.args.at c.args.first
+
+after : (c : goal.After-index) (tree : Tree) (can : Runs c tree) →
+    ran c.args.now c.args.steps.now c.args.links.now c.args.owners.now c.args.self.now c.args.states.now tree c.args.at c.args.first can ≡ last c
 unfolding last passed
-after c tree ready listed =
+after c tree can =
     let states = c.deref_mut.ensures.value ∙ ap (λ (n : NodeMemory). n.states) c.states.view_is in
     let wakes = c.deref_mut-2.ensures.value ∙ ap (λ (n : NodeMemory). n.wakes) c.states.view_is in
     let cells = c.deref_mut-3.ensures.value ∙ ap (λ (m : Memory). m.slots) c.self.view_is in
@@ -62,54 +62,50 @@ after c tree ready listed =
     let new-wakes = with_items_is c.states.inside.wakes.items c.pass-due.new.wakes (c.pass-due.auto.wakes ∙ ap length c.deref_mut-2.ensures.value ∙ sym c.states.inside.wakes.items.ok.0) in
     let new-cells = with_items_is c.self.inside.cells.items c.pass-due.new.cells (c.pass-due.auto.cells ∙ ap length c.deref_mut-3.ensures.value ∙ sym c.self.inside.cells.items.ok.0) in
     let was : Run = record { states = c.deref_mut.result.now; wakes = c.deref_mut-2.result.now; cells = c.deref_mut-3.result.now; due = never } in
-    ap (pass_over c.args.now c.args.steps.now c.args.first (owners 0 c.args.steps.now) c.args.at) (sym (same-run was (fresh c.args.self.now c.args.states.now) states wakes cells refl))
-    ∙ ap (λ l. pass_over c.args.now c.args.steps.now c.args.first l c.args.at was) (sym listed)
+    ap (pass_over c.args.now c.args.steps.now c.args.links.now c.args.first c.args.owners.now c.args.at) (sym (same-run was (fresh c.args.self.now c.args.states.now) states wakes cells refl))
     ∙ sym {a = passed c} c.pass-due.ensures
     ∙ sym {a = last c} (same-run (last c) (passed c) new-states new-wakes new-cells refl)
 
-frame : (c : goal.After-index) (tree : Tree) (ready : IsReady c.args.steps.now c.args.self.now c.args.states.now tree c.args.at c.args.first) →
-    c.args.owners.now ≡ owners 0 c.args.steps.now →
+frame : (c : goal.After-index) (tree : Tree) → Runs c tree →
     Framed c.args.first (c.args.first + nodes tree) c.args.at (c.args.at + slots tree) c.args.at (slots tree) (fresh c.args.self.now c.args.states.now) (last c)
-frame c tree ready listed =
-    subst (Framed c.args.first (c.args.first + nodes tree) c.args.at (c.args.at + slots tree) c.args.at (slots tree) (fresh c.args.self.now c.args.states.now)) (after c tree ready listed)
-    (ran-frame c.args.now c.args.steps.now c.args.self.now c.args.states.now tree c.args.at c.args.first ready)
+frame c tree can =
+    subst (Framed c.args.first (c.args.first + nodes tree) c.args.at (c.args.at + slots tree) c.args.at (slots tree) (fresh c.args.self.now c.args.states.now)) (after c tree can)
+    (ran-frame c.args.now c.args.steps.now c.args.links.now c.args.owners.now c.args.self.now c.args.states.now tree c.args.at c.args.first can)
 
-all-done : (c : goal.After-index) (tree : Tree) → IsReady c.args.steps.now c.args.self.now c.args.states.now tree c.args.at c.args.first →
-    c.args.owners.now ≡ owners 0 c.args.steps.now → (w : World) (h : ℕ) → c.args.now ≡ suc h → Stand w c.args.now tree c.args.at c.args.self.now.slots →
+all-done : (c : goal.After-index) (tree : Tree) → Runs c tree → (w : World) (h : ℕ) → c.args.now ≡ suc h → Stand w c.args.now tree c.args.at c.args.self.now.slots →
     NodesWait w h (heard (moved w c.args.now) tree) tree c.args.at c.args.first c.args.states.now → Done w c.args.now tree c.args.at c.args.first (last c)
-all-done c tree ready listed w h is stand waits =
-    let most : length c.args.states.now.states ≤ never = search rules in
-    subst (Done w c.args.now tree c.args.at c.args.first) (after c tree ready listed)
-    (done c.args.steps.now c.args.self.now c.args.states.now tree c.args.at c.args.first ready (omega (arith, most)) w h c.args.now is c.requires.now stand waits)
+all-done c tree can w h is stand waits =
+    subst (Done w c.args.now tree c.args.at c.args.first) (after c tree can)
+    (done c.args.steps.now c.args.links.now c.args.owners.now c.args.self.now c.args.states.now tree c.args.at c.args.first can w h c.args.now is c.requires.now stand waits)
 
 pub returns-clause-truth : goal.returns-clause-truth
 unfolding last
-returns-clause-truth c tree ready listed w h is stand waits =
-    let d = all-done c tree ready listed w h is stand waits in
-    let f = frame c tree ready listed in
-    ap (λ (n : NodeState). n.told) (c.index.ensures ∙ get_or_default _ c.args.first c.index.result.now unasked (omega (arith, f.nodes, ready.held.nodes, nodes-some tree)))
+returns-clause-truth c tree can w h is stand waits =
+    let d = all-done c tree can w h is stand waits in
+    let f = frame c tree can in
+    ap (λ (n : NodeState). n.told) (c.index.ensures ∙ get_or_default _ c.args.first c.index.result.now unasked (omega (arith, f.nodes, can.ready.held.nodes, nodes-some tree)))
     ∙ d.told
 
 pub returns-clause-due : goal.returns-clause-due
 unfolding last
-returns-clause-due c tree ready listed w h is stand waits = (all-done c tree ready listed w h is stand waits).due
+returns-clause-due c tree can w h is stand waits = (all-done c tree can w h is stand waits).due
 
 pub returns-clause-wake : goal.returns-clause-wake
 unfolding last
-returns-clause-wake c tree ready listed w h is stand waits = (frame c tree ready listed).due
+returns-clause-wake c tree can w h is stand waits = (frame c tree can).due
 
 pub returns-clause-stands : goal.returns-clause-stands
 unfolding last
-returns-clause-stands c tree ready listed w h is stand waits = (all-done c tree ready listed w h is stand waits).stands
+returns-clause-stands c tree can w h is stand waits = (all-done c tree can w h is stand waits).stands
 
 pub returns-clause-nodes : goal.returns-clause-nodes
 unfolding last
-returns-clause-nodes c tree ready listed w h is stand waits = (all-done c tree ready listed w h is stand waits).nodes
+returns-clause-nodes c tree can w h is stand waits = (all-done c tree can w h is stand waits).nodes
 
 pub returns-clause-within : goal.returns-clause-within
 unfolding last
-returns-clause-within c tree ready listed =
-    let f = frame c tree ready listed in
+returns-clause-within c tree can =
+    let f = frame c tree can in
     record {
       nodes = f.nodes;
       slots = f.slots;
@@ -121,8 +117,8 @@ returns-clause-within c tree ready listed =
 
 pub returns-clause-before : goal.returns-clause-before
 unfolding last
-returns-clause-before c tree ready listed i less = (frame c tree ready listed).cells i (inl less)
+returns-clause-before c tree can i less = (frame c tree can).cells i (inl less)
 
 pub returns-clause-behind : goal.returns-clause-behind
 unfolding last
-returns-clause-behind c tree ready listed i from = (frame c tree ready listed).cells i (inr from)
+returns-clause-behind c tree can i from = (frame c tree can).cells i (inr from)

@@ -1,43 +1,35 @@
-use Rattle.std.proofs.Common.{◌≡◌, suc, ◌+◌, ◌<◌, ◌^◌, length, rules, sym, ◌∙◌, ap, subst, arith}
+use Rattle.std.proofs.Common.{◌≡◌, suc, ◌+◌, length, sym, ◌∙◌, ap, subst, arith}
 use Rattle.std.proofs.lemmas.List.{with_items_is}
 use Rattle.std.specs.Vec.{with_items}
 use Rattle.term_eval.specs.Memory.{NodeMemory}
 use Rattle.term_eval.specs.Climb.{Climbed, climb, CanClimb}
 use Rattle.term_eval.specs.NodeState.{state_at, NodesWait, Within, also}
 use Rattle.ecam_spec.specs.TermSize.{nodes, slots}
-use Rattle.term_eval.proofs.CodeParts.{heads-one, can-climb, length-steps}
+use Rattle.term_eval.proofs.CodeParts.{heads-one}
+use Rattle.term_eval.proofs.Linking.{can-climb, length-links}
 use Rattle.term_eval.proofs.Climbing.{kept_by}
 use Rattle.term_eval.proofs.ClimbLeaves.{climb-leaves}
 use Rattle.term_eval.proofs.Turning.{lent, turned-waits, turned-within}
 use Rattle.term_eval.proofs.nodes.Nodes.turn.Goals as goal
 
-pub bounds-steps-node : goal.bounds-steps-node
-bounds-steps-node c =
-    let (tree, at, ready, within) = c.requires.held in
-    let long = length-steps tree at c.args.steps.now ready.code in
-    omega arith
-
-pub offset_bounds-steps-node : goal.offset_bounds-steps-node
-offset_bounds-steps-node c = let within : c.args.node < length c.args.steps.now = bounds-steps-node c in search rules
-
 pub climb-requires-clause-node : goal.climb-requires-clause-node
 climb-requires-clause-node c =
-    let (tree, at, ready, within) = c.requires.held in
-    let long = length-steps tree at c.args.steps.now ready.code in
+    let (tree, at, ready, within) = c.requires in
+    let long = length-links tree at c.args.links.now ready.links in
     omega arith
 
 pub climb-requires-clause-can : goal.climb-requires-clause-can
 climb-requires-clause-can c =
-    let (tree, at, ready, within) = c.requires.held in
+    let (tree, at, ready, within) = c.requires in
     let states = c.deref_mut.ensures.value ∙ ap (λ (n : NodeMemory). n.states) c.self.view_is in
     let wakes = c.deref_mut-2.ensures.value ∙ ap (λ (n : NodeMemory). n.wakes) c.self.view_is in
-    subst (λ m. CanClimb c.args.steps.now c.args.first m (length c.deref_mut-2.result.now)) (sym (ap length states))
-    (subst (λ m. CanClimb c.args.steps.now c.args.first (length c.args.self.now.states) m) (sym (ap length wakes))
-    (can-climb tree at c.args.first c.args.self.now c.args.steps.now ready))
+    subst (λ m. CanClimb c.args.links.now c.args.first m (length c.deref_mut-2.result.now)) (sym (ap length states))
+    (subst (λ m. CanClimb c.args.links.now c.args.first (length c.args.self.now.states) m) (sym (ap length wakes))
+    (can-climb tree at c.args.first c.args.self.now c.args.links.now ready))
 
 -- what the climb left, as what is kept
 ran : (c : goal.After-self-2-1) →
-    climb (suc c.args.node) c.args.steps.now c.args.first c.args.node c.atom_says-holds.result c.args.self.now.states c.args.self.now.wakes
+    climb (suc c.args.node) c.args.links.now c.args.first c.args.node c.args.holds c.args.self.now.states c.args.self.now.wakes
     ≡ record {
       states = (with_items c.self.inside.states.items c.climb.new.states).items;
       wakes = (with_items c.self.inside.wakes.items c.climb.new.wakes).items;
@@ -48,36 +40,33 @@ ran c =
     let wakes = c.deref_mut-2.ensures.value ∙ ap (λ (n : NodeMemory). n.wakes) c.self.view_is in
     let new_states = with_items_is c.self.inside.states.items c.climb.new.states (c.climb.auto.states ∙ ap length c.deref_mut.ensures.value ∙ sym c.self.inside.states.items.ok.0) in
     let new_wakes = with_items_is c.self.inside.wakes.items c.climb.new.wakes (c.climb.auto.wakes ∙ ap length c.deref_mut-2.ensures.value ∙ sym c.self.inside.wakes.items.ok.0) in
-    lent c.args.steps.now c.args.first c.args.node c.atom_says-holds.result c.climb.result c.args.self.now _ _ _ _ _ states wakes new_states new_wakes c.climb.ensures
+    lent c.args.links.now c.args.first c.args.node c.args.holds c.climb.result c.args.self.now _ _ _ _ _ states wakes new_states new_wakes c.climb.ensures
 
 pub returns-clause-waits : goal.returns-clause-waits
-returns-clause-waits c tree at ready w h updated x atoms asks reads waits =
-    let states = c.deref_mut.ensures.value ∙ ap (λ (n : NodeMemory). n.states) c.self.view_is in
-    let few : length c.args.self.now.states < 2 ^ 64 = omega (arith, ap length states, c.deref_mut.type_inv.0) in
+returns-clause-waits c tree at ready w h updated x reading atoms asks reads is waits =
     subst (λ (done : Climbed). NodesWait w h (also c.args.node updated) tree at c.args.first (kept_by done)) (ran c)
-    (turned-waits w h updated tree at c.args.first c.args.node x c.args.reading c.args.self.now c.args.steps.now c.atom_says-holds.result ready few
-    atoms asks reads c.atom_says-holds.ensures waits)
+    (turned-waits w h updated tree at c.args.first c.args.node x reading c.args.self.now c.args.links.now c.args.holds ready atoms asks reads is waits)
 
 pub returns-clause-within : goal.returns-clause-within
 returns-clause-within c tree at ready =
-    let (other, place, fits, within) = c.requires.held in
-    let long = length-steps other place c.args.steps.now fits.code in
-    let same = length-steps tree at c.args.steps.now ready.code in
+    let (other, place, fits, within) = c.requires in
+    let long = length-links other place c.args.links.now fits.links in
+    let same = length-links tree at c.args.links.now ready.links in
     subst (λ (done : Climbed). Within c.args.first (c.args.first + nodes tree) at (at + slots tree) c.args.self.now (kept_by done)) (ran c)
-    (turned-within tree at c.args.first c.args.node c.args.self.now c.args.steps.now c.atom_says-holds.result ready (omega arith))
+    (turned-within tree at c.args.first c.args.node c.args.self.now c.args.links.now c.args.holds ready (omega arith))
 
 pub returns-clause-wakes : goal.returns-clause-wakes
 returns-clause-wakes c none =
-    let (tree, at, ready, within) = c.requires.held in
+    let (tree, at, ready, within) = c.requires in
     let y = heads-one tree at c.args.node within in
     ap (λ (done : Climbed). done.wakes) (sym (ran c))
-    ∙ (climb-leaves tree at c.args.first c.args.node y.0 c.args.self.now c.args.steps.now c.atom_says-holds.result ready y.1).quiet
+    ∙ (climb-leaves tree at c.args.first c.args.node y.0 c.args.self.now c.args.links.now c.args.holds ready y.1).quiet
     (ap (λ (done : Climbed). done.stirs) (ran c) ∙ none)
 
 pub returns-clause-told : goal.returns-clause-told
 returns-clause-told c none =
-    let (tree, at, ready, within) = c.requires.held in
+    let (tree, at, ready, within) = c.requires in
     let y = heads-one tree at c.args.node within in
     ap (λ (done : Climbed). (state_at done.states c.args.first).told) (sym (ran c))
-    ∙ (climb-leaves tree at c.args.first c.args.node y.0 c.args.self.now c.args.steps.now c.atom_says-holds.result ready y.1).first_told
+    ∙ (climb-leaves tree at c.args.first c.args.node y.0 c.args.self.now c.args.links.now c.args.holds ready y.1).first_told
     (ap (λ (done : Climbed). done.stirs) (ran c) ∙ none)
