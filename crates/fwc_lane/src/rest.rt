@@ -28,7 +28,8 @@ use wakes::Wakes;
 impl Lane {
     /// Whether it is known that nothing changes in the moment, after which these computers are up, since nothing did in the
     /// one before: no key came, the same computers were up in it, no condition is due, no parameter may have another value,
-    /// and no word's freshness may end with it. Its cost is seven looks, and at most one more for each 64 parameters.
+    /// and no word's freshness may end with it. Its cost is seven looks, and at most one more for each 64 parameters; where
+    /// conditions or sources wait for the moment, also one for each 64 and one at each that waits.
     #[inline(always)]
     pub(crate) fn idles(&self, book: &Book, one_up: bool, two_up: bool) -> bool
         requires fits { LaneFits (the_book book.now) self.now }
@@ -82,6 +83,7 @@ impl Lane {
         self.marks.pass();
         self.attention.go_on();
         self.selector.pass();
+        self.terms.dues.pass(self.moments);
         self.moments += 1;
         self.params.pass(book);
         self.keys.pass();
@@ -144,6 +146,7 @@ impl Lane {
         self.marks.rest();
         self.attention.pass();
         self.selector.rest();
+        self.terms.dues.pass(self.moments);
         self.moments += 1;
         self.params.tick(book);
         self.keys.pass();

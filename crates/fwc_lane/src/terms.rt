@@ -114,7 +114,7 @@ impl Terms {
     }
 
     /// Takes over what is kept of the same book's conditions by another lane, but for the count of visits. Its cost is a
-    /// write a node, two a slot, and a write a condition with the setting of its due moment.
+    /// write a node, two a slot, and a few a condition.
     pub fn copy_from(&mut self, other: &Terms)
         requires { (b : plain.Book) × TermsFit b self.old × TermsFit b other.now }
         ensures fits { (b : plain.Book) → TermsFit b self.old → TermsFit b self.new }

@@ -301,6 +301,7 @@ pub fn wake_first(
     woken.clear();
     stirred.clear();
     if now == 0 {
+        dues.pass(now);
         wake_all(woken, stirred, cells, codes, count);
         return;
     }
@@ -367,11 +368,9 @@ fn wake_due(
         → IsCounted (places b) visited woken.old cells.old.visits
         → IsCounted (places b) visited woken.new cells.new.visits }
 {
-    while let Some(next) = dues.first(now) {
+    while let Some(next) = dues.take(now) {
         mark_counted(woken, cells, next, codes.size(next));
         stirred.mark(next);
-        // So that it isn't found again.
-        dues.set(next, u64::MAX);
     }
 }
 

@@ -1,7 +1,9 @@
 -- What the places hold, step by step, and when each is looked at.
-use Rattle.std.proofs.Common.{◌≡◌, ℕ, zero, suc, ◌-◌, ◌^◌, ◌<◌, ◌≤◌, Bool, true, false, leb, ltb, List, [], ◌∷◌, length, set, slice_index, Option, Some, None, cond, refl, ap, ◌∙◌, arith}
-use Rattle.std.proofs.lemmas.Bool.{false≢true}
+use Rattle.std.proofs.Common.{◌≡◌, ◌≢◌, ℕ, zero, suc, ◌-◌, ◌/◌, ◌^◌, ◌<◌, ◌≤◌, ◌==◌, ◌&&◌, ◌||◌, Bool, true, false, leb, ltb, List, [], ◌∷◌, length, get_or, set, slice_index, Option, Some, None, cond, refl, sym, ap, subst, ◌∙◌, inl, inr, arith}
+use Rattle.std.proofs.lemmas.Bool.{false≢true, cases_eq, eq-eqb, ne_eqb}
+use Rattle.std.proofs.lemmas.List.{get_or-set_same, get_or-set_other}
 use Rattle.std.proofs.lemmas.Bool.Decides.{nat_tests}
+use Rattle.wakes.specs.Marks.{is_marked}
 use Rattle.param_table.specs.declared.received.Received.{Received}
 use Rattle.param_table.specs.declared.held.Held.{Held}
 use Rattle.param_table.specs.HeldValues.{given, is_ending, next_look}
@@ -24,6 +26,12 @@ fewer now (x ∷ xs) (suc i) key within come late = more (leb x now) (fewer now 
   more : (b : Bool) → come_by now (set xs i key) < come_by now xs → cond b (suc (come_by now (set xs i key))) (come_by now (set xs i key)) < cond b (suc (come_by now xs)) (come_by now xs)
   more true less = omega arith
   more false less = less
+
+-- what was written twice has what was written last
+pub set_set : (xs : List ℕ) (i x y : ℕ) → set (set xs i x) i y ≡ set xs i y
+set_set [] i x y = refl
+set_set (a ∷ xs) zero x y = refl
+set_set (a ∷ xs) (suc i) x y = ap (λ l. a ∷ l) (set_set xs i x y)
 
 pub renews_none : (clock : ℕ) (h : Held) → Renews clock h h
 renews_none clock h = record { marks = λ q off. (off, refl); due = λ due. due }
@@ -67,3 +75,43 @@ still_given clock None e = refl
 still_given clock (Some r) e =
     let same : ltb (suc clock) r.end ≡ ltb clock r.end = grind (arith, nat_tests) in
     ap (λ b. cond b r.value None) same
+
+-- one place was looked at, and is looked at next in time
+module _ (clock : ℕ) (received : List (Option Received)) (dues : List ℕ) (place : ℕ) (within : place < length dues) where
+  looked : (q : ℕ) → q ≢ place → slice_index (set dues place (next_look clock (get_or received place None))) q ≡ slice_index dues q
+  looked q ne = get_or-set_other dues place q _ 0 ne
+
+  pub looked_due : ((q : ℕ) → IsDue clock (get_or received q None) (slice_index dues q))
+      → (q : ℕ) → IsDue clock (get_or received q None) (slice_index (set dues place (next_look clock (get_or received place None))) q)
+  looked_due was q = elim (cases_eq q place) [
+    | inl e ↦
+        subst (λ n. IsDue clock (get_or received n None) (slice_index (set dues place (next_look clock (get_or received place None))) n)) (sym e)
+        (subst (IsDue clock (get_or received place None)) (sym (get_or-set_same dues place _ 0 within)) (next_due clock (get_or received place None)))
+    | inr ne ↦ subst (IsDue clock (get_or received q None)) (sym (looked q ne)) (was q)
+  ]
+
+  module _ (old new : List ℕ) (marks : (p : ℕ) → is_marked new p ≡ ((is_ending clock (get_or received place None) && p == place / 3) || is_marked old p)) where
+    apart : (a b : Bool) → (a || b) ≡ false → (a ≡ false) × (b ≡ false)
+    apart false b is = (refl, is)
+    apart true b is = absurd (false≢true (sym is))
+
+    pub looked_ending : ((q : ℕ) → is_marked old (q / 3) ≡ false → is_ending clock (get_or received q None) ≡ true → slice_index dues q ≤ clock)
+        → (q : ℕ) → is_marked new (q / 3) ≡ false → is_ending clock (get_or received q None) ≡ true → slice_index (set dues place (next_look clock (get_or received place None))) q ≤ clock
+    looked_ending was q off ends =
+        let both = apart _ _ (sym (marks (q / 3)) ∙ off) in
+        elim (cases_eq q place) [
+          | inl e ↦
+              let own : is_ending clock (get_or received place None) ≡ true = ap (λ n. is_ending clock (get_or received n None)) (sym e) ∙ ends in
+              absurd (false≢true (sym both.0 ∙ (ap (λ b. b && q / 3 == place / 3) own ∙ eq-eqb (q / 3) (place / 3) (ap (λ n. n / 3) e))))
+          | inr ne ↦ subst (λ key. key ≤ clock) (sym (looked q ne)) (was q both.1 ends)
+        ]
+
+    pub looked_others : (p : ℕ) → is_marked old p ≡ false → ((q : ℕ) → q / 3 ≡ p → is_ending clock (get_or received q None) ≡ false) → is_marked new p ≡ false
+    looked_others p off none = elim (cases_eq p (place / 3)) [
+      | inl e ↦ marks p ∙ ap (λ b. (b && p == place / 3) || is_marked old p) (none place (sym e)) ∙ off
+      | inr ne ↦ marks p ∙ ap (λ b. (is_ending clock (get_or received place None) && b) || is_marked old p) (ne_eqb p (place / 3) ne) ∙ and_none (is_ending clock (get_or received place None)) ∙ off
+    ]
+      where
+        and_none : (b : Bool) → ((b && false) || is_marked old p) ≡ is_marked old p
+        and_none true = refl
+        and_none false = refl

@@ -5,7 +5,7 @@ use Rattle.ecam_spec.specs.declared.kinds.Kind.{Kind}
 use Rattle.ecam_spec.specs.Book.{Source}
 use Rattle.ecam_spec.specs.Value.{reading, has_sdi}
 use Rattle.book_model.specs.View.{source_of}
-use Rattle.wakes.specs.Tournament.{never}
+use Rattle.wakes.specs.Due.{never}
 use Rattle.param_table.specs.declared.received.Received.{Received}
 use Rattle.param_table.specs.declared.rules.Rule.{Rule}
 

@@ -95,29 +95,7 @@ impl Held {
             → is_ending clock (slice_index_or self.old.received.items.items q None) ≡ false)
             → is_marked self.new.changed p ≡ false }
     {
-        if self.dues.first(u64::from(clock)).is_some() {
-            self.look_at_each_due(clock);
-        }
-    }
-
-    // The same, where one may be there. (It stands by itself, so that a moment in which nothing is due costs no call.)
-    #[inline(never)]
-    fn look_at_each_due(&mut self, clock: u32)
-        requires dues { length self.old.dues ≡ length self.old.received.items.items }
-        requires room { (q : ℕ) → q < length self.old.dues → q / 3 < room self.old.changed }
-        ensures received { self.new.received ≡ self.old.received }
-        ensures room { room self.new.changed ≡ room self.old.changed }
-        ensures dues { length self.new.dues ≡ length self.old.dues }
-        ensures due { WillLook clock self.old → AreDue clock self.new }
-        ensures marks { WillLook clock self.old → (q : ℕ)
-            → is_marked self.new.changed (q / 3) ≡ false
-            → is_ending clock (slice_index_or self.old.received.items.items q None) ≡ false }
-        ensures others { (p : ℕ) → is_marked self.old.changed p ≡ false
-            → ((q : ℕ) → q / 3 ≡ p
-            → is_ending clock (slice_index_or self.old.received.items.items q None) ≡ false)
-            → is_marked self.new.changed p ≡ false }
-    {
-        while let Some(place) = self.dues.first(u64::from(clock)) {
+        while let Some(place) = self.dues.take(u64::from(clock)) {
             self.look(clock, place);
         }
     }

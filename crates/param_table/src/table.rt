@@ -65,8 +65,7 @@ impl Params {
         self.held.dues.clear();
     }
 
-    /// Takes over the words and the moments of another table of the same book. Its cost is one write a source, and
-    /// one `set` of the time at which it is looked at.
+    /// Takes over the words and the moments of another table of the same book. Its cost is a few writes a source.
     pub fn copy_from(&mut self, other: &Params)
         requires { (b : plain.Book) × ParamsFit b self.old × ParamsFit b other.now }
         ensures fits { (b : plain.Book) → ParamsFit b self.old → ParamsFit b other.now
@@ -125,8 +124,8 @@ impl Params {
     }
 
     /// The moment ends. What is fresh is told by the clock, so that a Tick costs a look at the sources whose freshness
-    /// may end with it, no more looks in all than words, and a write for each 64 parameters; but one in 2^31 costs a few
-    /// writes a source.
+    /// may end with it, one at each of the others in 63 moments, and a write for each 64 parameters; but the first and one
+    /// in 2^31 cost a few writes a source.
     #[inline(always)]
     pub fn tick(&mut self, _book: &Book)
         requires { ParamsFit (the_book _book.now) self.old }
@@ -145,7 +144,7 @@ impl Params {
 
     /// Whether it is known that the end of the moment changes nothing but the clock: no parameter may have another value than
     /// in the moment before, and the freshness of no word may end with this one. Its cost is three looks, and at most one
-    /// more for each 64 parameters.
+    /// more for each 64 parameters; where sources wait for the moment, also one for each 64 and one at each that waits.
     #[inline(always)]
     pub fn is_still(&self, _book: &Book) -> bool
         requires { ParamsFit (the_book _book.now) self.now }
@@ -161,7 +160,8 @@ impl Params {
             && self.held.changed.first_from(0).is_none()
     }
 
-    /// The moment ends like by `tick`, where nothing but the clock changes. Its cost is one write.
+    /// The moment ends like by `tick`, where nothing but the clock changes. Its cost is two writes; where sources wait for
+    /// the moment, also a look for each 64 and a few writes for each that waits.
     #[inline(always)]
     pub fn pass(&mut self, _book: &Book)
         requires fits { ParamsFit (the_book _book.now) self.old }
@@ -172,6 +172,7 @@ impl Params {
             → ParamsStand (the_book _book.now) words (suc k) self.new }
     {
         self.clock += 1;
+        self.held.dues.pass(u64::from(self.clock));
     }
 
     /// The value of a parameter in the moment that hasn't ended, by the words so far: `None` exactly where no

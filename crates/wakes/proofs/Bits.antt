@@ -1,5 +1,5 @@
 -- One bit of some words is set or cleared, and the first is found.
-use Rattle.std.proofs.Common.{◌≡◌, ◌≢◌, ℕ, ◌+◌, ◌-◌, ◌*◌, ◌/◌, ◌%◌, ◌^◌, ◌<◌, ◌≤◌, false, not, ◌&&◌, ◌||◌, ◌==◌, List, length, get_or, set, slice_index, bit_or, bit_and, sym, ap, ◌∙◌, Option, None, Some, inl, inr, arith}
+use Rattle.std.proofs.Common.{◌≡◌, ◌≢◌, ℕ, ◌+◌, ◌-◌, ◌*◌, ◌/◌, ◌%◌, ◌^◌, ◌<◌, ◌≤◌, false, not, ◌&&◌, ◌||◌, ◌==◌, List, length, get_or, set, slice_index, bit_or, bit_and, sym, ap, ◌∙◌, inl, inr, arith}
 use Rattle.std.proofs.lemmas.List.{get_or-set_same, get_or-set_other, get_or_default, length-set}
 use Rattle.std.proofs.Math.Bool.{and-false}
 use Rattle.std.proofs.lemmas.Bool.{cases_eq, cases_lt, eq-eqb, ne_eqb}
@@ -9,7 +9,7 @@ use Rattle.std.proofs.Common.{lt_of_lt_of_le, suc-ne-zero}
 use lib.Pow.{pow_mono}
 use native.Mathlib.Nat.{div-eq_of_lt}
 use Rattle.std.specs.Int.{w64, bit_at}
-use Rattle.wakes.specs.Marks.{is_marked, IsNext, Finds}
+use Rattle.wakes.specs.Marks.{is_marked, IsNext}
 use Rattle.wakes.specs.MarkedEnd.{EndsAt}
 
 -- of two numbers in one word
@@ -137,21 +137,15 @@ module _ (words : List ℕ) (from p s v : ℕ) (starts : 64 * p + s ≡ from) (h
           ap (is_marked words) (sym at) ∙ marked-at (j - from) (omega (arith, fits)) ∙ ap (λ x. x == 1) (lowest (j - from) (omega arith));
     }
 
--- what was found behind is the first, where none stands before
-pub next-behind : (words : List ℕ) (from later i : ℕ) → from ≤ later → ((j : ℕ) → from ≤ j → j < later → is_marked words j ≡ false) → IsNext words later i → IsNext words from i
-next-behind words from later i le none next = record {
-  within = next.within;
-  behind = omega (arith, next.behind);
-  is = next.is;
-  first = λ j low lt. elim (cases_lt j later) [
-    | inl before ↦ none j low before
-    | inr after ↦ next.first j after lt
-  ];
-}
+-- the first marked number is in the word where the search begins
+module _ (words : List ℕ) (from v : ℕ) (within : from / 64 < length words) (here : v ≡ get_or words (from / 64) v) where
+  at : slice_index words (from / 64) ≡ v
+  at = get_or_default words (from / 64) 0 v within ∙ sym here
 
-pub finds-behind : (words : List ℕ) (from later : ℕ) (found : Option ℕ) → from ≤ later → ((j : ℕ) → from ≤ j → j < later → is_marked words j ≡ false) → Finds words later found → Finds words from found
-finds-behind words from later None le none rest = λ j low. elim (cases_lt j later) [
-  | inl before ↦ none j low before
-  | inr after ↦ rest j after
-]
-finds-behind words from later (Some i) le none next = next-behind words from later i le none next
+  pub next-here : (rest low : ℕ) → rest ≡ v / 2 ^ (from % 64) → v < 2 ^ 64 → bit_at rest low ≡ 1 → ((i : ℕ) → i < low → bit_at rest i ≡ 0) → IsNext words from (from + low)
+  next-here rest low is small there lowest =
+      lowest-next words from (from / 64) (from % 64) v (omega arith) at low within small (ap (λ r. bit_at r low) (sym is) ∙ there) (λ i lt. ap (λ r. bit_at r i) (sym is) ∙ lowest i lt)
+
+  -- or it isn't
+  pub next-later : (rest : ℕ) → rest ≡ v / 2 ^ (from % 64) → rest ≡ 0 → (j : ℕ) → from ≤ j → j < 64 * (from / 64 + 1) → is_marked words j ≡ false
+  next-later rest is none = none-here words from (from / 64) (from % 64) v (omega arith) at (sym is ∙ none)

@@ -1,4 +1,4 @@
 pub mod Bits
 pub mod Joining
-pub mod Sifting
-pub mod Descent
+pub mod Places
+pub mod Wheels

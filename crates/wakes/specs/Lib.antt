@@ -1,3 +1,4 @@
 pub mod Marks
 pub mod MarkedEnd
-pub mod Tournament
+pub mod Due
+pub mod Turning

@@ -4,6 +4,6 @@ use Rattle.wakes.specs.Marks.{is_marked, room}
 
 -- no number from `end` on is marked in these words, of which there are few
 pub record EndsAt (words : List ℕ) (end : ℕ) : Type 0 where
-  pub few : length words ≤ 2 ^ 32
+  pub few : length words ≤ 2 ^ 33
   pub within : end ≤ room words
   pub none : (i : ℕ) → end ≤ i → is_marked words i ≡ false

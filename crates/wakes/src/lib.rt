@@ -3,8 +3,10 @@
 
 mod due;
 mod marked;
+mod rows;
 #[cfg(test)]
 mod tests;
+mod wheel;
 
 pub use due::Wakes;
 pub use marked::Marked;

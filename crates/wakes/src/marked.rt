@@ -1,5 +1,5 @@
 // A set of numbers that is gone through in their order.
-ghost use Rattle.std.specs.Prelude.{◌≡◌, ℕ, ◌+◌, ◌*◌, ◌/◌, ◌<◌, ◌≤◌, ◌^◌, ◌==◌, ◌||◌, ◌&&◌, not, true, false, List, length, IfOk};
+ghost use Rattle.std.specs.Prelude.{◌≡◌, ℕ, ◌+◌, ◌*◌, ◌/◌, ◌<◌, ◌≤◌, ◌^◌, ◌==◌, ◌||◌, ◌&&◌, min, not, true, false, List, length, IfOk};
 ghost use Rattle.std.specs.Int.{bit_at};
 ghost use Rattle.std.specs.Box.{boxed_slice_items};
 ghost use Rattle.wakes.specs.Marks.{is_marked, room, Finds};
@@ -34,8 +34,17 @@ impl Marked {
         ensures size { IfOk result (λ s. room s ≡ 64 * (count / 64 + 1)) }
         ensures none { IfOk result (λ s. (i : ℕ) → is_marked s i ≡ false) }
     {
+        Marked::of_words(alloc, count / 64 + 1)
+    }
+
+    /// The empty set with room for 64 numbers a word. An error is want of memory.
+    pub fn of_words(alloc: Global, words: usize) -> Result<Marked, AllocError>
+        requires { words ≤ 2 ^ 33 }
+        ensures room { IfOk result (λ s. room s ≡ 64 * words) }
+        ensures none { IfOk result (λ s. (i : ℕ) → is_marked s i ≡ false) }
+    {
         Ok(Marked {
-            words: vec![in alloc; 0u64; count / 64 + 1]?.into_boxed_slice(),
+            words: vec![in alloc; 0u64; words]?.into_boxed_slice(),
             end: 0,
         })
     }
@@ -120,12 +129,29 @@ impl Marked {
         if from >= self.end {
             return None;
         }
+        let next = self.next_or(from, self.end);
+        if next < self.end { Some(next) } else { None }
+    }
+
+    /// The first number of the set from `from` on that is less than `end`, or `end`. Its cost is one look for each 64 numbers
+    /// that it goes over.
+    #[inline(always)]
+    pub fn next_or(&self, from: usize, end: usize) -> usize
+        requires { from ≤ end }
+        ensures from { from ≤ result }
+        ensures end { result ≤ end }
+        ensures marked { result < end → is_marked self.now result ≡ true }
+        ensures none { (i : ℕ) → from ≤ i → i < result → is_marked self.now i ≡ false }
+    {
+        if from >= self.end.min(end) {
+            return end;
+        }
         let place = from / 64;
         let rest = bits_from(self.words[place], from % 64);
         if rest != 0 {
-            return Some(from + lowest(rest));
+            return end.min(from + lowest(rest));
         }
-        first_in(&self.words, place + 1)
+        next_in(&self.words, place + 1, end)
     }
 }
 
@@ -141,18 +167,21 @@ fn join_words(words: &mut [u64], others: &[u64])
     }
 }
 
-// The first number with a bit, from a word on.
-fn first_in(words: &[u64], start: usize) -> Option<usize>
-    requires few { length words.now ≤ 2 ^ 32 }
-    ensures { Finds words.now (64 * start) result }
+// The first number with a bit, from a word on, that is less than `end`, or `end`.
+fn next_in(words: &[u64], start: usize, end: usize) -> usize
+    requires few { length words.now ≤ 2 ^ 33 }
+    ensures from { min (64 * start) end ≤ result }
+    ensures end { result ≤ end }
+    ensures marked { result < end → is_marked words.now result ≡ true }
+    ensures none { (i : ℕ) → 64 * start ≤ i → i < result → is_marked words.now i ≡ false }
 {
-    for i in start..words.len() {
+    for i in start..words.len().min(end.div_ceil(64)) {
         let word = words[i];
         if word != 0 {
-            return Some(64 * i + lowest(word));
+            return end.min(64 * i + lowest(word));
         }
     }
-    None
+    end
 }
 
 // The bits of a word from one on.

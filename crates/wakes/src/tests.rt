@@ -45,3 +45,41 @@ fn finds_the_first_that_is_due(rt: HostRuntime) -> Result<(), Fail> {
     assert_eq!(rt; wakes.first(10), None);
     Ok(())
 }
+
+// The first that is due in a plain list.
+fn first_in_list(keys: &[u64], now: u64) -> Option<usize> {
+    for item in 0..keys.len() {
+        if keys[item] <= now {
+            return Some(item);
+        }
+    }
+    None
+}
+
+#[test]
+fn takes_as_from_a_plain_list(rt: HostRuntime) -> Result<(), Fail> {
+    let mut wakes = Wakes::new(rt.alloc(), 150)?;
+    let mut keys = [u64::MAX; 150];
+    for step in 0..500u64 {
+        // Now and then some moments aren't asked of.
+        let now = step + step / 50 * 30;
+        for turn in 0..3u64 {
+            let item = ((step * 37 + turn * 59) % 150) as usize;
+            let key = now + (step * 31 + turn * 83) % 190;
+            wakes.set(item, key);
+            keys[item] = key;
+        }
+        assert_eq!(rt; wakes.first(now), first_in_list(&keys, now));
+        for _ in 0..6 {
+            let taken = wakes.take(now);
+            assert_eq!(rt; taken, first_in_list(&keys, now));
+            if let Some(item) = taken {
+                keys[item] = u64::MAX;
+            }
+        }
+        wakes.pass(now);
+        assert_eq!(rt; wakes.first(now), first_in_list(&keys, now));
+        assert_eq!(rt; wakes.first(now + 40), first_in_list(&keys, now + 40));
+    }
+    Ok(())
+}

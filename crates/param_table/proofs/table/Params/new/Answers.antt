@@ -1,6 +1,6 @@
 use Rattle.std.proofs.Common.{◌≡◌, ◌+◌, ◌*◌, ◌/◌, length, map, replicate, None, sym, ap, ◌∙◌, subst, arith}
 use Rattle.std.proofs.lemmas.List.{length-replicate, length-map}
-use Rattle.wakes.specs.Tournament.{never}
+use Rattle.wakes.specs.Due.{never}
 use Rattle.book_model.specs.View.{parameter_of}
 use Rattle.book_model.specs.Sealed.{the_book}
 use Rattle.param_table.specs.Rules.{AreRules}
