@@ -145,6 +145,7 @@ module _ (b : Book) where
     stirred_room = omega (arith, fits.stirred_room, wakes.stirred_room);
     stirs = wakes.stirs fits.stirs;
     watch = fits.watch;
+    line_alerts = fits.line_alerts;
   }
 
   -- the nodes of an operand's list can be told

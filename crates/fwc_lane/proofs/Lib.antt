@@ -22,6 +22,7 @@ pub mod FlightSteps
 pub mod AlertSteps
 pub mod FlagSteps
 pub mod LineOwners
+pub mod LineAlerts
 pub mod ProcedureSteps
 pub mod MemoSteps
 pub mod ConditionsRest

@@ -20,7 +20,7 @@ before-more (x ∷ xs) (suc a) (suc c) le =
     omega (arith, length-append x.lines (lines_of (take a xs)), length-append x.lines (lines_of (take c xs)), before-more xs a c (omega arith))
 
 -- one alert more
-before-next : (xs : List Alert) (a : ℕ) (d : Alert) → a < length xs → length (lines_of (take a xs)) + length (get_or xs a d).lines ≡ length (lines_of (take (suc a) xs))
+pub before-next : (xs : List Alert) (a : ℕ) (d : Alert) → a < length xs → length (lines_of (take a xs)) + length (get_or xs a d).lines ≡ length (lines_of (take (suc a) xs))
 before-next [] a d lt = absurd (omega arith)
 before-next (x ∷ xs) zero d lt = omega (arith, length-append x.lines [])
 before-next (x ∷ xs) (suc a) d lt =

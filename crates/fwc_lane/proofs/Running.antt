@@ -89,6 +89,7 @@ run-fits b i start p truth due old new runs fits = subst (TermsFit b) (sym runs.
   stirred_room = fits.stirred_room;
   stirs = fits.stirs;
   watch = fits.watch;
+  line_alerts = fits.line_alerts;
 }
 
 pub run-steps : (b : Book) (env : Env) (k i : ℕ) (p : Placed) (truth : Bool) (due : ℕ) (old new : Terms) → k < 2 ^ 63 → slice_get (places b) i ≡ Some p → TermsFit b old

@@ -1,5 +1,5 @@
 -- The flags of the procedure lines, as far as their alerts are shown.
-use Rattle.std.specs.Prelude.{◌≡◌, ℕ, suc, ◌<◌, ◌≤◌, Bool, true, false, List, length, take, slice_index_or}
+use Rattle.std.specs.Prelude.{◌≡◌, ℕ, suc, ◌<◌, ◌≤◌, Bool, true, false, List, length, take, slice_index, slice_index_or, All}
 use Rattle.ecam_spec.specs.Book.{Book}
 use Rattle.ecam_spec.specs.BookTerms.{lines_of}
 
@@ -11,6 +11,12 @@ lines_before b a = length (lines_of (take a b.alerts))
 pub record HasLine (b : Book) (a n : ℕ) : Type 0 where
   pub from : lines_before b a ≤ n
   pub to : n < lines_before b (suc a)
+
+-- a list has, for each line of the book, the alert that has it
+pub record AreLineAlerts (b : Book) (alerts : List ℕ) : Type 0 where
+  pub lines : length alerts ≡ length (lines_of b.alerts)
+  pub within : All (λ a. a < length b.alerts) alerts
+  pub has : (n : ℕ) → n < length alerts → HasLine b (slice_index alerts n) n
 
 -- each line of an alert that is shown has the flag that it had
 abbrev pub KeepsShown : Book → List Bool → List Bool → List Bool → Type 0

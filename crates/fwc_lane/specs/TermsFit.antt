@@ -12,6 +12,7 @@ use Rattle.condition_codes.specs.Places.{nodes_before}
 use Rattle.condition_codes.specs.IsCodes.{IsCodes}
 use Rattle.condition_codes.specs.IsAskers.{IsAskers}
 use Rattle.fwc_lane.specs.declared.terms.Terms.{Terms}
+use Rattle.fwc_lane.specs.LineFlags.{AreLineAlerts}
 
 -- the lists tell which of the book's conditions name which operand
 abbrev pub Watches : Book → Watch → Type 0
@@ -36,6 +37,7 @@ pub record TermsFit (b : Book) (t : Terms) : Type 0 where
   pub stirred_room : length (places b) ≤ room t.stirred
   pub stirs : AreWoken t.woken t.stirred
   pub watch : Watches b t.watch
+  pub line_alerts : AreLineAlerts b t.line_alerts.items
 
 -- all that is kept of the moments so far was taken over from another's
 pub record TookTerms (other t : Terms) : Type 0 where

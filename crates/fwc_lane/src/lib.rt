@@ -17,6 +17,7 @@ mod drawing;
 mod flags;
 mod flight;
 mod lane;
+mod line_alerts;
 mod memos;
 mod next;
 mod numbers;

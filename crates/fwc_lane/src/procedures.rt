@@ -55,7 +55,7 @@ fn stands(when: bool, done: bool) -> bool
 /// Steps all lines by moment `now`: `flags` has, per line, whether it stands, and before it of the moment before. Answers
 /// whether the flag of any line turned whose alert is shown. Lines of which no condition is stirred stand where they stood,
 /// and aren't looked at. The cost is a look for each 64 conditions, a few for each line of which one is stirred, and what
-/// those cost that are. The alert of a line is sought only where its flag turned.
+/// those cost that are.
 pub fn step_lines(
     terms: &mut Terms,
     flags: &mut Vec<bool>,
@@ -97,7 +97,7 @@ pub fn step_lines(
     let mut next = 0;
     while let Some(line) = next_line(&terms.stirred, book, next) {
         let stands = step_line(terms, first + 2 * line, env, now);
-        let other = note_line(flags, book, shown, line, stands);
+        let other = note_line(flags, &terms.line_alerts, shown, line, stands);
         turned = is_either(turned, other);
         next = line + 1;
     }

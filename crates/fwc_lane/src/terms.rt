@@ -8,6 +8,7 @@ ghost use Rattle.condition_codes.specs.IsAskers.{IsAskers};
 ghost use Rattle.term_eval.specs.CellState.{StandForNone};
 ghost use Rattle.fwc_lane.specs.TermsFit.{TermsFit, TookTerms};
 
+use crate::line_alerts::alerts_of_lines;
 use crate::strokes::Strokes;
 use book_model::Book;
 use condition_codes::{Askers, Codes};
@@ -39,6 +40,8 @@ pub struct Terms {
     pub stirred: Marked,
     /// Which conditions name what. Nothing changes it.
     pub watch: Watch,
+    /// Per procedure line the alert that has it. Nothing changes it.
+    pub line_alerts: Vec<u32>,
     /// The keys as they were in the last moment.
     pub keys: Strokes,
     /// Computer 1 was up in the last moment.
@@ -87,6 +90,7 @@ impl Terms {
         let woken = Marked::new(alloc, count)?;
         let stirred = Marked::new(alloc, count)?;
         let watch = Watch::new(alloc, book)?;
+        let line_alerts = alerts_of_lines(alloc, book)?;
         Ok(Terms {
             codes,
             nodes,
@@ -97,6 +101,7 @@ impl Terms {
             woken,
             stirred,
             watch,
+            line_alerts,
             keys: Strokes::new(),
             one_up: false,
             two_up: false,

@@ -17,7 +17,7 @@ use crate::counts::FlagCounts;
 use crate::scene::{Scene, Turned};
 use book_model::Book;
 use ecam_kinds::{Picture, ROWS};
-use status_page::status_rows;
+use status_page::status_rows_among;
 use warning_display::{LeftCount, fill_flags, fill_lamps, fill_left, fill_right};
 
 // Whether anything that the left zone shows turned.
@@ -109,7 +109,12 @@ pub fn count_status(book: &Book, scene: &Scene<'_>, turned: Turned, was: u32) ->
     if !status_turned(turned, scene.truths.changed()) {
         return was;
     }
-    status_rows(book, scene.truths.active(), scene.marks.cancelled())
+    status_rows_among(
+        book,
+        scene.truths.near(),
+        scene.truths.active(),
+        scene.marks.cancelled(),
+    )
 }
 
 fn is_kept(first: bool, was: FlagCounts, counts: FlagCounts) -> bool

@@ -14,7 +14,6 @@ use Rattle.book_model.specs.declared.draft.Alert as code
 use Rattle.book_model.specs.declared.draft.Draft.{Draft}
 use Rattle.book_model.specs.Sealed.{IsSealed}
 use Rattle.book_model.proofs.BookLimits.{alert-sizes}
-use Rattle.book_model.proofs.LevelPlaces.{filter_below-more}
 use Rattle.book_model.specs.Told.{TellsBelow, flagged}
 use Rattle.status_page.specs.StatusOf.{rows_at, status_of}
 use Rattle.status_page.proofs.AtPlaces.{rows-told}
@@ -33,10 +32,6 @@ as_one false = refl
 pub one-few : (b : Bool) → bool_byte b ≤ 1
 one-few true = omega arith
 one-few false = omega arith
-
--- an alert that is active is one more of them
-pub active-more : (active : ℕ → Bool) (a : ℕ) → active a ≡ true → filter active (below (a + 1)) ≡ filter active (below a) ++ a ∷ []
-active-more active a is = filter_below-more active a ∙ ap (λ p. filter active (below a) ++ cond p (a ∷ []) []) is
 
 -- the lines of an alert are few
 pub lines-few : (d : Draft) → IsSealed d → (alerts : List code.Alert) (i : ℕ) (own : code.Alert) → alerts ≡ d.alerts.items → i < length alerts → own ≡ get_or alerts i own

@@ -1,4 +1,5 @@
 pub mod Behind
+pub mod ActiveBelow
 pub mod AtPlaces
 pub mod SectionRows
 pub mod CancelledRows

@@ -1,12 +1,14 @@
 // How many rows the status page has.
-ghost use Rattle.std.specs.Prelude.{◌≡◌, ◌+◌, ◌*◌, ◌≤◌, ℕ, Bool, length};
+ghost use Rattle.std.specs.Prelude.{◌≡◌, ◌+◌, ◌*◌, ◌≤◌, ℕ, Bool, length, get_or, true, false, IfSome};
 ghost use Rattle.ecam_spec.specs.declared.limits.TheConstants.{ALERTS, STATUS_LINES};
 ghost use Rattle.book_model.specs.Sealed.{the_book};
 ghost use Rattle.book_model.specs.Told.{TellsBelow};
+ghost use Rattle.wakes.specs.Marks.{is_marked};
 ghost use Rattle.status_page.specs.StatusOf.{status_of};
 
-use crate::active::next_active;
+use crate::near::next_known;
 use book_model::Book;
+use wakes::Marked;
 
 /// How many rows the status page has, on all its pages: the status lines of the active alerts, and where some of these
 /// alerts are cancelled, their heading and their titles. `active` and `cancelled` have a flag for each alert of the
@@ -20,14 +22,44 @@ pub fn status_rows(book: &Book, active: &[bool], cancelled: &[bool]) -> u32
         → TellsBelow (length book.now.alerts.items) cancelled.now is_cancelled
         → result ≡ length (status_of (the_book book.now) is_active is_cancelled) }
 {
+    count_rows(book, None, active, cancelled)
+}
+
+/// The same, where each active alert is near. Costs a look for each 64 alerts, at the flag of each near one, and at each
+/// active alert.
+pub fn status_rows_among(book: &Book, near: &Marked, active: &[bool], cancelled: &[bool]) -> u32
+    requires active { length active.now ≡ length book.now.alerts.items }
+    requires cancelled { length cancelled.now ≡ length book.now.alerts.items }
+    requires near { (a : ℕ) → get_or active.now a false ≡ true → is_marked near.now a ≡ true }
+    ensures few { result ≤ STATUS_LINES * ALERTS + ALERTS + 1 }
+    ensures rows { (is_active is_cancelled : ℕ → Bool)
+        → TellsBelow (length book.now.alerts.items) active.now is_active
+        → TellsBelow (length book.now.alerts.items) cancelled.now is_cancelled
+        → result ≡ length (status_of (the_book book.now) is_active is_cancelled) }
+{
+    count_rows(book, Some(near), active, cancelled)
+}
+
+// The same, where it may be known which alerts are near.
+fn count_rows(book: &Book, near: Option<&Marked>, active: &[bool], cancelled: &[bool]) -> u32
+    requires active { length active.now ≡ length book.now.alerts.items }
+    requires cancelled { length cancelled.now ≡ length book.now.alerts.items }
+    requires near { IfSome near (λ n. (a : ℕ) → get_or active.now a false ≡ true
+        → is_marked n.now a ≡ true) }
+    ensures few { result ≤ STATUS_LINES * ALERTS + ALERTS + 1 }
+    ensures rows { (is_active is_cancelled : ℕ → Bool)
+        → TellsBelow (length book.now.alerts.items) active.now is_active
+        → TellsBelow (length book.now.alerts.items) cancelled.now is_cancelled
+        → result ≡ length (status_of (the_book book.now) is_active is_cancelled) }
+{
     let alerts = book.alerts();
     let mut lines = 0u32;
     let mut titles = 0u32;
-    let mut next = next_active(active, 0);
+    let mut next = next_known(near, active, 0);
     while next < alerts.len() {
         lines += alerts[next].status.len() as u32;
         titles += u32::from(cancelled[next]);
-        next = next_active(active, next + 1);
+        next = next_known(near, active, next + 1);
     }
     if titles > 0 {
         lines + titles + 1

@@ -7,8 +7,9 @@ mod cancelled;
 mod count;
 mod fill;
 pub mod laws;
+mod near;
 mod place;
 mod sections;
 
-pub use count::status_rows;
+pub use count::{status_rows, status_rows_among};
 pub use fill::fill_status;

@@ -6,6 +6,7 @@ use Rattle.book_model.proofs.BookLists.{many-alerts}
 use Rattle.book_model.proofs.BookLimits.{sizes}
 use Rattle.book_model.proofs.BookLines.{few-lines-in-all}
 use Rattle.fwc_lane.specs.Conditions.{StepsLine}
+use Rattle.fwc_lane.specs.LineFlags.{AreLineAlerts}
 use Rattle.fwc_lane.proofs.FlagSteps.{set-length, left-false, right-false}
 use Rattle.fwc_lane.proofs.ProcedureSteps.{line-places, line-next, lines-begin, lines-past, lines-end, lines-told}
 use Rattle.fwc_lane.proofs.procedures.step_lines.Goals as goal
@@ -47,8 +48,18 @@ step_line-stands-requires-clause-places c =
       rw (c.requires.values, c.requires.active) also,
     )
 
-pub note_line-other-requires-clause-flags : goal.note_line-other-requires-clause-flags
-note_line-other-requires-clause-flags c = c.loop-line.invariant.flags ∙ c.requires.flags
+pub note_line-other-requires-clause-line : goal.note_line-other-requires-clause-line
+note_line-other-requires-clause-line c = omega (arith, c.in-Some.ensures.1, c.loop-line.invariant.flags, c.requires.flags)
+
+pub note_line-other-requires-clause-alerts : goal.note_line-other-requires-clause-alerts
+note_line-other-requires-clause-alerts c =
+    let fits = c.step_line-stands.ensures.fits (the_book c.args.book.now) c.loop-line.invariant.fits in
+    ap length c.deref.ensures.value ∙ fits.line_alerts.lines ∙ sym (c.loop-line.invariant.flags ∙ c.requires.flags)
+
+pub note_line-other-requires-clause-shown : goal.note_line-other-requires-clause-shown
+note_line-other-requires-clause-shown c =
+    let fits = c.step_line-stands.ensures.fits (the_book c.args.book.now) c.loop-line.invariant.fits in
+    rw (c.deref.ensures.value, c.requires.shown, sym (many-alerts c.args.book.now)) fits.line_alerts.within
 
 pub loop-line-preserved : goal.loop-line-preserved
 loop-line-preserved c =
@@ -73,7 +84,9 @@ loop-line-preserved c =
           (c.loop-line.invariant.stands m visits shows were half));
       kept = λ off.
           let none = sym c.is_either-turned.ensures ∙ off in
-          λ a n on has. c.note_line-other.ensures.kept (right-false _ _ none) a n on has ∙ c.loop-line.invariant.kept (left-false _ _ none) a n on has;
+          let fits = c.step_line-stands.ensures.fits b c.loop-line.invariant.fits in
+          let alerts = subst (AreLineAlerts b) (sym c.deref.ensures.value) fits.line_alerts in
+          λ a n on has. c.note_line-other.ensures.kept b alerts (right-false _ _ none) a n on has ∙ c.loop-line.invariant.kept (left-false _ _ none) a n on has;
     }
 
 pub returns-clause-told : goal.returns-clause-told

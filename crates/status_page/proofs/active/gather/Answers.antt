@@ -7,7 +7,7 @@ use Rattle.book_model.specs.Sealed.{the_book}
 use Rattle.book_model.specs.Told.{flagged}
 use Rattle.book_model.proofs.BookLists.{many-alerts}
 use Rattle.book_model.proofs.BookLimits.{sizes}
-use Rattle.status_page.proofs.Counting.{active-more}
+use Rattle.status_page.proofs.ActiveBelow.{active-more}
 use Rattle.status_page.proofs.active.gather.Goals as goal
 
 pub loop-next-init : goal.loop-next-init

@@ -18,4 +18,5 @@ returns-clause-fits c = record {
   stirred_room = omega (arith, c.in_ok-stirred.ensures.room, c.condition_count-count.ensures.count);
   stirs = λ j on. absurd (let clash : false ≡ true = sym (c.in_ok-stirred.ensures.none j) ∙ on in cc);
   watch = (c.args.book.now, refl, c.in_ok-watch.ensures);
+  line_alerts = c.in_ok-line_alerts.ensures;
 }

@@ -12,20 +12,21 @@ use Rattle.book_model.proofs.BookLists.{many-alerts}
 use Rattle.book_model.proofs.BookReads.{alert-read}
 use Rattle.book_model.proofs.BookLimits.{sizes, alert-sound}
 use Rattle.status_page.proofs.SectionRows.{section_count, count-none}
-use Rattle.status_page.proofs.Counting.{Sectioned, one-few, as_one, active-more, lines-few, lines-on, titles-on, total-told}
-use Rattle.status_page.proofs.count.status_rows.Goals as goal
+use Rattle.status_page.proofs.ActiveBelow.{active-more}
+use Rattle.status_page.proofs.Counting.{Sectioned, one-few, as_one, lines-few, lines-on, titles-on, total-told}
+use Rattle.status_page.proofs.count.count_rows.Goals as goal
 
 pub loop-next-init : goal.loop-next-init
 unfolding below
 loop-next-init c =
     let b = the_book c.args.book.now in
     record {
-      most = c.next_active-next.ensures.end;
-      active = c.next_active-next.ensures.active;
+      most = c.next_known-next.ensures.end;
+      active = c.next_known-next.ensures.active;
       few_lines = omega arith;
       few_titles = omega arith;
-      lines = sym (ap (λ xs. section_count (map (alert_at b) xs)) c.next_active-next.ensures.none ∙ count-none);
-      titles = sym (ap (λ xs. length (filter (flagged c.args.cancelled.now) xs)) c.next_active-next.ensures.none);
+      lines = sym (ap (λ xs. section_count (map (alert_at b) xs)) c.next_known-next.ensures.none ∙ count-none);
+      titles = sym (ap (λ xs. length (filter (flagged c.args.cancelled.now) xs)) c.next_known-next.ensures.none);
     }
 
 pub overflow_cast-lines : goal.overflow_cast-lines
@@ -63,12 +64,12 @@ loop-next-preserved c =
     let each : Sectioned (alert_at b next) = subst Sectioned (sym read) (λ j e h. (sound.status j e h).section) in
     let one = as_one (flagged c.args.cancelled.now next) in
     let is_active = c.loop-next.invariant.active (omega (arith, c.loop-next-test.true, ap length same, c.requires.active)) in
-    let more = sym (c.next_active-next-in-loop-next.ensures.none ∙ active-more active next is_active) in
+    let more = sym (c.next_known-next-in-loop-next.ensures.none ∙ active-more active next is_active) in
     record {
-      most = c.next_active-next-in-loop-next.ensures.end;
-      active = c.next_active-next-in-loop-next.ensures.active;
-      few_lines = omega (arith, c.loop-next.invariant.few_lines, few.1, c.next_active-next-in-loop-next.ensures.from);
-      few_titles = omega (arith, c.loop-next.invariant.few_titles, c.from-titles.ensures, one-few (flagged c.args.cancelled.now next), c.next_active-next-in-loop-next.ensures.from);
+      most = c.next_known-next-in-loop-next.ensures.end;
+      active = c.next_known-next-in-loop-next.ensures.active;
+      few_lines = omega (arith, c.loop-next.invariant.few_lines, few.1, c.next_known-next-in-loop-next.ensures.from);
+      few_titles = omega (arith, c.loop-next.invariant.few_titles, c.from-titles.ensures, one-few (flagged c.args.cancelled.now next), c.next_known-next-in-loop-next.ensures.from);
       lines = lines-on b before next c.loop-next.lines c.len.result c.loop-next.invariant.lines long each ∙ ap (λ xs. section_count (map (alert_at b) xs)) more;
       titles =
           ap (λ n. c.loop-next.titles + n) (c.from-titles.ensures ∙ one)

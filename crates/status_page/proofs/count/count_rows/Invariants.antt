@@ -5,7 +5,7 @@ use Rattle.ecam_spec.specs.Situation.{alert_at}
 use Rattle.book_model.specs.Sealed.{the_book}
 use Rattle.book_model.specs.Told.{flagged}
 use Rattle.status_page.proofs.SectionRows.{section_count}
-use Rattle.status_page.proofs.count.status_rows.Given as goal
+use Rattle.status_page.proofs.count.count_rows.Given as goal
 
 abbrev pub invariant-loop-next : goal.invariant-loop-next
 invariant-loop-next l = record {
