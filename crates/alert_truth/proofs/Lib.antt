@@ -4,4 +4,6 @@ pub mod Listings
 pub mod Secondaries
 pub mod Starring
 pub mod Nearing
+pub mod Keys
 pub mod Stepping
+pub mod Gathering

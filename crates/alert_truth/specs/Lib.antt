@@ -1,4 +1,5 @@
 pub mod Alerts
 pub mod Stars
+pub mod Confirming
 pub mod TruthsState
 pub mod Noting

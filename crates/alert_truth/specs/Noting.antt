@@ -1,5 +1,5 @@
 -- What one step of one alert writes.
-use Rattle.std.specs.Prelude.{◌≡◌, ◌↔◌, ℕ, ◌<◌, Bool, false, not, ◌&&◌, ◌||◌, ◌==◌, length, get_or, set, Option, is_some, if◌then◌else◌}
+use Rattle.std.specs.Prelude.{◌≡◌, ◌↔◌, ℕ, ◌<◌, Bool, false, not, ◌&&◌, ◌||◌, ◌==◌, length, get_or, set, slice_set, Option, is_some, if◌then◌else◌}
 use Rattle.wakes.specs.Marks.{is_marked, room}
 use Rattle.alert_truth.specs.declared.truths.Truths.{Truths}
 
@@ -11,9 +11,10 @@ pub record HasAlert (a : ℕ) (t : Truths) : Type 0 where
   pub waiting : a < length t.waiting.items
   pub restless : a < room t.restless
   pub near : a < room t.near
+  pub dues : a < length t.dues
 
 -- what alert a has become is noted, and whether it is another than before
-pub record Notes (a : ℕ) (start : Option ℕ) (is_present is_active : Bool) (old new : Truths) : Type 0 where
+pub record Notes (a : ℕ) (start : Option ℕ) (is_present is_active : Bool) (key : ℕ) (old new : Truths) : Type 0 where
   pub moments : new.moments ≡ old.moments
   pub since : new.since.items ≡ set old.since.items a start
   pub present : new.present.items ≡ set old.present.items a is_present
@@ -23,6 +24,8 @@ pub record Notes (a : ℕ) (start : Option ℕ) (is_present is_active : Bool) (o
   pub room : room new.restless ≡ room old.restless
   pub restless : (j : ℕ) → is_marked new.restless j ≡ (if j == a then is_some start && not is_active else is_marked old.restless j)
   pub near : (j : ℕ) → is_marked new.near j ≡ ((j == a && (is_present || is_active)) || is_marked old.near j)
+  pub dues : new.dues ≡ slice_set old.dues a key
+  pub due : new.due ≡ old.due
   pub stars : new.stars ≡ old.stars
   pub changed : new.changed ≡ old.changed
   pub changing : (new.changing ≡ false)

@@ -1,10 +1,13 @@
 -- What the truths of a book's alerts say of the moments so far.
-use Rattle.std.specs.Prelude.{◌≡◌, ◌↔◌, ℕ, suc, ◌<◌, ◌≤◌, ◌+◌, ◌*◌, ◌/◌, ◌^◌, Bool, true, false, not, ◌&&◌, length, get_or, None, is_some}
+use Rattle.std.specs.Prelude.{◌≡◌, ◌↔◌, ℕ, suc, ◌<◌, ◌≤◌, ◌+◌, ◌*◌, ◌/◌, ◌^◌, Bool, true, false, not, ◌&&◌, List, length, get_or, slice_index, None, is_some}
 use Rattle.ecam_spec.specs.Past.{Signal, previous, running_since, previously}
 use Rattle.ecam_spec.specs.Book.{Book}
+use Rattle.ecam_spec.specs.Situation.{alert_at}
 use Rattle.wakes.specs.Marks.{is_marked, room}
+use Rattle.wakes.specs.Due.{never}
 use Rattle.alert_truth.specs.Alerts.{present, active, waiting, starred, starred_by, up}
 use Rattle.alert_truth.specs.Stars.{StarsFit, StarsStand}
+use Rattle.alert_truth.specs.Confirming.{confirmed_at}
 use Rattle.alert_truth.specs.declared.truths.Truths.{Truths}
 
 -- the number of the moment can grow: there are 2 ^ 63 moments of 100 ms in 29 thousand million years
@@ -31,10 +34,24 @@ pub record TruthsFit (b : Book) (t : Truths) : Type 0 where
   pub active : length t.active.items ≡ length b.alerts
   pub waiting : length t.waiting.items ≡ length b.alerts
   pub near_room : room t.near ≡ 64 * (length b.alerts / 64 + 1)
+  pub due_room : room t.due ≡ 64 * (length b.alerts / 64 + 1)
   pub room : room t.restless ≡ 64 * (length b.alerts / 64 + 1)
+  pub dues : length t.dues ≡ length b.alerts
   pub restless : (a : ℕ) → a < length b.alerts → is_marked t.restless a ≡ is_restless t a
   pub near : AreNear t
   pub stars : StarsFit b t.stars
+
+-- alert a is due in the moment in which its confirmation is complete
+abbrev pub completes : Book → Truths → ℕ → ℕ
+completes b t a = confirmed_at (alert_at b a).confirm (get_or t.since.items a None) (get_or t.present.items a false)
+
+abbrev pub IsKeyed : Book → Truths → ℕ → Type 0
+IsKeyed b t a = slice_index t.dues a ≡ completes b t a
+
+-- it is, or was until the moment was gathered in which it is due
+pub record WasKeyed (b : Book) (t : Truths) (a : ℕ) : Type 0 where
+  pub key : is_marked t.due a ≡ false → IsKeyed b t a
+  pub none : completes b t a ≡ never → slice_index t.dues a ≡ never
 
 -- over any truths of the conditions, and any phases
 module _ (b : Book) (conditions : ℕ → Signal) (phases : ℕ → ℕ) where
@@ -42,6 +59,10 @@ module _ (b : Book) (conditions : ℕ → Signal) (phases : ℕ → ℕ) where
   pub record IsStill (k a : ℕ) : Type 0 where
     pub present : present b conditions phases a k ≡ previous (present b conditions phases a) k
     pub active : active b conditions phases a k ≡ previous (active b conditions phases a) k
+
+  -- in moment k an alert that isn't in the set is as it was, where its condition holds where it held
+  abbrev pub OthersStay : ℕ → List ℕ → Type 0
+  OthersStay k due = (h a : ℕ) → k ≡ suc h → a < length b.alerts → is_marked due a ≡ false → conditions a k ≡ conditions a h → IsStill k a
 
   -- in moment k all is as in the moment before; before moment 0 no alert is present
   pub record Unchanged (k : ℕ) : Type 0 where
@@ -70,6 +91,8 @@ module _ (b : Book) (conditions : ℕ → Signal) (phases : ℕ → ℕ) where
     pub moments : t.moments ≡ k
     pub stepped : (a : ℕ) → a < i → IsStepped (suc k) a t
     pub left : (a : ℕ) → i ≤ a → a < length b.alerts → IsStepped k a t
+    pub keys : (a : ℕ) → a < i → a < length b.alerts → IsKeyed b t a
+    pub left_keys : (a : ℕ) → i ≤ a → a < length b.alerts → WasKeyed b t a
     pub stars : StarsStand b (active b conditions phases) k t.stars
     pub changing : (t.changing ≡ false) ↔ ((a : ℕ) → a < i → IsStill k a)
     pub changed : (j : ℕ) → k ≡ suc j → (t.changed ≡ false) ↔ Unchanged j
@@ -80,6 +103,7 @@ module _ (b : Book) (conditions : ℕ → Signal) (phases : ℕ → ℕ) where
     pub fits : TruthsFit b t
     pub moments : t.moments ≡ k
     pub each : (a : ℕ) → a < length b.alerts → IsStepped k a t
+    pub keys : (a : ℕ) → a < length b.alerts → IsKeyed b t a
     pub stars : StarsStand b (active b conditions phases) k t.stars
     pub changing : t.changing ≡ false
     pub changed : (j : ℕ) → k ≡ suc j → (t.changed ≡ false) ↔ Unchanged j

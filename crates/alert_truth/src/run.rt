@@ -2,6 +2,7 @@
 ghost use Rattle.std.specs.Prelude.{◌≡◌, ℕ, suc};
 ghost use Rattle.ecam_spec.specs.Past.{Signal, previous, running_since};
 ghost use Rattle.ecam_spec.specs.Alert as alert;
+ghost use Rattle.alert_truth.specs.Confirming.{confirmed_at};
 
 /// Since which moment a condition has held without a break, where it has held since `before` up to the moment
 /// before now.
@@ -29,4 +30,15 @@ pub fn is_active(present: bool, was_active: bool, inhibited: bool) -> bool
         → inhibited ≡ inhibits k → present ≡ p k → result ≡ alert.active inhibits p k }
 {
     present && (was_active || !inhibited)
+}
+
+/// The moment from which an alert is present if its condition, which has held since then, goes on holding. One that is present
+/// already, or whose condition doesn't hold, has none.
+pub fn confirmed_at(since: Option<u64>, present: bool, confirm: u32) -> u64
+    ensures { result ≡ confirmed_at confirm since present }
+{
+    match since {
+        Some(start) if !present => start.saturating_add(u64::from(confirm)),
+        _ => u64::MAX,
+    }
 }

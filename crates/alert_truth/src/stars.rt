@@ -118,7 +118,7 @@ impl Stars {
     {
         book.sealed();
         self.turned = false;
-        let mut alert = next_near(near, 0, active.len());
+        let mut alert = near.next_or(0, active.len());
         while alert < active.len() {
             self.star(alert, active[alert]);
             if active[alert] {
@@ -126,7 +126,7 @@ impl Stars {
             } else if !(present[alert] | waiting[alert]) {
                 near.unmark(alert);
             }
-            alert = next_near(near, alert + 1, active.len());
+            alert = near.next_or(alert + 1, active.len());
         }
     }
 
@@ -149,20 +149,6 @@ fn only_if(active: bool, primary: Option<u32>) -> Option<u32>
     ensures { result ≡ (if active then primary else None) }
 {
     if active { primary } else { None }
-}
-
-// The first near alert from one on, or how many there are.
-fn next_near(near: &Marked, from: usize, many: usize) -> usize
-    requires { from ≤ many }
-    ensures from { from ≤ result }
-    ensures end { result ≤ many }
-    ensures near { result < many → is_marked near.now result ≡ true }
-    ensures none { (a : ℕ) → from ≤ a → a < result → is_marked near.now a ≡ false }
-{
-    match near.first_from(from) {
-        Some(alert) if alert < many => alert,
-        _ => many,
-    }
 }
 
 // Notes an alert for each of its secondaries for which none is noted yet. They are near then.

@@ -1,23 +1,25 @@
 // The truths of all alerts.
-ghost use Rattle.std.specs.Prelude.{◌≡◌, ◌↔◌, ℕ, suc, ◌+◌, ◌<◌, ◌≤◌, ◌==◌, ◌||◌, ◌&&◌, false, length, set, get_or, slice_index_or, is_none, Option, None, IfOk, if◌then◌else◌};
+ghost use Rattle.std.specs.Prelude.{◌≡◌, ◌↔◌, ℕ, suc, ◌+◌, ◌<◌, ◌≤◌, ◌==◌, ◌||◌, ◌&&◌, nat_le, false, length, set, get_or, slice_index, slice_index_or, is_none, Option, None, IfOk, if◌then◌else◌};
 ghost use Rattle.ecam_spec.specs.Past.{Signal, previously};
 ghost use Rattle.ecam_spec.specs.Book as plain;
 ghost use Rattle.book_model.specs.Sealed.{the_book};
 ghost use Rattle.alert_truth.specs.Alerts.{Tells, present, active, waiting, starred, starred_by, up};
-ghost use Rattle.alert_truth.specs.TruthsState.{TruthsFit, TruthsStand, HalfStand, Unchanged, StarsStay, CanGoOn};
+ghost use Rattle.alert_truth.specs.TruthsState.{TruthsFit, TruthsStand, HalfStand, Unchanged, StarsStay, CanGoOn, OthersStay};
 ghost use Rattle.alert_truth.specs.Noting.{HasAlert, Notes};
 ghost use Rattle.wakes.specs.Marks.{is_marked, room};
+ghost use Rattle.wakes.specs.Due.{never};
 
-use crate::run::{is_active, is_present, since_when};
+use crate::run::{confirmed_at, is_active, is_present, since_when};
 use crate::stars::Stars;
 use book_model::Book;
 use ecam_kinds::Phase;
 use std::alloc::{AllocError, Global};
-use wakes::Marked;
+use wakes::{Marked, Wakes};
 
 /// Per alert of a book, whether it is present, active, waiting, starred and up. In each moment `step_one` is called
 /// for each alert in the book's order, and then `settle`; an alert that isn't restless may be passed over where its condition
-/// holds where it held. Memory is taken in `new` alone, and nothing grows with the history.
+/// holds where it held, and so may one that isn't due, where `gather_due` began the moment. Memory is taken in `new` alone,
+/// and nothing grows with the history.
 #[derive(Drop)]
 pub struct Truths {
     // How many moments have ended.
@@ -29,6 +31,12 @@ pub struct Truths {
     waiting: Vec<bool>,
     // The alerts whose condition held in the moment before, and which aren't active.
     restless: Marked,
+    // Per alert the moment from which it is present if its condition goes on holding, where that holds and the alert isn't
+    // present yet; else it is never due.
+    dues: Wakes,
+    // The alerts that may change without their condition in the moment that was gathered last. Those of the moment that
+    // hasn't ended are never due until they are stepped.
+    due: Marked,
     // At least the alerts of which something is told.
     near: Marked,
     stars: Stars,
@@ -56,6 +64,8 @@ impl Truths {
             active: vec![in alloc; false; alerts]?,
             waiting: vec![in alloc; false; alerts]?,
             restless: Marked::new(alloc, alerts)?,
+            dues: Wakes::new(alloc, alerts)?,
+            due: Marked::new(alloc, alerts)?,
             near: Marked::new(alloc, alerts)?,
             stars: Stars::new(alloc, alerts)?,
             changing: false,
@@ -79,6 +89,7 @@ impl Truths {
         self.active.fill(false);
         self.waiting.fill(false);
         self.restless.clear();
+        self.dues.clear();
         self.near.clear();
         self.stars.clear();
         self.changing = false;
@@ -103,10 +114,35 @@ impl Truths {
         self.active.copy_from_slice(&other.active);
         self.waiting.copy_from_slice(&other.waiting);
         self.restless.copy_from(&other.restless);
+        self.dues.copy_from(&other.dues);
         self.near.copy_from(&other.near);
         self.stars.copy_from(&other.stars);
         self.changing = other.changing;
         self.changed = other.changed;
+    }
+
+    /// Begins a moment: gathers the alerts that may change in it though their condition holds where it held. Those are the
+    /// ones whose confirmation is complete in it and, where the flight phase turned, the restless ones. Its cost is a few
+    /// writes for each whose confirmation is complete, and one for each 64 alerts where the phase turned or it did when the
+    /// last moment was gathered.
+    pub fn gather_due(&mut self, turned: bool)
+        requires fits { (b : plain.Book) × TruthsFit b self.old }
+        requires goes_on { CanGoOn self.old }
+        ensures fits { (b : plain.Book) → TruthsFit b self.old → TruthsFit b self.new }
+        ensures stands { (b : plain.Book) (conditions : ℕ → Signal) (phases : ℕ → ℕ) (k : ℕ)
+            → TruthsStand b conditions phases k self.old
+            → HalfStand b conditions phases k 0 self.new }
+        ensures others { (b : plain.Book) (conditions : ℕ → Signal) (phases : ℕ → ℕ) (k : ℕ)
+            → TruthsStand b conditions phases k self.old
+            → (turned ≡ false → (h : ℕ) → k ≡ suc h → phases k ≡ phases h)
+            → OthersStay b conditions phases k self.new.due }
+        ensures due { (a : ℕ) → a < length self.old.dues → is_marked self.new.due a
+            ≡ (nat_le (slice_index self.old.dues a) self.old.moments
+            || (turned && is_marked self.old.restless a)) }
+        ensures moments { self.new.moments ≡ self.old.moments }
+    {
+        begin_due(&mut self.due, &self.restless, turned);
+        take_due(&mut self.dues, &mut self.due, self.moments);
     }
 
     /// Steps one alert by the moment that hasn't ended, where the truth of its condition and the flight phase in
@@ -127,6 +163,7 @@ impl Truths {
             → HalfStand (the_book book.now) conditions phases k alert self.old
             → result ≡ active (the_book book.now) conditions phases alert k }
         ensures moments { self.new.moments ≡ self.old.moments }
+        ensures due { self.new.due ≡ self.old.due }
     {
         if self.stays(alert, cond) {
             return cond;
@@ -136,7 +173,8 @@ impl Truths {
         let since = since_when(self.since[alert], cond, self.moments);
         let present = is_present(since, own.confirm, self.moments);
         let active = is_active(present, self.active[alert], inhibited);
-        self.note(alert, since, present, active);
+        let due = confirmed_at(since, present, own.confirm);
+        self.note(alert, since, present, active, due);
         active
     }
 
@@ -155,9 +193,9 @@ impl Truths {
     }
 
     // Notes what one alert has become. A flag or a moment that is as it was isn't written.
-    fn note(&mut self, alert: usize, since: Option<u64>, present: bool, active: bool)
+    fn note(&mut self, alert: usize, since: Option<u64>, present: bool, active: bool, due: u64)
         requires { HasAlert alert self.old }
-        ensures { Notes alert since present active self.old self.new }
+        ensures { Notes alert since present active due self.old self.new }
     {
         let was_present = self.present[alert];
         let was_active = self.active[alert];
@@ -166,6 +204,7 @@ impl Truths {
         put_flag(&mut self.active, alert, active);
         put_flag(&mut self.waiting, alert, present && !active);
         put_mark(&mut self.restless, alert, since.is_some() && !active);
+        self.dues.set(alert, due);
         mark_if(&mut self.near, alert, present || active);
         self.changing |= (present != was_present) | (active != was_active);
     }
@@ -200,11 +239,12 @@ impl Truths {
         }
         self.changed = self.changing;
         self.changing = false;
+        self.dues.pass(self.moments);
         self.moments += 1;
     }
 
-    /// Ends the moment like `settle`, where no alert has become another in it, nor had in the moment before. Its cost is
-    /// two writes.
+    /// Ends the moment like `settle`, where no alert has become another in it, nor had in the moment before. Its cost is a
+    /// few writes.
     pub fn pass(&mut self, book: &Book)
         requires fits { TruthsFit (the_book book.now) self.old }
         requires goes_on { CanGoOn self.old }
@@ -222,6 +262,7 @@ impl Truths {
     {
         let _ = book;
         self.stars.turned = false;
+        self.dues.pass(self.moments);
         self.moments += 1;
     }
 }
@@ -301,6 +342,13 @@ impl Truths {
         &self.restless
     }
 
+    /// The alerts that may change without their condition in the moment that was gathered last.
+    pub fn due(&self) -> &Marked
+        ensures { result.now ≡ self.now.due }
+    {
+        &self.due
+    }
+
     /// Alerts that hold all of which something is told: those that are present, active, waiting, starred or up are among
     /// them, and others may be.
     pub fn near(&self) -> &Marked
@@ -329,6 +377,35 @@ impl Truths {
             → (result ≡ false) ↔ Unchanged b conditions phases k }
     {
         self.changed
+    }
+}
+
+// The set has the restless ones alone, where the phase turned, and else none.
+fn begin_due(due: &mut Marked, restless: &Marked, turned: bool)
+    requires { room due.old ≡ room restless.now }
+    ensures room { room due.new ≡ room due.old }
+    ensures marks { (a : ℕ) → is_marked due.new a ≡ (turned && is_marked restless.now a) }
+{
+    if turned {
+        due.copy_from(restless);
+    } else {
+        due.clear();
+    }
+}
+
+// Takes out those whose moment has come, and puts them into the set.
+fn take_due(dues: &mut Wakes, due: &mut Marked, now: u64)
+    requires now { now < never }
+    requires room { length dues.old ≤ room due.old }
+    ensures len { length dues.new ≡ length dues.old }
+    ensures room { room due.new ≡ room due.old }
+    ensures marks { (a : ℕ) → a < length dues.old → is_marked due.new a
+        ≡ (nat_le (slice_index dues.old a) now || is_marked due.old a) }
+    ensures keys { (a : ℕ) → a < length dues.old → slice_index dues.new a
+        ≡ (if nat_le (slice_index dues.old a) now then never else slice_index dues.old a) }
+{
+    while let Some(alert) = dues.take(now) {
+        due.mark(alert);
     }
 }
 

@@ -49,7 +49,7 @@ pub fn walk(
         result }
 {
     let mut calls = Calls::none();
-    let mut i = next_in(busy, 0, alerts.len());
+    let mut i = busy.next_or(0, alerts.len());
     while i < alerts.len() {
         let alert = &alerts[i];
         let pressed = moment.presses.acknowledge(alert.level);
@@ -59,23 +59,9 @@ pub fn walk(
         if moment.shown[i] {
             calls = calls.with(alert, watch);
         }
-        i = next_in(busy, i + 1, alerts.len());
+        i = busy.next_or(i + 1, alerts.len());
     }
     calls
-}
-
-// The first number of the set from one on, or an end where there is none before it.
-fn next_in(set: &Marked, from: usize, end: usize) -> usize
-    requires { from ≤ end }
-    ensures from { from ≤ result }
-    ensures end { result ≤ end }
-    ensures is { result < end → is_marked set.now result ≡ true }
-    ensures none { (j : ℕ) → from ≤ j → j < result → is_marked set.now j ≡ false }
-{
-    match set.first_from(from) {
-        Some(next) if next < end => next,
-        _ => end,
-    }
 }
 
 // What is kept of an alert becomes this. It is written only where it is another than before.

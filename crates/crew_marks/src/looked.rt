@@ -1,7 +1,7 @@
 // The alerts that are looked at in a moment.
-ghost use Rattle.std.specs.Prelude.{◌≡◌, ◌↔◌, ℕ, ◌<◌, ◌≤◌, true, false, length, find, slice_index_or, IfSome};
+ghost use Rattle.std.specs.Prelude.{◌≡◌, ◌↔◌, ℕ, ◌<◌, false, length, find, slice_index_or, IfSome};
 ghost use Rattle.ecam_spec.specs.Screen.{order};
-ghost use Rattle.wakes.specs.Marks.{is_marked, room};
+ghost use Rattle.wakes.specs.Marks.{room};
 ghost use Rattle.book_model.specs.Sealed.{the_book};
 ghost use Rattle.crew_marks.specs.MarkSets.{mark_at, room_for, AreMany};
 ghost use Rattle.crew_marks.specs.MarkStep.{mark_after, sight_of};
@@ -69,25 +69,11 @@ pub fn step_looked(
 {
     book.sealed();
     let mut changed = false;
-    let mut next = next_looked(looked, 0, up.len());
+    let mut next = looked.next_or(0, up.len());
     while next < up.len() {
         let turned = step_one(sets, book, up, waiting, target, next as u32, actions);
         changed |= turned;
-        next = next_looked(looked, next + 1, up.len());
+        next = looked.next_or(next + 1, up.len());
     }
     changed
-}
-
-// The first that is looked at from one on, or how many alerts there are.
-fn next_looked(looked: &Marked, from: usize, end: usize) -> usize
-    requires { from ≤ end }
-    ensures from { from ≤ result }
-    ensures end { result ≤ end }
-    ensures looked { result < end → is_marked looked.now result ≡ true }
-    ensures others { (a : ℕ) → from ≤ a → a < result → is_marked looked.now a ≡ false }
-{
-    match looked.first_from(from) {
-        Some(alert) if alert < end => alert,
-        _ => end,
-    }
 }

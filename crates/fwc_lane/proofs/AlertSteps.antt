@@ -1,5 +1,5 @@
 -- One alert more is stepped.
-use Rattle.std.proofs.Common.{◌≡◌, ℕ, zero, suc, ◌+◌, ◌-◌, ◌^◌, ◌<◌, ◌≤◌, Bool, true, false, not, ◌&&◌, None, is_some, List, length, take, get_or, slice_get, Some, refl, sym, ap, subst, ◌∙◌, arith}
+use Rattle.std.proofs.Common.{◌≡◌, ℕ, zero, suc, ◌+◌, ◌-◌, ◌^◌, ◌<◌, ◌≤◌, Bool, true, false, None, List, length, take, get_or, slice_get, Some, refl, sym, ap, subst, ◌∙◌, arith}
 use Rattle.ecam_spec.specs.Book as plain
 use Rattle.ecam_spec.specs.Past.{previous}
 use Rattle.ecam_spec.specs.Term.{holds}
@@ -18,7 +18,7 @@ use Rattle.book_model.proofs.ConditionRanges.{ranges-apart}
 use Rattle.book_model.proofs.ConditionWorlds.{own-world}
 use Rattle.alert_truth.specs.declared.truths.Truths.{Truths}
 use Rattle.alert_truth.specs.Alerts.{active}
-use Rattle.alert_truth.specs.TruthsState.{HalfStand, TruthsStand}
+use Rattle.alert_truth.specs.TruthsState.{HalfStand, TruthsStand, OthersStay}
 use Rattle.term_eval.specs.declared.env.Env.{Env}
 use Rattle.term_eval.specs.Shown.{Shows}
 use Rattle.term_eval.specs.declared.reading.Reading.TheVariants.{Flag}
@@ -26,7 +26,7 @@ use Rattle.term_eval.specs.Woken.{Operand, moved, differ}
 use Rattle.condition_codes.specs.Places.{nodes_before}
 use Rattle.fwc_lane.specs.declared.terms.Terms.{Terms}
 use Rattle.wakes.specs.Marks.{is_marked}
-use Rattle.alert_truth.proofs.Stepping.{half-rests, moment-begins}
+use Rattle.alert_truth.proofs.Stepping.{half-rests, half-waits, moment-begins}
 use Rattle.fwc_lane.specs.Waking.{NoneMarked}
 use Rattle.fwc_lane.specs.Conditions.{IsLeft, HalfStepped, StepsTerm, TellsMoved, BookHalf, AlertsHalf, known_world}
 use Rattle.fwc_lane.specs.Given.{Lends}
@@ -75,10 +75,31 @@ pub differ-self : (b : Bool) → differ b b ≡ false
 differ-self true = refl
 differ-self false = refl
 
+-- an alert that stays as it is where its condition holds where it held
+abbrev pub MayPass : plain.Book → (ℕ → Moment) → ℕ → Truths → ℕ → Type 0
+MayPass b m k t a =
+    (h : ℕ) → k ≡ suc h → condition_in b m a k ≡ condition_in b m a h → HalfStand b (condition_in b m) (phase_in b m) k a t
+    → HalfStand b (condition_in b m) (phase_in b m) k (suc a) t
+
+-- one that isn't restless does, and so does one that isn't due
+module _ (b : plain.Book) (m : ℕ → Moment) (k : ℕ) (t : Truths) (a : ℕ) (within : a < length b.alerts) where
+  pub calm-passes : is_marked t.restless a ≡ false → MayPass b m k t a
+  calm-passes off h e same half =
+      subst (λ n. HalfStand b (condition_in b m) (phase_in b m) n (suc a) t) (sym e)
+      (half-rests b (condition_in b m) (phase_in b m) h a t within (ap (condition_in b m a) (sym e) ∙ same) off
+      (subst (λ n. HalfStand b (condition_in b m) (phase_in b m) n a t) e half))
+
+  pub undue-passes : OthersStay b (condition_in b m) (phase_in b m) k t.due → is_marked t.due a ≡ false → MayPass b m k t a
+  undue-passes others off h e same half =
+      subst (λ n. HalfStand b (condition_in b m) (phase_in b m) n (suc a) t) (sym e)
+      (half-waits b (condition_in b m) (phase_in b m) h a t within (ap (condition_in b m a) (sym e) ∙ same) off
+      (subst (λ n. OthersStay b (condition_in b m) (phase_in b m) n t.due) e others)
+      (subst (λ n. HalfStand b (condition_in b m) (phase_in b m) n a t) e half))
+
 -- an alert that neither its condition nor time changes, and some alerts of that kind
 module _ (d : Draft) (sealed : IsSealed d) (m : ℕ → Moment) (k visited : ℕ) (terms : Terms) (t : Truths) (small : k < 2 ^ 63) where
   module _ (a : ℕ) (x : Alert) (within : a < length d.alerts.items) (here : x ≡ get_or d.alerts.items a x)
-      (rests : is_marked t.restless a ≡ false) (half : AlertsHalf (the_book d) m k a visited terms t) where
+      (passes : MayPass (the_book d) m k t a) (half : AlertsHalf (the_book d) m k a visited terms t) where
     there : a < length (the_book d).alerts
     there = omega (arith, many-alerts d, within)
 
@@ -114,11 +135,7 @@ module _ (d : Draft) (sealed : IsSealed d) (m : ℕ → Moment) (k visited : ℕ
 
       truths-rest : (n : ℕ) → k ≡ n → HalfStand (the_book d) (condition_in (the_book d) m) (phase_in (the_book d) m) k (suc a) t
       truths-rest zero e = absurd (let w : ⊥ = (let clash : true ≡ false = sym (own-left.stirs e) ∙ off in cc) in w)
-      truths-rest (suc h) e =
-          subst (λ n. HalfStand (the_book d) (condition_in (the_book d) m) (phase_in (the_book d) m) n (suc a) t) (sym e)
-          (half-rests (the_book d) (condition_in (the_book d) m) (phase_in (the_book d) m) h a t there
-          (ap (condition_in (the_book d) m a) (sym e) ∙ sym (same-condition h e)) rests
-          (subst (λ n. HalfStand (the_book d) (condition_in (the_book d) m) (phase_in (the_book d) m) n a t) e half.alerts))
+      truths-rest (suc h) e = passes h e (sym (same-condition h e)) half.alerts
 
       -- it is active where it was
       same-active : (h : ℕ) → k ≡ suc h → active_in (the_book d) m a k ≡ active_in (the_book d) m a h
@@ -141,7 +158,7 @@ module _ (d : Draft) (sealed : IsSealed d) (m : ℕ → Moment) (k visited : ℕ
         alerts = truths-rest k refl;
       }
 
-  some-off : (a n : ℕ) → a + n ≤ length d.alerts.items → NoneMarked terms.stirred (alerts_from + a) (alerts_from + (a + n)) → NoneMarked t.restless a (a + n)
+  some-off : (a n : ℕ) → a + n ≤ length d.alerts.items → NoneMarked terms.stirred (alerts_from + a) (alerts_from + (a + n)) → ((j : ℕ) → a ≤ j → j < a + n → MayPass (the_book d) m k t j)
       → AlertsHalf (the_book d) m k a visited terms t → AlertsHalf (the_book d) m k (a + n) visited terms t
   some-off a zero le off rests half = let e : a ≡ a + 0 = omega arith in subst (λ i. AlertsHalf (the_book d) m k i visited terms t) e half
   some-off a (suc n) le off rests half =
@@ -152,24 +169,12 @@ module _ (d : Draft) (sealed : IsSealed d) (m : ℕ → Moment) (k visited : ℕ
       (some-off a n (omega arith) (λ i from to. off i from (omega arith)) (λ i from to. rests i from (omega arith)) half) (off _ (omega arith) (omega arith))))
 
   -- up to the next that may change, or to the end
-  pub alerts-skip : (a i : ℕ) → a ≤ i → i ≤ length d.alerts.items → NoneMarked terms.stirred (alerts_from + a) (alerts_from + i) → NoneMarked t.restless a i
+  pub alerts-skip : (a i : ℕ) → a ≤ i → i ≤ length d.alerts.items → NoneMarked terms.stirred (alerts_from + a) (alerts_from + i) → ((j : ℕ) → a ≤ j → j < i → MayPass (the_book d) m k t j)
       → AlertsHalf (the_book d) m k a visited terms t → AlertsHalf (the_book d) m k i visited terms t
   alerts-skip a i le most off rests half =
       let e : a + (i - a) ≡ i = omega arith in
       subst (λ n. AlertsHalf (the_book d) m k n visited terms t) e
-      (some-off a (i - a) (omega arith) (subst (λ n. NoneMarked terms.stirred (alerts_from + a) (alerts_from + n)) (sym e) off) (subst (NoneMarked t.restless a) (sym e) rests) half)
-
--- an alert that is stepped leaves those behind it as restless as they were
-pub rests-on : (d : Draft) (m : ℕ → Moment) (k a n visited : ℕ) (old new : Terms) (was now : Truths) → n ≤ length d.alerts.items
-    → AlertsHalf (the_book d) m k a visited old was → AlertsHalf (the_book d) m k (a + 1) visited new now → NoneMarked was.restless a n → NoneMarked now.restless (a + 1) n
-rests-on d m k a n visited old new was now most before after none j low high =
-    let inside : j < length (the_book d).alerts = omega (arith, many-alerts d) in
-    let left = before.alerts.left j (omega arith) inside in
-    let also = after.alerts.left j low inside in
-    after.alerts.fits.restless j inside
-    ∙ ap (λ s. is_some s && not (get_or now.active.items j false)) (also.since ∙ sym left.since)
-    ∙ ap (λ b. is_some (get_or was.since.items j None) && not b) (also.active ∙ sym left.active)
-    ∙ sym (before.alerts.fits.restless j inside) ∙ none j (omega arith) high
+      (some-off a (i - a) (omega arith) (subst (λ n. NoneMarked terms.stirred (alerts_from + a) (alerts_from + n)) (sym e) off) (subst (λ n. (j : ℕ) → a ≤ j → j < n → MayPass (the_book d) m k t j) (sym e) rests) half)
 
 -- before the first alert
 pub alerts-begin : (d : Draft) (m : ℕ → Moment) (k visited : ℕ) (terms : Terms) (t : Truths) → BookHalf (the_book d) m k alerts_from 1 visited terms

@@ -11,6 +11,7 @@ use Rattle.book_model.specs.declared.draft.Draft.{Draft}
 use Rattle.book_model.specs.Told.{TellsOf}
 use Rattle.book_model.specs.Sealed.{the_book, IsSealed}
 use Rattle.book_model.specs.Conditions.{alerts_from, lines_from}
+use Rattle.book_model.proofs.BookLists.{many-alerts}
 use Rattle.wakes.specs.Marks.{is_marked}
 use Rattle.flight_phases.specs.Inputs.{AreInputs}
 use Rattle.alert_truth.specs.declared.truths.Truths.{Truths}
@@ -22,7 +23,7 @@ use Rattle.fwc_lane.specs.PhaseTruths.{inputs_by}
 use Rattle.fwc_lane.proofs.Awake.{awake-off}
 use Rattle.fwc_lane.proofs.Known.{phase-known}
 use Rattle.fwc_lane.proofs.FlightSteps.{inputs-rest, inputs-kept}
-use Rattle.fwc_lane.proofs.AlertSteps.{alerts-begin, alerts-skip, alerts-end}
+use Rattle.fwc_lane.proofs.AlertSteps.{calm-passes, alerts-begin, alerts-skip, alerts-end}
 use Rattle.fwc_lane.proofs.ProcedureSteps.{lines-begin, lines-past, lines-end, lines-told}
 use Rattle.fwc_lane.proofs.MemoSteps.{memos-begin, memos-skip, memos-end, memos-told}
 
@@ -44,7 +45,7 @@ module _ (d : Draft) (sealed : IsSealed d) (m : ℕ → Moment) (k visited : ℕ
       all-alerts : AlertsHalf (the_book d) m k (length d.alerts.items) visited t alerts
       all-alerts =
           alerts-skip d sealed m k visited t alerts small 0 (length d.alerts.items) (omega arith) (let le : length d.alerts.items ≤ length d.alerts.items = omega arith in le)
-          (λ j from to. off j) (λ a from to. rests a) (alerts-begin d m k visited t alerts phase-stays stands)
+          (λ j from to. off j) (λ a from to. calm-passes (the_book d) m k alerts a (omega (arith, many-alerts d, to)) (rests a)) (alerts-begin d m k visited t alerts phase-stays stands)
 
       -- the alerts, which are still to be settled
       pub alerts-same : HalfStand (the_book d) (condition_in (the_book d) m) (phase_in (the_book d) m) k (length d.alerts.items) alerts

@@ -37,6 +37,7 @@ pub mod ValueSteps
 pub mod TurnedFlags
 pub mod PageRest
 pub mod ZoneSteps
+pub mod TermsKept
 pub mod Ticks
 pub mod PictureRest
 pub mod RestBegins

@@ -5,17 +5,18 @@ ghost use Rattle.ecam_spec.specs.Situation.{condition_in, phase_in};
 ghost use Rattle.book_model.specs.Sealed.{the_book};
 ghost use Rattle.book_model.specs.Conditions.{alerts_from, lines_from};
 ghost use Rattle.alert_truth.specs.TruthsState.{TruthsFit, TruthsStand};
-ghost use Rattle.fwc_lane.specs.Conditions.{BookHalf, AlertsHalf};
+ghost use Rattle.fwc_lane.specs.Conditions.{BookHalf, AlertsHalf, WasPhase};
 ghost use Rattle.fwc_lane.specs.Given.{Lends};
 ghost use Rattle.fwc_lane.specs.TermsFit.{TermsFit};
 
 use crate::conditions::step_term;
-use crate::next::{next_alert, next_restless};
+use crate::next::{next_alert, next_due};
 use crate::numbers::alert_number;
 use crate::terms::Terms;
-use crate::waking::{differ, wake_alert};
+use crate::waking::{differ, is_other_phase, wake_alert};
 use alert_truth::Truths;
 use book_model::Book;
+use ecam_kinds::Phase;
 use term_eval::Env;
 
 /// Steps one alert and its condition by moment `now`. The condition sees the alerts before it in the book as they are in
@@ -38,6 +39,7 @@ fn step_alert(
     ensures terms { TermsFit (the_book book.now) terms.new }
     ensures fits { TruthsFit (the_book book.now) truths.new }
     ensures moments { truths.new.moments ≡ truths.old.moments }
+    ensures due { truths.new.due ≡ truths.old.due }
     ensures stands { (m : ℕ → Moment) (visits : ℕ) → Lends (the_book book.now) m now env.now
         → env.now.phase.number ≡ phase_in (the_book book.now) m now
         → AlertsHalf (the_book book.now) m now alert visits terms.old truths.old
@@ -55,11 +57,19 @@ fn step_alert(
     wake_alert(terms, book, alert, other, active);
 }
 
-/// Steps by moment `now` the alerts that may change, which are those whose condition is stirred and those that are restless,
-/// and settles which are starred and up. The others are as they were, and aren't looked at. Its cost is a look for each 64
-/// alerts and a few at each that may change, what the conditions cost that are stirred, what an alert that changes wakes, and
-/// what it costs to settle.
-pub fn step_alerts(terms: &mut Terms, truths: &mut Truths, book: &Book, env: &Env<'_>, now: u64)
+/// Steps by moment `now`, before which the phase was this one, the alerts that may change, and settles which are starred and
+/// up. Those are the ones whose condition is stirred, those whose confirmation is complete and, where the phase turned, those
+/// that are restless. The others are as they were, and aren't looked at. Its cost is a look for each 64 alerts and a few at
+/// each that may change, what the conditions cost that are stirred, what an alert that changes wakes, and what it costs to
+/// settle.
+pub fn step_alerts(
+    terms: &mut Terms,
+    truths: &mut Truths,
+    book: &Book,
+    env: &Env<'_>,
+    was: Phase,
+    now: u64,
+)
     requires terms { TermsFit (the_book book.now) terms.old }
     requires fits { TruthsFit (the_book book.now) truths.old }
     requires moments { truths.old.moments ≡ now }
@@ -72,6 +82,7 @@ pub fn step_alerts(terms: &mut Terms, truths: &mut Truths, book: &Book, env: &En
     ensures moments { truths.new.moments ≡ truths.old.moments + 1 }
     ensures truths { (m : ℕ → Moment) (visits : ℕ) → Lends (the_book book.now) m now env.now
         → env.now.phase.number ≡ phase_in (the_book book.now) m now
+        → WasPhase (the_book book.now) m now was
         → BookHalf (the_book book.now) m now alerts_from 1 visits terms.old
         → TruthsStand (the_book book.now) (condition_in (the_book book.now) m)
         (phase_in (the_book book.now) m) now truths.old
@@ -79,6 +90,7 @@ pub fn step_alerts(terms: &mut Terms, truths: &mut Truths, book: &Book, env: &En
         (phase_in (the_book book.now) m) (suc now) truths.new }
     ensures stands { (m : ℕ → Moment) (visits : ℕ) → Lends (the_book book.now) m now env.now
         → env.now.phase.number ≡ phase_in (the_book book.now) m now
+        → WasPhase (the_book book.now) m now was
         → BookHalf (the_book book.now) m now alerts_from 1 visits terms.old
         → TruthsStand (the_book book.now) (condition_in (the_book book.now) m)
         (phase_in (the_book book.now) m) now truths.old
@@ -86,15 +98,16 @@ pub fn step_alerts(terms: &mut Terms, truths: &mut Truths, book: &Book, env: &En
         (suc (length (the_book book.now).alerts)) visits terms.new }
 {
     let end = book.alerts().len();
-    let mut restless = next_restless(truths, book, 0);
-    let mut next = next_alert(&terms.stirred, 0, restless);
+    truths.gather_due(is_other_phase(env.phase, was));
+    let mut due = next_due(truths, book, 0);
+    let mut next = next_alert(&terms.stirred, 0, due);
     while next < end {
         step_alert(terms, truths, book, next, env, now);
         next += 1;
-        if restless < next {
-            restless = next_restless(truths, book, next);
+        if due < next {
+            due = next_due(truths, book, next);
         }
-        next = next_alert(&terms.stirred, next, restless);
+        next = next_alert(&terms.stirred, next, due);
     }
     truths.settle(book);
 }

@@ -11,34 +11,34 @@ use alert_truth::Truths;
 use book_model::Book;
 use wakes::Marked;
 
-/// The first alert from one on that is restless; where there is none the number of alerts. Its cost is a look for each 64
-/// alerts that it goes over.
-pub fn next_restless(truths: &Truths, book: &Book, from: usize) -> usize
+/// The first alert from one on that is due; where there is none the number of alerts. Its cost is a look for each 64 alerts
+/// that it goes over, and one alone behind the last that is due.
+pub fn next_due(truths: &Truths, book: &Book, from: usize) -> usize
     requires { from ≤ length book.now.alerts.items }
     ensures from { from ≤ result }
     ensures within { result ≤ length book.now.alerts.items }
-    ensures none { NoneMarked truths.now.restless from result }
+    ensures none { NoneMarked truths.now.due from result }
 {
-    next_or(truths.restless(), from, book.alerts().len())
+    truths.due().next_or(from, book.alerts().len())
 }
 
-/// The first alert from one on whose condition is in the set; where there is none before the next restless one, that one. Its
+/// The first alert from one on whose condition is in the set; where there is none before the next that is due, that one. Its
 /// cost is a look for each 64 alerts that it goes over.
-pub fn next_alert(set: &Marked, from: usize, restless: usize) -> usize
-    requires few { restless < 2 ^ 32 }
-    requires from { from ≤ restless }
+pub fn next_alert(set: &Marked, from: usize, due: usize) -> usize
+    requires few { due < 2 ^ 32 }
+    requires from { from ≤ due }
     ensures from { from ≤ result }
-    ensures within { result ≤ restless }
+    ensures within { result ≤ due }
     ensures none { NoneMarked set.now (alerts_from + from) (alerts_from + result) }
 {
-    next_or(set, 6 + from, 6 + restless) - 6
+    set.next_or(6 + from, 6 + due) - 6
 }
 
 /// Whether no input of the phase is in the set. Its cost is a look for each 64 conditions up to the first that is.
 pub fn inputs_rest(set: &Marked) -> bool
     ensures { result ≡ true → NoneMarked set.now 0 alerts_from }
 {
-    next_or(set, 0, 6) == 6
+    set.next_or(0, 6) == 6
 }
 
 /// Whether the set has no number. Its cost is a look for each 64 numbers up to the first that it has.
@@ -46,19 +46,6 @@ pub fn none_marked(marked: &Marked) -> bool
     ensures { result ≡ true → (j : ℕ) → is_marked marked.now j ≡ false }
 {
     marked.first_from(0).is_none()
-}
-
-// The first number of the set from one on, or an end where there is none before it.
-fn next_or(marked: &Marked, from: usize, end: usize) -> usize
-    requires { from ≤ end }
-    ensures from { from ≤ result }
-    ensures end { result ≤ end }
-    ensures none { NoneMarked marked.now from result }
-{
-    match marked.first_from(from) {
-        Some(next) => next.min(end),
-        None => end,
-    }
 }
 
 /// The first line from one on of which a condition is in the set. Its cost is a look for each 64 conditions that it goes

@@ -89,7 +89,7 @@ pub fn step_conditions(
     ensures memos_kept { result.memos ≡ false → memos.new.items ≡ memos.old.items }
 {
     let phase = step_phase(terms, state, book, env, was, now);
-    step_alerts(terms, truths, book, &Env { phase, ..*env }, now);
+    step_alerts(terms, truths, book, &Env { phase, ..*env }, was, now);
     let whole = Env {
         phase,
         active: truths.active(),

@@ -1,7 +1,7 @@
 // Keys of numbers, each of which waits for the moment in which it is looked at.
 ghost use Rattle.std.specs.Prelude.{◌≡◌, ◌≢◌, ℕ, ◌%◌, ◌<◌, ◌≤◌, ◌^◌, ◌==◌, ◌||◌, ◌&&◌, false, length, slice_index, slice_set, replicate, MatchOption, IfOk};
 ghost use Rattle.wakes.specs.Due.{never, FirstDue};
-ghost use Rattle.wakes.specs.Turning.{IsRows, AllLook, Turns, keys_of, look_at, waits_in};
+ghost use Rattle.wakes.specs.Turning.{IsRows, Turns, keys_of, look_at, waits_in};
 
 use crate::rows::Rows;
 use std::alloc::{AllocError, Global};

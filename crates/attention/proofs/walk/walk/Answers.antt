@@ -9,9 +9,9 @@ use Rattle.attention.proofs.walk.walk.Goals.{then-moment-i, else-moment-i}
 
 pub loop-i-init : goal.loop-i-init
 loop-i-init c = record {
-  most = c.next_in-i.ensures.end;
-  here = c.next_in-i.ensures.is;
-  sifted = sift-on c.args.watches.now c.args.busy.now c.args.busy.now 0 c.next_in-i.result (omega arith) (sift-start c.args.watches.now c.args.busy.now c.args.busy.now c.requires.busy);
+  most = c.next_or-i.ensures.end;
+  here = c.next_or-i.ensures.marked;
+  sifted = sift-on c.args.watches.now c.args.busy.now c.args.busy.now 0 c.next_or-i.result (omega arith) (sift-start c.args.watches.now c.args.busy.now c.args.busy.now c.requires.busy);
   open_room = refl;
   still_open = c.requires.still_open;
   half = λ a k moment up kept.
@@ -19,9 +19,9 @@ loop-i-init c = record {
       let shown = λ (j : ℕ). get_or c.args.moment.now.shown.now j false in
       let start : HalfWalked a k n 0 shown c.args.watches.now c.none-calls.result =
       rw c.none-calls.ensures (half-start a k n shown c.args.watches.now kept) in
-      half-on a k n shown 0 c.next_in-i.result c.args.watches.now c.none-calls.result (omega arith) c.next_in-i.ensures.end c.requires.watches
-      (idle-row a k n 0 c.next_in-i.result c.args.moment.now.presses c.args.watches.now c.args.busy.now
-      c.next_in-i.ensures.end moment.presses c.requires.busy c.requires.pressed up kept c.next_in-i.ensures.none)
+      half-on a k n shown 0 c.next_or-i.result c.args.watches.now c.none-calls.result (omega arith) c.next_or-i.ensures.end c.requires.watches
+      (idle-row a k n 0 c.next_or-i.result c.args.moment.now.presses c.args.watches.now c.args.busy.now
+      c.next_or-i.ensures.end moment.presses c.requires.busy c.requires.pressed up kept c.next_or-i.ensures.none)
       start;
 }
 
@@ -29,16 +29,16 @@ pub loop-i-preserved : goal.loop-i-preserved
 loop-i-preserved c =
     let n = length c.args.alerts.now in
     let i = c.loop-i.i in
-    let j = c.next_in-i-in-loop-i.result in
+    let j = c.next_or-i-in-loop-i.result in
     let long : length c.loop-i.watches ≡ n = c.loop-i.auto.watches ∙ c.requires.watches in
     let sifted : HalfSifted (i + 1) c.keep.new.watches c.args.busy.now c.sift.new.busy =
     sift-more c.loop-i.watches c.args.busy.now c.loop-i.busy i c.next-watch.result c.keep.new.watches c.sift.new.busy
     (omega (arith, long, c.loop-i-test.true)) c.keep.ensures.watches
     (c.loop-i.invariant.here c.loop-i-test.true) c.sift.ensures.room c.sift.ensures.marks c.loop-i.invariant.sifted in
     record {
-      most = c.next_in-i-in-loop-i.ensures.end;
-      here = c.next_in-i-in-loop-i.ensures.is;
-      sifted = sift-on c.keep.new.watches c.args.busy.now c.sift.new.busy (i + 1) j c.next_in-i-in-loop-i.ensures.from sifted;
+      most = c.next_or-i-in-loop-i.ensures.end;
+      here = c.next_or-i-in-loop-i.ensures.marked;
+      sifted = sift-on c.keep.new.watches c.args.busy.now c.sift.new.busy (i + 1) j c.next_or-i-in-loop-i.ensures.from sifted;
       open_room = c.keep.ensures.room ∙ c.loop-i.invariant.open_room;
       still_open = c.keep.ensures.still_open c.loop-i.invariant.still_open;
       half = λ a k moment up kept.
@@ -59,10 +59,10 @@ loop-i-preserved c =
           here in
           let kept_long : length c.keep.new.watches ≡ n =
           ap length c.keep.ensures.watches ∙ length-set c.loop-i.watches i c.next-watch.result ∙ long in
-          half-on a k n shown (i + 1) j c.keep.new.watches c.if-moment-i.calls c.next_in-i-in-loop-i.ensures.from c.next_in-i-in-loop-i.ensures.end kept_long
+          half-on a k n shown (i + 1) j c.keep.new.watches c.if-moment-i.calls c.next_or-i-in-loop-i.ensures.from c.next_or-i-in-loop-i.ensures.end kept_long
           (idle-row a k n (i + 1) j c.args.moment.now.presses c.args.watches.now c.args.busy.now
-          c.next_in-i-in-loop-i.ensures.end moment.presses c.requires.busy c.requires.pressed up kept
-          (λ m low below. sym (sifted.left m low) ∙ c.next_in-i-in-loop-i.ensures.none m low below))
+          c.next_or-i-in-loop-i.ensures.end moment.presses c.requires.busy c.requires.pressed up kept
+          (λ m low below. sym (sifted.left m low) ∙ c.next_or-i-in-loop-i.ensures.none m low below))
           on;
     }
 

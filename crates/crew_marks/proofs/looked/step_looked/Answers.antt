@@ -30,11 +30,11 @@ loop-next-init c =
     idle-rests (the_book c.args.book.now) c.args.up.now c.args.waiting.now s c.args.looked.now c.args.target c.args.actions.now
     c.requires.looked c.requires.target in
     record {
-      most = c.next_looked-next.ensures.end;
+      most = c.next_or-next.ensures.end;
       many = c.requires.many;
       passed =
-          pass-others _ s 0 c.next_looked-next.result s _ (omega arith)
-          (λ a from below. rests a (c.next_looked-next.ensures.others a from below)) (pass-none _ s);
+          pass-others _ s 0 c.next_or-next.result s _ (omega arith)
+          (λ a from below. rests a (c.next_or-next.ensures.none a from below)) (pass-none _ s);
     }
 
 pub loop-next-preserved : goal.loop-next-preserved
@@ -49,7 +49,7 @@ loop-next-preserved c =
     let i = c.loop-next.next in
     let new = c.step_one-turned.new.sets in
     let turn = c.step_one-turned.ensures in
-    let next = c.next_looked-next-in-loop-next in
+    let next = c.next_or-next-in-loop-next in
     let within : i < length b.alerts = omega (arith, c.loop-next-test.true, c.requires.up) in
     let has = has-mark c.loop-next.sets (length b.alerts) i c.loop-next.invariant.many within in
     record {
@@ -59,7 +59,7 @@ loop-next-preserved c =
           (many-set c.loop-next.sets _ _ _ c.loop-next.invariant.many);
       passed =
           pass-others step s (i + 1) next.result new _ next.ensures.from
-          (λ a from below. rests a (next.ensures.others a from below))
+          (λ a from below. rests a (next.ensures.none a from below))
           (pass-more step s i c.loop-next.sets new c.loop-next.changed c.step_one-turned.result has
           turn.mark turn.changed c.loop-next.invariant.passed);
     }

@@ -1,42 +1,61 @@
-use Rattle.std.proofs.Common.{◌≡◌, ℕ, ◌+◌, ◌≤◌, length, refl, sym, ap, subst, ◌∙◌, arith, add-one}
+use Rattle.std.proofs.Common.{◌≡◌, ℕ, ◌+◌, ◌≤◌, ◌==◌, length, sym, ap, subst, ◌∙◌, arith, add-one}
+use Rattle.std.proofs.lemmas.Bool.{eqb-true, not-false}
+use Rattle.ecam_spec.specs.History.{Moment}
 use Rattle.ecam_spec.specs.Situation.{condition_in, phase_in}
 use Rattle.book_model.specs.Sealed.{the_book}
-use Rattle.alert_truth.specs.TruthsState.{HalfStand}
-use Rattle.ecam_spec.specs.History.{Moment}
 use Rattle.book_model.proofs.BookLists.{many-alerts}
 use Rattle.book_model.proofs.BookLimits.{sizes}
-use Rattle.fwc_lane.specs.Given.{Lends}
+use Rattle.alert_truth.specs.TruthsState.{HalfStand, TruthsStand, OthersStay}
 use Rattle.fwc_lane.specs.Waking.{NoneMarked}
-use Rattle.fwc_lane.specs.Conditions.{AlertsHalf}
-use Rattle.fwc_lane.proofs.AlertSteps.{alerts-begin, alerts-skip, alerts-end, rests-on}
+use Rattle.fwc_lane.specs.Conditions.{AlertsHalf, WasPhase}
+use Rattle.fwc_lane.proofs.AlertSteps.{undue-passes, alerts-skip, alerts-end}
 use Rattle.fwc_lane.proofs.alerts.step_alerts.Goals as goal
-use Rattle.fwc_lane.proofs.alerts.step_alerts.Goals.{then-restless-next, else-restless-next}
+use Rattle.fwc_lane.proofs.alerts.step_alerts.Goals.{then-due-next, else-due-next}
+
+pub gather_due-requires-clause-fits : goal.gather_due-requires-clause-fits
+gather_due-requires-clause-fits c = (the_book c.args.book.now, c.requires.fits)
+
+pub gather_due-requires-clause-goes_on : goal.gather_due-requires-clause-goes_on
+gather_due-requires-clause-goes_on c = omega (arith, c.requires.moments, c.requires.now)
 
 pub next_alert-next-requires-clause-few : goal.next_alert-next-requires-clause-few
 next_alert-next-requires-clause-few c =
     let d = c.args.book.now in
-    omega (arith, c.next_restless-restless.ensures.within, many-alerts d, (sizes d c.alerts-end.ensures.sealed).alerts)
+    omega (arith, c.next_due-due.ensures.within, many-alerts d, (sizes d c.alerts-end.ensures.sealed).alerts)
 
 pub loop-next-init : goal.loop-next-init
-loop-next-init c = record {
-  most = c.next_alert-next.ensures.within;
-  end = c.next_restless-restless.ensures.within;
-  terms = c.requires.terms;
-  fits = c.requires.fits;
-  moments = refl;
-  stands = λ m visits lends phase half.
-      alerts-skip c.args.book.now c.alerts-end.ensures.sealed m c.args.now visits c.args.terms.now c.args.truths.now c.requires.now 0 c.next_alert-next.result
-      c.next_alert-next.ensures.from (omega (arith, c.next_alert-next.ensures.within, c.next_restless-restless.ensures.within)) c.next_alert-next.ensures.none
-      (λ j low high. c.next_restless-restless.ensures.none j low (omega (arith, high, c.next_alert-next.ensures.within))) half;
-  rests = λ m visits lends phase half j low high. c.next_restless-restless.ensures.none j (omega arith) high;
-}
+loop-next-init c =
+    let d = c.args.book.now in
+    let b = the_book d in
+    let k = c.args.now in
+    let others : (m : ℕ → Moment) → c.args.env.now.phase.number ≡ phase_in b m k → WasPhase b m k c.args.was
+    → TruthsStand b (condition_in b m) (phase_in b m) k c.args.truths.now → OthersStay b (condition_in b m) (phase_in b m) k c.gather_due.new.self.due =
+    λ m phase was stands.
+    c.gather_due.ensures.others b (condition_in b m) (phase_in b m) k stands
+    (λ same h e. sym phase ∙ eqb-true c.args.env.now.phase.number c.args.was.number (not-false (c.args.env.now.phase.number == c.args.was.number) (sym c.is_other_phase.ensures ∙ same)) ∙ was h e) in
+    record {
+      most = c.next_alert-next.ensures.within;
+      end = c.next_due-due.ensures.within;
+      terms = c.requires.terms;
+      fits = c.gather_due.ensures.fits b c.requires.fits;
+      moments = c.gather_due.ensures.moments;
+      none = λ j low high. c.next_due-due.ensures.none j (omega arith) high;
+      others = others;
+      stands = λ m visits lends phase was terms stands.
+          alerts-skip d c.alerts-end.ensures.sealed m k visits c.args.terms.now c.gather_due.new.self c.requires.now 0 c.next_alert-next.result
+          c.next_alert-next.ensures.from (omega (arith, c.next_alert-next.ensures.within, c.next_due-due.ensures.within)) c.next_alert-next.ensures.none
+          (λ j low high. undue-passes b m k c.gather_due.new.self j
+          (omega (arith, high, c.next_alert-next.ensures.within, c.next_due-due.ensures.within, many-alerts d)) (others m phase was stands)
+          (c.next_due-due.ensures.none j low (omega (arith, high, c.next_alert-next.ensures.within))))
+          (record { terms = terms; alerts = c.gather_due.ensures.stands b (condition_in b m) (phase_in b m) k stands });
+    }
 
 pub next_alert-next-requires-in-loop-next-clause-few : goal.next_alert-next-requires-in-loop-next-clause-few
 next_alert-next-requires-in-loop-next-clause-few c =
     let d = c.args.book.now in
-    let within : c.if-restless-next.restless ≤ length d.alerts.items = elim c.if-restless-next.branch [
-      | then-restless-next w ↦ omega (arith, w.restless-is, w.next_restless-restless-then-restless-next.ensures.within)
-      | else-restless-next w ↦ omega (arith, w.restless-is, c.loop-next.invariant.end)
+    let within : c.if-due-next.due ≤ length d.alerts.items = elim c.if-due-next.branch [
+      | then-due-next w ↦ omega (arith, w.due-is, w.next_due-due-then-due-next.ensures.within)
+      | else-due-next w ↦ omega (arith, w.due-is, c.loop-next.invariant.end)
     ] in
     omega (arith, within, many-alerts d, (sizes d c.alerts-end.ensures.sealed).alerts)
 
@@ -44,50 +63,49 @@ pub loop-next-preserved : goal.loop-next-preserved
 loop-next-preserved c =
     let d = c.args.book.now in
     let b = the_book d in
+    let k = c.args.now in
     let next = c.next_alert-next-in-loop-next.ensures in
-    let within : c.if-restless-next.restless ≤ length d.alerts.items = elim c.if-restless-next.branch [
-      | then-restless-next w ↦ omega (arith, w.restless-is, w.next_restless-restless-then-restless-next.ensures.within)
-      | else-restless-next w ↦ omega (arith, w.restless-is, c.loop-next.invariant.end)
+    let kept = c.step_alert.ensures.due in
+    let within : c.if-due-next.due ≤ length d.alerts.items = elim c.if-due-next.branch [
+      | then-due-next w ↦ omega (arith, w.due-is, w.next_due-due-then-due-next.ensures.within)
+      | else-due-next w ↦ omega (arith, w.due-is, c.loop-next.invariant.end)
     ] in
-    let stepped : (m : ℕ → Moment) (visits : ℕ) → Lends b m c.args.now c.args.env.now → c.args.env.now.phase.number ≡ phase_in b m c.args.now
-    → AlertsHalf b m c.args.now 0 visits c.args.terms.now c.args.truths.now → AlertsHalf b m c.args.now (c.loop-next.next + 1) visits c.step_alert.new.terms c.step_alert.new.truths =
-    λ m visits lends phase half.
-    subst (λ n. AlertsHalf b m c.args.now n visits c.step_alert.new.terms c.step_alert.new.truths) (sym (add-one c.loop-next.next))
-    (c.step_alert.ensures.stands m visits lends phase (c.loop-next.invariant.stands m visits lends phase half)) in
-    let rests : (m : ℕ → Moment) (visits : ℕ) → Lends b m c.args.now c.args.env.now → c.args.env.now.phase.number ≡ phase_in b m c.args.now
-    → AlertsHalf b m c.args.now 0 visits c.args.terms.now c.args.truths.now → NoneMarked c.step_alert.new.truths.restless (c.loop-next.next + 1) c.if-restless-next.restless =
-    λ m visits lends phase half.
-    elim c.if-restless-next.branch [
-      | then-restless-next w ↦ subst (NoneMarked c.step_alert.new.truths.restless (c.loop-next.next + 1)) (sym w.restless-is) w.next_restless-restless-then-restless-next.ensures.none
-      | else-restless-next w ↦ subst (NoneMarked c.step_alert.new.truths.restless (c.loop-next.next + 1)) (sym w.restless-is)
-          (rests-on d m c.args.now c.loop-next.next c.loop-next.restless visits c.loop-next.terms c.step_alert.new.terms c.loop-next.truths c.step_alert.new.truths c.loop-next.invariant.end
-          (c.loop-next.invariant.stands m visits lends phase half) (stepped m visits lends phase half) (c.loop-next.invariant.rests m visits lends phase half))
+    let none : NoneMarked c.step_alert.new.truths.due (c.loop-next.next + 1) c.if-due-next.due = elim c.if-due-next.branch [
+      | then-due-next w ↦ subst (NoneMarked c.step_alert.new.truths.due (c.loop-next.next + 1)) (sym w.due-is) w.next_due-due-then-due-next.ensures.none
+      | else-due-next w ↦ subst (NoneMarked c.step_alert.new.truths.due (c.loop-next.next + 1)) (sym w.due-is)
+          (subst (λ s. NoneMarked s (c.loop-next.next + 1) c.loop-next.due) (sym kept) (λ j low high. c.loop-next.invariant.none j (omega (arith, low)) high))
     ] in
+    let others : (m : ℕ → Moment) → c.args.env.now.phase.number ≡ phase_in b m k → WasPhase b m k c.args.was
+    → TruthsStand b (condition_in b m) (phase_in b m) k c.args.truths.now → OthersStay b (condition_in b m) (phase_in b m) k c.step_alert.new.truths.due =
+    λ m phase was stands. subst (OthersStay b (condition_in b m) (phase_in b m) k) (sym kept) (c.loop-next.invariant.others m phase was stands) in
     record {
       most = next.within;
       end = within;
       terms = c.step_alert.ensures.terms;
       fits = c.step_alert.ensures.fits;
       moments = c.step_alert.ensures.moments ∙ c.loop-next.invariant.moments;
-      stands = λ m visits lends phase half.
-          alerts-skip d c.alerts-end.ensures.sealed m c.args.now visits c.step_alert.new.terms c.step_alert.new.truths c.requires.now (c.loop-next.next + 1) c.next_alert-next-in-loop-next.result
+      none = λ j low high. none j (omega (arith, low, next.from)) high;
+      others = others;
+      stands = λ m visits lends phase was terms stands.
+          alerts-skip d c.alerts-end.ensures.sealed m k visits c.step_alert.new.terms c.step_alert.new.truths c.requires.now (c.loop-next.next + 1) c.next_alert-next-in-loop-next.result
           next.from (omega (arith, next.within, within)) next.none
-          (λ j low high. rests m visits lends phase half j low (omega (arith, high, next.within)))
-          (stepped m visits lends phase half);
-      rests = λ m visits lends phase half j low high. rests m visits lends phase half j (omega (arith, low, next.from)) high;
+          (λ j low high. undue-passes b m k c.step_alert.new.truths j (omega (arith, high, next.within, within, many-alerts d)) (others m phase was stands)
+          (none j low (omega (arith, high, next.within))))
+          (subst (λ n. AlertsHalf b m k n visits c.step_alert.new.terms c.step_alert.new.truths) (sym (add-one c.loop-next.next))
+          (c.step_alert.ensures.stands m visits lends phase (c.loop-next.invariant.stands m visits lends phase was terms stands)));
     }
 
 pub returns-clause-truths : goal.returns-clause-truths
-returns-clause-truths c = λ m visits lends phase terms stands.
+returns-clause-truths c = λ m visits lends phase was terms stands.
     let d = c.args.book.now in
     let b = the_book d in
-    let half = c.loop-next.invariant.stands m visits lends phase (alerts-begin d m c.args.now visits _ _ terms stands) in
-    let all : c.loop-next.next ≡ length d.alerts.items = omega (arith, c.loop-next-test.false, c.loop-next.invariant.most, ap length c.alerts-end.ensures.value) in
+    let half = c.loop-next.invariant.stands m visits lends phase was terms stands in
+    let all : c.loop-next.next ≡ length d.alerts.items = omega (arith, c.loop-next-test.false, c.loop-next.invariant.most, c.loop-next.invariant.end, ap length c.alerts-end.ensures.value) in
     c.settle.ensures.stands (condition_in b m) (phase_in b m) c.args.now (subst (λ n. HalfStand b (condition_in b m) (phase_in b m) c.args.now n c.loop-next.truths) all half.alerts)
 
 pub returns-clause-stands : goal.returns-clause-stands
-returns-clause-stands c = λ m visits lends phase terms stands.
+returns-clause-stands c = λ m visits lends phase was terms stands.
     let d = c.args.book.now in
-    let half = c.loop-next.invariant.stands m visits lends phase (alerts-begin d m c.args.now visits _ _ terms stands) in
-    let all : c.loop-next.next ≡ length d.alerts.items = omega (arith, c.loop-next-test.false, c.loop-next.invariant.most, ap length c.alerts-end.ensures.value) in
+    let half = c.loop-next.invariant.stands m visits lends phase was terms stands in
+    let all : c.loop-next.next ≡ length d.alerts.items = omega (arith, c.loop-next-test.false, c.loop-next.invariant.most, c.loop-next.invariant.end, ap length c.alerts-end.ensures.value) in
     alerts-end d m c.args.now c.loop-next.next visits _ all half.terms

@@ -22,14 +22,14 @@ loop-alert-init c =
     let begun : IsNearing on c.args.present.now c.args.waiting.now c.args.self.now start c.args.near.now 0
     = nearing-begins on c.args.present.now c.args.waiting.now c.args.self.now c.args.near.now c.requires.active c.requires.present c.requires.waiting c.requires.away in
     record {
-      most = c.next_near-alert.ensures.end;
+      most = c.next_or-alert.ensures.end;
       places = refl;
       half =
-          half-on b on (secondaries-later (draft_of c.args.book.now) c.sealed.ensures.faultless) start 0 c.next_near-alert.result (omega arith)
-          (omega (arith, c.next_near-alert.ensures.end, c.requires.active_places, many-alerts c.args.book.now))
-          (λ a from below. nearing-away on c.args.present.now c.args.waiting.now c.args.self.now start c.args.near.now 0 begun a (c.next_near-alert.ensures.none a from below))
+          half-on b on (secondaries-later (draft_of c.args.book.now) c.sealed.ensures.faultless) start 0 c.next_or-alert.result (omega arith)
+          (omega (arith, c.next_or-alert.ensures.end, c.requires.active_places, many-alerts c.args.book.now))
+          (λ a from below. nearing-away on c.args.present.now c.args.waiting.now c.args.self.now start c.args.near.now 0 begun a (c.next_or-alert.ensures.none a from below))
           (nothing-taken b on start (quiet-fits b c.args.self.now c.requires.fits));
-      nearing = nearing-on on c.args.present.now c.args.waiting.now c.args.self.now start c.args.near.now 0 c.next_near-alert.result (omega arith) begun;
+      nearing = nearing-on on c.args.present.now c.args.waiting.now c.args.self.now start c.args.near.now 0 c.next_or-alert.result (omega arith) begun;
     }
 
 pub star-requires : goal.star-requires
@@ -102,17 +102,17 @@ loop-alert-preserved c =
     let all : IsHalfTaken b on c.if-active-alert.self (i + 1) (i + 1) = subst (λ n. IsHalfTaken b on c.if-active-alert.self n (i + 1)) (sym (add-one i)) half in
     let far : IsNearing on c.args.present.now c.args.waiting.now first c.if-active-alert.self c.if-active-alert.near (i + 1) =
     subst (λ n. IsNearing on c.args.present.now c.args.waiting.now first c.if-active-alert.self c.if-active-alert.near n) (sym (add-one i)) nearing in
-    let order = c.next_near-alert-in-loop-alert.ensures.from in
+    let order = c.next_or-alert-in-loop-alert.ensures.from in
     record {
-      most = c.next_near-alert-in-loop-alert.ensures.end;
+      most = c.next_or-alert-in-loop-alert.ensures.end;
       places = stays ∙ c.loop-alert.invariant.places;
       half =
-          half-on b on later c.if-active-alert.self (i + 1) c.next_near-alert-in-loop-alert.result order
-          (omega (arith, c.next_near-alert-in-loop-alert.ensures.end, c.requires.active_places, many-alerts d))
+          half-on b on later c.if-active-alert.self (i + 1) c.next_or-alert-in-loop-alert.result order
+          (omega (arith, c.next_or-alert-in-loop-alert.ensures.end, c.requires.active_places, many-alerts d))
           (λ a from below.
-          nearing-away on c.args.present.now c.args.waiting.now first c.if-active-alert.self c.if-active-alert.near (i + 1) far a (c.next_near-alert-in-loop-alert.ensures.none a from below))
+          nearing-away on c.args.present.now c.args.waiting.now first c.if-active-alert.self c.if-active-alert.near (i + 1) far a (c.next_or-alert-in-loop-alert.ensures.none a from below))
           all;
-      nearing = nearing-on on c.args.present.now c.args.waiting.now first c.if-active-alert.self c.if-active-alert.near (i + 1) c.next_near-alert-in-loop-alert.result order far;
+      nearing = nearing-on on c.args.present.now c.args.waiting.now first c.if-active-alert.self c.if-active-alert.near (i + 1) c.next_or-alert-in-loop-alert.result order far;
     }
 
 pub returns-clause-fits : goal.returns-clause-fits

@@ -1,4 +1,4 @@
-use Rattle.std.proofs.Common.{false, ◌+◌, length, refl, sym, subst, ◌∙◌, add-one}
+use Rattle.std.proofs.Common.{false, ◌+◌, length, refl, sym, ap, subst, ◌∙◌, add-one}
 use Rattle.book_model.specs.Sealed.{the_book}
 use Rattle.book_model.proofs.BookLists.{many-alerts}
 use Rattle.alert_truth.specs.TruthsState.{HalfStand}
@@ -16,7 +16,9 @@ returns-clause-fits c =
       active = fits.active;
       waiting = fits.waiting;
       near_room = fits.near_room;
+      due_room = fits.due_room;
       room = fits.room;
+      dues = ap length c.pass.ensures ∙ fits.dues;
       restless = fits.restless;
       near = record { present = near.present; active = near.active; waiting = near.waiting; starred = near.starred; up = near.up; primaries = near.primaries };
       stars = quiet-fits (the_book c.args.book.now) c.args.self.now.stars fits.stars;
@@ -28,7 +30,7 @@ returns-clause-stands c = λ conditions phases k half.
     let old = c.args.self.now in
     let all : HalfStand b conditions phases k (length b.alerts) old = subst (λ n. HalfStand b conditions phases k n old) (sym (many-alerts c.args.book.now)) half in
     let still = all.changing.0 c.requires.changing in
-    moment-ends b conditions phases k old (record old { moments = old.moments + 1; stars = record old.stars { turned = false } }) all (returns-clause-fits c)
-    (add-one old.moments) refl refl refl refl c.requires.changing (c.requires.changed ∙ sym c.requires.changing)
+    moment-ends b conditions phases k old (record old { moments = old.moments + 1; dues = c.pass.new.self; stars = record old.stars { turned = false } }) all (returns-clause-fits c)
+    (add-one old.moments) c.pass.ensures refl refl refl refl c.requires.changing (c.requires.changed ∙ sym c.requires.changing)
     (still-stars b conditions phases k old.stars still all.stars)
     (λ e. still-starred b conditions phases k still, λ same. refl)

@@ -4,6 +4,7 @@ use Rattle.ecam_spec.specs.Past.{Signal}
 use Rattle.ecam_spec.specs.Book.{Book}
 use Rattle.wakes.specs.Marks.{room}
 use Rattle.wakes.specs.declared.marked.Marked.{Marked}
+use Rattle.wakes.specs.declared.due.Wakes.{Wakes}
 use Rattle.book_model.specs.Sealed.{the_book}
 use Rattle.book_model.proofs.BookLists.{many-alerts}
 use Rattle.alert_truth.specs.Alerts.{Tells, active}
@@ -16,35 +17,37 @@ use Rattle.alert_truth.proofs.Stepping.{moment-ends, still-stars, still-starred,
 use Rattle.alert_truth.proofs.truths.Truths.settle.Goals as goal
 use Rattle.alert_truth.proofs.truths.Truths.settle.Goals.{then-self, else-self}
 
--- the truths after the moment, where these are settled
-abbrev ended : Truths → Truths
-ended t = record t { moments = t.moments + 1; changing = false; changed = t.changing }
+-- the truths after the moment, where these are settled and these are the keys
+abbrev ended : Truths → Wakes → Truths
+ended t dues = record t { moments = t.moments + 1; dues = dues; changing = false; changed = t.changing }
 
 abbrev with_stars : Truths → Marked → Stars → Truths
 with_stars t near s = record t { near = near; stars = s }
 
-settled-fits : (b : Book) (old now : Truths) (near : Marked) (s : Stars) → now ≡ with_stars old near s → TruthsFit b old → room near ≡ room old.near → AreNear (with_stars old near s) → StarsFit b s
-    → TruthsFit b (ended now)
-settled-fits b old now near s is fits places are stars =
-    subst (λ t. TruthsFit b (ended t)) (sym is) (record {
+settled-fits : (b : Book) (old now : Truths) (dues : Wakes) (near : Marked) (s : Stars) → now ≡ with_stars old near s → dues ≡ now.dues → TruthsFit b old → room near ≡ room old.near → AreNear (with_stars old near s) → StarsFit b s
+    → TruthsFit b (ended now dues)
+settled-fits b old now dues near s is same fits places are stars =
+    subst (λ t. TruthsFit b (ended t dues)) (sym is) (record {
       since = fits.since;
       present = fits.present;
       active = fits.active;
       waiting = fits.waiting;
       near_room = places ∙ fits.near_room;
+      due_room = fits.due_room;
       room = fits.room;
+      dues = ap length (same ∙ ap (λ (t : Truths). t.dues) is) ∙ fits.dues;
       restless = fits.restless;
       near = record { present = are.present; active = are.active; waiting = are.waiting; starred = are.starred; up = are.up; primaries = are.primaries };
       stars = stars;
     })
 
-settled-stands : (b : Book) (conditions : ℕ → Signal) (phases : ℕ → ℕ) (k : ℕ) (old now : Truths) (near : Marked) (s : Stars) → now ≡ with_stars old near s
-    → HalfStand b conditions phases k (length b.alerts) old → TruthsFit b (ended now) → StarsStand b (active b conditions phases) (suc k) s
-    → (s.turned ≡ false) ↔ StarsStay b conditions phases k → TruthsStand b conditions phases (suc k) (ended now)
-settled-stands b conditions phases k old now near s is half fits stars turned =
-    subst (λ t. TruthsStand b conditions phases (suc k) (ended t)) (sym is)
-    (moment-ends b conditions phases k old (ended (with_stars old near s)) half (subst (λ t. TruthsFit b (ended t)) is fits)
-    (add-one old.moments) refl refl refl refl refl refl stars turned)
+settled-stands : (b : Book) (conditions : ℕ → Signal) (phases : ℕ → ℕ) (k : ℕ) (old now : Truths) (dues : Wakes) (near : Marked) (s : Stars) → now ≡ with_stars old near s
+    → dues ≡ now.dues → HalfStand b conditions phases k (length b.alerts) old → TruthsFit b (ended now dues) → StarsStand b (active b conditions phases) (suc k) s
+    → (s.turned ≡ false) ↔ StarsStay b conditions phases k → TruthsStand b conditions phases (suc k) (ended now dues)
+settled-stands b conditions phases k old now dues near s is same half fits stars turned =
+    subst (λ t. TruthsStand b conditions phases (suc k) (ended t dues)) (sym is)
+    (moment-ends b conditions phases k old (ended (with_stars old near s) dues) half (subst (λ t. TruthsFit b (ended t dues)) is fits)
+    (add-one old.moments) (same ∙ ap (λ (t : Truths). t.dues) is) refl refl refl refl refl refl stars turned)
 
 pub settle-requires-clause-active_places : goal.settle-requires-clause-active_places
 settle-requires-clause-active_places c = ap length c.deref.ensures.value ∙ c.requires.fits.active ∙ many-alerts c.args.book.now
@@ -76,7 +79,7 @@ returns-clause-fits c =
     let old = c.args.self.now in
     elim c.if-self.branch [
       | then-self w ↦
-          settled-fits b old c.if-self.self w.settle.new.near w.settle.new.self w.self-is c.requires.fits w.settle.ensures.room
+          settled-fits b old c.if-self.self c.pass.new.self w.settle.new.near w.settle.new.self w.self-is c.pass.ensures c.requires.fits w.settle.ensures.room
           (settled-near (with_stars old w.settle.new.near w.settle.new.self)
           (λ a told. w.settle.ensures.present a (ap (λ xs. get_or xs a false) w.deref-then-self.ensures.value ∙ told))
           (λ a told. w.settle.ensures.active a (ap (λ xs. get_or xs a false) w.deref.ensures.value ∙ told))
@@ -84,7 +87,7 @@ returns-clause-fits c =
           w.settle.ensures.away)
           w.settle.ensures.fits
       | else-self w ↦
-          settled-fits b old c.if-self.self old.near (record old.stars { turned = false }) w.self-is c.requires.fits refl (quiet-near old c.requires.fits.near)
+          settled-fits b old c.if-self.self c.pass.new.self old.near (record old.stars { turned = false }) w.self-is c.pass.ensures c.requires.fits refl (quiet-near old c.requires.fits.near)
           (quiet-fits b old.stars c.requires.fits.stars)
     ]
 
@@ -100,12 +103,12 @@ returns-clause-stands c = λ conditions phases k half.
           = λ a within. ap (λ xs. get_or xs a false) w.deref.ensures.value ∙ stepped-tells b conditions phases k old all a (omega (arith, within, few)) in
           let stands = w.settle.ensures.stands (active b conditions phases) k told in
           let turned = w.settle.ensures.turned in
-          settled-stands b conditions phases k old c.if-self.self w.settle.new.near w.settle.new.self w.self-is all (returns-clause-fits c) stands
+          settled-stands b conditions phases k old c.if-self.self c.pass.new.self w.settle.new.near w.settle.new.self w.self-is c.pass.ensures all (returns-clause-fits c) stands
           (settled-turned b conditions phases k old.stars w.settle.new.self all.stars stands
           (λ e a within. turned.0 e a (omega (arith, within, few)), λ same. turned.1 (λ a within. same a (omega (arith, within, few)))))
       | else-self w ↦
           let still = all.changing.0 w.if-self.false in
-          settled-stands b conditions phases k old c.if-self.self old.near (record old.stars { turned = false }) w.self-is all (returns-clause-fits c)
+          settled-stands b conditions phases k old c.if-self.self c.pass.new.self old.near (record old.stars { turned = false }) w.self-is c.pass.ensures all (returns-clause-fits c)
           (still-stars b conditions phases k old.stars still all.stars)
           (λ e. still-starred b conditions phases k still, λ same. refl)
     ]

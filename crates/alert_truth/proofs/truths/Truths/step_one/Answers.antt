@@ -7,10 +7,11 @@ use Rattle.ecam_spec.specs.Situation.{alert_at}
 use Rattle.book_model.specs.Sealed.{the_book}
 use Rattle.book_model.proofs.BookLists.{many-alerts}
 use Rattle.book_model.proofs.BookReads.{alert-read}
+use Rattle.alert_truth.specs.Confirming.{confirmed_at}
 use Rattle.alert_truth.specs.Alerts.{present, active, inhibited}
 use Rattle.alert_truth.specs.TruthsState.{HalfStand, IsStepped}
 use Rattle.alert_truth.proofs.Staying.{IsSame, stays-same}
-use Rattle.alert_truth.proofs.Stepping.{notes-fits, half-step, half-stays}
+use Rattle.alert_truth.proofs.Stepping.{notes-fits, half-step, half-same}
 use Rattle.alert_truth.proofs.truths.Truths.step_one.Goals as goal
 use Rattle.alert_truth.proofs.truths.Truths.step_one.Goals.{After-note, Then-stays}
 
@@ -23,6 +24,7 @@ stays-requires c =
       active = omega (arith, c.requires.fits.active, few);
       waiting = omega (arith, c.requires.fits.waiting, few);
       restless = omega (arith, c.requires.fits.room, c.requires.alert, few);
+      dues = omega (arith, c.requires.fits.dues, few);
       near = omega (arith, c.requires.fits.near_room, c.requires.alert, few);
     }
 
@@ -41,6 +43,7 @@ note-requires c =
       active = omega (arith, c.requires.fits.active, few);
       waiting = omega (arith, c.requires.fits.waiting, few);
       restless = omega (arith, c.requires.fits.room, c.requires.alert, few);
+      dues = omega (arith, c.requires.fits.dues, few);
       near = omega (arith, c.requires.fits.near_room, c.requires.alert, few);
     }
 
@@ -89,8 +92,9 @@ module _ (c : After-note) (conditions : ℕ → Signal) (phases : ℕ → ℕ) (
 
 pub returns-clause-stands : goal.returns-clause-stands
 returns-clause-stands c = λ conditions phases k cond phase half.
-    half-step (the_book c.args.book.now) conditions phases k c.args.alert c.since_when-since.result c.is_present-present.result c.is_active-active.result c.args.self.now c.note.new.self c.note.ensures
-    (within c conditions phases k cond phase half) (since c conditions phases k cond phase half) (is_present c conditions phases k cond phase half) (is_active c conditions phases k cond phase half) half
+    half-step (the_book c.args.book.now) conditions phases k c.args.alert c.since_when-since.result c.is_present-present.result c.is_active-active.result c.confirmed_at-due.result c.args.self.now c.note.new.self c.note.ensures
+    (within c conditions phases k cond phase half) (since c conditions phases k cond phase half) (is_present c conditions phases k cond phase half) (is_active c conditions phases k cond phase half)
+    (c.confirmed_at-due.ensures ∙ ap (λ n. confirmed_at n c.since_when-since.result c.is_present-present.result) (sym (confirm_of c))) half
 
 pub returns-clause-answer : goal.returns-clause-answer
 returns-clause-answer c = λ conditions phases k cond phase half. is_active c conditions phases k cond phase half
@@ -110,12 +114,13 @@ module _ (c : Then-stays) (conditions : ℕ → Signal) (phases : ℕ → ℕ) (
 
 pub returns-then-stays-clause-stands : goal.returns-then-stays-clause-stands
 returns-then-stays-clause-stands c = λ conditions phases k cond phase half.
-    half-stays (the_book c.args.book.now) conditions phases k c.args.alert c.args.self.now (stays-within c conditions phases k cond half) (same c conditions phases k cond half) half
+    half-same (the_book c.args.book.now) conditions phases k c.args.alert c.args.self.now c.args.cond (stays-within c conditions phases k cond half) cond
+    (sym c.stays.ensures ∙ c.if-stays.true) half
 
 pub returns-then-stays-clause-answer : goal.returns-then-stays-clause-answer
 returns-then-stays-clause-answer c = λ conditions phases k cond phase half. cond ∙ (same c conditions phases k cond half).answer
 
 pub returns-clause-fits : goal.returns-clause-fits
 returns-clause-fits c =
-    notes-fits (the_book c.args.book.now) c.args.alert c.since_when-since.result c.is_present-present.result c.is_active-active.result c.args.self.now c.note.new.self
+    notes-fits (the_book c.args.book.now) c.args.alert c.since_when-since.result c.is_present-present.result c.is_active-active.result c.confirmed_at-due.result c.args.self.now c.note.new.self
     (omega (arith, c.requires.alert, many-alerts c.args.book.now)) c.note.ensures c.requires.fits

@@ -1,4 +1,4 @@
-use Rattle.std.proofs.Common.{◌≡◌, ◌<◌, ℕ, suc, false, length, get_or, None, sym, ap, subst, ◌∙◌, arith, add-one}
+use Rattle.std.proofs.Common.{◌≡◌, ◌<◌, ℕ, suc, true, false, length, get_or, None, refl, sym, ap, subst, ◌∙◌, arith, add-one}
 use Rattle.std.proofs.lemmas.Bool.{lt-ltb}
 use Rattle.ecam_spec.specs.BookTerms.{lines_of}
 use Rattle.ecam_spec.specs.Term.{holds}
@@ -10,6 +10,7 @@ use Rattle.book_model.specs.Told.{TellsOf}
 use Rattle.book_model.specs.Sealed.{the_book}
 use Rattle.book_model.proofs.BookLists.{many-parameters, many-alerts}
 use Rattle.fwc_lane.specs.Scenes.{AreTurned}
+use Rattle.fwc_lane.proofs.TermsKept.{terms-with}
 use Rattle.fwc_lane.proofs.Ticks.{of-last, are-turned, lends-from, values-before, terms-after}
 use Rattle.fwc_lane.proofs.lane.Lane.finish.Goals as goal
 
@@ -18,6 +19,37 @@ step_conditions-stepped-requires-clause-values c = ap length c.deref.ensures.val
 
 pub step_conditions-stepped-requires-clause-shown : goal.step_conditions-stepped-requires-clause-shown
 step_conditions-stepped-requires-clause-shown c = ap length c.shown.ensures ∙ c.requires.fits.marks.many.shown ∙ many-alerts c.args.book.now
+
+pub returns-clause-fits : goal.returns-clause-fits
+returns-clause-fits c =
+    let b = the_book c.args.book.now in
+    let fits = c.requires.fits in
+    let terms = c.step_conditions-stepped.new.terms in
+    record {
+      params = c.tick.ensures.fits;
+      truths = c.step_conditions-stepped.ensures.truths;
+      marks = c.step_crew.ensures.marks;
+      attention = c.step_crew.ensures.attention;
+      selector = c.step_crew.ensures.selector;
+      values = fits.values;
+      short = fits.short;
+      turned = fits.turned;
+      terms = terms-with b terms terms.dues c.copy_from.new.self c.args.one_up c.args.two_up c.step_conditions-stepped.ensures.terms refl;
+      lines = c.step_conditions-stepped.ensures.lines ∙ fits.lines;
+      memos = c.step_conditions-stepped.ensures.memos ∙ fits.memos;
+      truths_moments = omega (arith, c.step_conditions-stepped.ensures.moments, fits.truths_moments);
+      marks_moments = omega (arith, c.step_crew.ensures.marks_moments, fits.marks_moments);
+      attention_moments = omega (arith, c.step_crew.ensures.attention_moments, fits.attention_moments);
+      selector_moments = omega (arith, c.step_crew.ensures.selector_moments, fits.selector_moments);
+      calm = λ on. record {
+        ticked = refl;
+        restless = c.leaves_calm-self.ensures.restless on;
+        steady = c.leaves_calm-self.ensures.steady on;
+        normal = c.leaves_calm-self.ensures.normal on;
+        changed = c.leaves_calm-self.ensures.changed on;
+      };
+      idle = λ on. absurd (let no : ⊥ = (let clash : false ≡ true = sym c.requires.idle ∙ on in cc) in no);
+    }
 
 pub returns-clause-whole : goal.returns-clause-whole
 returns-clause-whole c = λ m visited begun.
