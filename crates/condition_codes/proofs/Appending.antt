@@ -4,14 +4,17 @@ use Rattle.std.specs.List.{flat_map}
 use Rattle.std.proofs.lemmas.Bool.{cases_lt}
 use Rattle.std.proofs.lemmas.Grind.{flat_map-append}
 use Rattle.std.proofs.lemmas.List.{length-append, append-nil}
+use Rattle.std.proofs.lemmas.List.FromFn.{length-map-range_with_len}
 use Rattle.std.proofs.lemmas.Option.{slice_get_within}
 use Rattle.ecam_spec.specs.TermSize.{Placed, nodes}
 use Rattle.term_eval.specs.Code.{code, IsCode}
+use Rattle.term_eval.specs.Links.{link_from}
 use Rattle.term_eval.specs.declared.code.Step.{Step}
+use Rattle.term_eval.specs.declared.link.Link.{Link}
 use Rattle.term_eval.proofs.Codes.{length-code}
 use Rattle.condition_codes.specs.Flat.{piece, ArePieces}
 use Rattle.condition_codes.specs.Places.{nodes_before}
-use Rattle.condition_codes.specs.Pieces.{AreCodes}
+use Rattle.condition_codes.specs.Pieces.{AreCodes, AreEach, links_of}
 use Rattle.condition_codes.proofs.Behind.{longer, each-more}
 use Rattle.condition_codes.proofs.Flat.{pieces-none, pieces-next, piece-old, piece-new, start-old, start-new}
 use Rattle.condition_codes.proofs.Places.{nodes-none, nodes-old, nodes-new}
@@ -62,6 +65,19 @@ module _ (ps : List Placed) (starts : List ℕ) (steps own : List Step) (old : A
         ∙ ap (λ l. flat_map (λ (q : Placed). code q.at 0 q.tree) ps ++ l) (coded.is ∙ sym (append-nil (code p.at 0 p.tree)))
         ∙ sym (flat_map-append (λ (q : Placed). code q.at 0 q.tree) ps (p ∷ []));
   }
+
+-- each node has a link
+pub ends-same : (ps : List Placed) (starts : List ℕ) (steps : List Step) (own : List Link) → AreCodes ps starts steps → AreEach links_of ps starts own → (p : Placed)
+    → length (own ++ links_of p) ≡ length (steps ++ code p.at 0 p.tree)
+ends-same ps starts steps own codes linked p =
+    omega (
+      arith,
+      length-append own (links_of p),
+      length-append steps (code p.at 0 p.tree),
+      codes.pieces.ends,
+      linked.pieces.ends,
+      length-map-range_with_len (link_from (code p.at 0 p.tree)) 0 (length (code p.at 0 p.tree)),
+    )
 
 -- of no condition
 pub codes-none : AreCodes [] (0 ∷ []) []

@@ -22,29 +22,25 @@ use Rattle.condition_codes.specs.declared.askers.Asker.{Asker}
 use Rattle.condition_codes.specs.declared.askers.AskerTable.{AskerTable}
 use Rattle.condition_codes.specs.Flat.{piece}
 use Rattle.condition_codes.specs.Chains.{wanted, Wants, AreAskers, AreNodes}
-use Rattle.condition_codes.specs.IsCodes.{IsCodes}
+use Rattle.condition_codes.specs.IsCodes.{IsCodes, node_starts}
 use Rattle.condition_codes.specs.IsAskers.{IsAskers, IsAsking, sizes_in}
 use Rattle.condition_codes.specs.Places.{nodes_before}
 use Rattle.condition_codes.proofs.Flat.{piece-get, piece-within, piece-has, InPiece, in-piece}
-use Rattle.condition_codes.proofs.Linking.{step-at}
+use Rattle.condition_codes.proofs.Linking.{step-at, link-is}
 use Rattle.condition_codes.proofs.Numbering.{node_of}
-use Rattle.condition_codes.proofs.Places.{nodes-none, nodes-next}
+use Rattle.condition_codes.proofs.Places.{nodes-next}
 
 -- the sizes that are read are the book's
 pub sizes-read : (d : Draft) (p a : ℕ) → p ≡ length d.params.items → a ≡ length d.alerts.items → (let n : Sizes = record { params = p; alerts = a } in n) ≡ sizes_in (the_book d)
 sizes-read d p a params alerts =
     sizes-are d p a params alerts ∙ sym (sizes-are d (length (the_book d).parameters) (length (the_book d).alerts) (many-parameters d) (many-alerts d))
 
--- the code of the first condition stands before all others
-pub first-start : (b : Book) (c : CodeTable) → IsCodes b c → slice_index c.starts.items.items 0 ≡ 0
-first-start b c coded = coded.codes.nodes 0 (omega arith) ∙ nodes-none (places b)
-
 module _ (b : Book) (c : CodeTable) (coded : IsCodes b c) (asks : (t : Tree) (at up : ℕ) → map (λ (s : Step). node_asks s.node) (code at up t) ≡ asked t) where
   abbrev steps : List Step
   steps = c.steps.items.items
 
   abbrev starts : List ℕ
-  starts = c.starts.items.items
+  starts = node_starts c.starts.items.items
 
   abbrev own : ℕ → List Step
   own j = piece starts steps j
@@ -82,9 +78,9 @@ module _ (b : Book) (c : CodeTable) (coded : IsCodes b c) (asks : (t : Tree) (at
 
   -- the node that is noted of a condition
   abbrev node : ℕ → ℕ → Asker
-  node = node_of steps starts
+  node = node_of steps c.links.items.items starts
 
-  module _ (nodes : List Asker) (are : AreNodes starts steps nodes) where
+  module _ (nodes : List Asker) (are : AreNodes starts steps c.links.items.items nodes) where
     -- among all nodes, one of a condition has its own number
     numbered : (j i : ℕ) → j < length (places b) → slice_index starts j + i < slice_index starts (suc j) → slice_get nodes (slice_index starts j + i) ≡ Some (node j i)
     numbered j i lt less = are j i (omega (arith, lt, coded.codes.pieces.count)) less
@@ -105,6 +101,7 @@ module _ (b : Book) (c : CodeTable) (coded : IsCodes b c) (asks : (t : Tree) (at
               asks = sym (told j i p place) ∙ ap (option_map (λ (t : Step). node_asks t.node)) step ∙ ap Some some;
               number = same_Some (operand_number (sizes_in b) x) o number;
               first = start;
+              link = link-is b c coded j i p place less;
               size = omega (arith, start, coded.codes.nodes (suc j) (omega (arith, inside)), nodes-next (places b) j p place);
               test = ap (λ (t : Step). test_of t.node) (step-at b c coded j i p place less);
             }
@@ -119,7 +116,7 @@ module _ (b : Book) (c : CodeTable) (coded : IsCodes b c) (asks : (t : Tree) (at
       in-steps = omega (arith, slice_get_within ws m (Some o) wanting, length-map steps (wanted (sizes_in b)))
 
       here : InPiece (length (places b)) starts m
-      here = in-piece starts (first-start b c coded) (length (places b)) m (omega (arith, in-steps, coded.codes.pieces.ends))
+      here = in-piece starts coded.codes.pieces.first (length (places b)) m (omega (arith, in-steps, coded.codes.pieces.ends))
 
       known : IsAsking b o (node here.number here.within)
       known = elim (slice_get_cases (places b) here.number).1 [

@@ -9,6 +9,7 @@ use Rattle.condition_codes.specs.Flat.{piece, ArePieces}
 pub pieces-none : {X : Type 0} → ArePieces {X = X} 0 (0 ∷ []) []
 pieces-none = record {
   count = refl;
+  first = refl;
   ends = refl;
   ordered = λ j less. absurd (omega arith);
   within = λ j le. let e : j ≡ 0 = omega arith in omega (arith, ap (slice_index (0 ∷ [])) e);
@@ -57,6 +58,7 @@ module _ {X : Type 0} (n : ℕ) (starts : List ℕ) (items own : List X) (old : 
   pub pieces-next : ArePieces (suc n) starts' (items ++ own)
   pieces-next = record {
     count = omega (arith, length-append starts (length (items ++ own) ∷ []), old.count);
+    first = start-old 0 (omega arith) ∙ old.first;
     ends = start-new;
     ordered = λ j less. elim (cases_lt j n) [
       | inl before ↦ omega (arith, start-old j (omega arith), start-old (suc j) before, old.ordered j before)
@@ -67,6 +69,14 @@ module _ {X : Type 0} (n : ℕ) (starts : List ℕ) (items own : List X) (old : 
       | inr before ↦ omega (arith, start-old j before, old.within j before, longer)
     ];
   }
+
+-- a piece is as long as the next one starts behind it
+pub piece-long : {X : Type 0} (n : ℕ) (starts : List ℕ) (items : List X) → ArePieces n starts items → (j : ℕ) → j < n
+    → length (piece starts items j) ≡ slice_index starts (suc j) - slice_index starts j
+piece-long n starts items are j less =
+    let a = slice_index starts j in
+    let b = slice_index starts (suc j) in
+    omega (arith, length-take (b - a) (drop a items), length-drop a items, are.within (suc j) less, are.ordered j less)
 
 -- what a piece has stands among all items
 pub piece-get : {X : Type 0} (starts : List ℕ) (items : List X) (j i : ℕ) (x : X) → slice_get (piece starts items j) i ≡ Some x → slice_get items (slice_index starts j + i) ≡ Some x

@@ -3,6 +3,7 @@ pub mod Behind
 pub mod Flat
 pub mod Appending
 pub mod Owning
+pub mod Starting
 pub mod Limits
 pub mod Walking
 pub mod Asked

@@ -110,6 +110,10 @@ module _ (d : Draft) (sealed : IsSealed d) where
         few = omega (arith, range (the_book d) i (placed_of t) is, ap slots_in (terms_of-book (draft_of d)), slots-fit (draft_of d) sealed.sound);
       }
 
+  -- its first slot has a number of 32 bits
+  pub slot-small : (i : ℕ) (p : Placed) → slice_get (places (the_book d)) i ≡ Some p → p.at < 2 ^ 32
+  slot-small i p is = omega (arith, range (the_book d) i p is, ap slots_in (terms_of-book (draft_of d)), slots-fit (draft_of d) sealed.sound)
+
   -- there are so few that their nodes have numbers of 32 bits
   pub few-places : length (places (the_book d)) < 2 ^ 26
   unfolding draft_places

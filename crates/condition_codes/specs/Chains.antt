@@ -2,10 +2,11 @@
 use Rattle.std.specs.Prelude.{◌≡◌, ℕ, suc, ◌+◌, ◌-◌, ◌<◌, ◌≤◌, List, ◌++◌, length, slice_get, slice_index, Option, Some, None}
 use Rattle.std.specs.Option.{option_map}
 use Rattle.term_eval.specs.Asked.{node_asks}
-use Rattle.term_eval.specs.Climb.{step_at}
+use Rattle.term_eval.specs.Climb.{step_at, link_at}
 use Rattle.term_eval.specs.Reading.{test_of}
 use Rattle.term_eval.specs.Woken.{Operand}
 use Rattle.term_eval.specs.declared.code.Step.{Step}
+use Rattle.term_eval.specs.declared.link.Link.{Link}
 use Rattle.watch_lists.specs.declared.number.Sizes.{Sizes}
 use Rattle.watch_lists.specs.Naming.{operand_number, IsOperand}
 use Rattle.condition_codes.specs.declared.askers.Asker.{Asker}
@@ -52,12 +53,12 @@ AddsAskers first nexts nodes old new = (own : List Asker) × (new ≡ old ++ own
     → ((m p : ℕ) → Wants ws m p → IsNext ws p (suc m) (slice_index nexts m)) → HasAskers ws nodes o own)
 
 -- node i of condition j, whose code starts at a place and has so many steps
-abbrev pub asker_at : List Step → ℕ → ℕ → ℕ → ℕ → Asker
-asker_at steps first size j i =
-    record { term = j; first = first; node = i; size = size; test = test_of (step_at steps (first + i)).node }
+abbrev pub asker_at : List Step → List Link → ℕ → ℕ → ℕ → ℕ → Asker
+asker_at steps links first size j i =
+    record { term = j; first = first; link = link_at links (first + i); node = i; size = size; test = test_of (step_at steps (first + i)).node }
 
 -- the nodes of conditions one behind another, by where each starts
-abbrev pub AreNodes : List ℕ → List Step → List Asker → Type 0
-AreNodes starts steps nodes = (j i : ℕ) → suc j < length starts → slice_index starts j + i < slice_index starts (suc j)
+abbrev pub AreNodes : List ℕ → List Step → List Link → List Asker → Type 0
+AreNodes starts steps links nodes = (j i : ℕ) → suc j < length starts → slice_index starts j + i < slice_index starts (suc j)
     → slice_get nodes (slice_index starts j + i)
-    ≡ Some (asker_at steps (slice_index starts j) (slice_index starts (suc j) - slice_index starts j) j i)
+    ≡ Some (asker_at steps links (slice_index starts j) (slice_index starts (suc j) - slice_index starts j) j i)

@@ -8,6 +8,7 @@ piece starts items j = take (slice_index starts (suc j) - slice_index starts j) 
 -- so many pieces, and nothing behind them
 pub record ArePieces {X : Type 0} (n : ℕ) (starts : List ℕ) (items : List X) : Type 0 where
   pub count : length starts ≡ suc n
+  pub first : slice_index starts 0 ≡ 0
   pub ends : slice_index starts n ≡ length items
   pub ordered : (j : ℕ) → j < n → slice_index starts j ≤ slice_index starts (suc j)
   pub within : (j : ℕ) → j ≤ n → slice_index starts j ≤ length items

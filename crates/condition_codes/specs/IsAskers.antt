@@ -6,6 +6,7 @@ use Rattle.book_model.specs.Conditions.{places}
 use Rattle.term_eval.specs.Asked.{Asks}
 use Rattle.term_eval.specs.Climb.{step_at}
 use Rattle.term_eval.specs.Code.{code}
+use Rattle.term_eval.specs.Links.{link_from}
 use Rattle.term_eval.specs.Reading.{test_of}
 use Rattle.term_eval.specs.Woken.{Operand}
 use Rattle.watch_lists.specs.declared.number.Sizes.{Sizes}
@@ -31,6 +32,7 @@ pub record IsAsking (b : Book) (o : ℕ) (a : Asker) : Type 0 where
   pub asks : Asks place.tree a.node operand
   pub number : operand_number (sizes_in b) operand ≡ o
   pub first : a.first ≡ nodes_before (places b) a.term
+  pub link : a.link ≡ link_from (code place.at 0 place.tree) a.node
   pub size : a.size ≡ nodes place.tree
   pub test : a.test ≡ test_of (step_at (code place.at 0 place.tree) a.node).node
 

@@ -10,25 +10,29 @@ ghost use Rattle.term_eval.specs.Woken.{Operand};
 ghost use Rattle.watch_lists.specs.Naming.{operand_count, operand_number};
 ghost use Rattle.condition_codes.specs.Chains.{AreNodes};
 ghost use Rattle.condition_codes.specs.IsAskers.{IsAskers, IsAmong, IsAsking, sizes_in};
-ghost use Rattle.condition_codes.specs.IsCodes.{IsCodes};
+ghost use Rattle.condition_codes.specs.IsCodes.{IsCodes, node_starts};
 
 use crate::chains::{chains_of, list_chains};
 use crate::codes::CodeTable;
+use crate::starts::Starts;
 use book_model::Book;
 use std::alloc::{AllocError, Global};
 use std::boxed::BoxedSlice;
 use std::marker::Model;
 use std::rc::Rc;
-use term_eval::{Step, Test, code_asks_for_what_the_condition_asks_for, test_of};
+use term_eval::{Link, Step, Test, code_asks_for_what_the_condition_asks_for, test_of};
 use watch_lists::Sizes;
 
-/// A node of a condition which asks for an operand, with what is read of it where the operand is another, in twelve bytes.
+/// A node of a condition which asks for an operand, with what is read of it where the operand is another, in twenty
+/// bytes.
 #[derive(Clone, Copy, Debug, PartialEq, Eq)]
 pub struct Asker {
     /// The condition's number in stepping order.
     pub term: u32,
     /// The number of the condition's first node among the nodes of all conditions.
     pub first: u32,
+    /// The node's link.
+    pub link: Link,
     /// The number of the node within the condition's code.
     pub node: u8,
     /// How many nodes the condition has.
@@ -73,7 +77,7 @@ impl Askers {
             alerts: book.alerts().len(),
         };
         let (firsts, nexts) = chains_of(alloc, codes.steps(), sizes)?;
-        let nodes = nodes_of(alloc, codes.starts(), codes.steps())?;
+        let nodes = nodes_of(alloc, codes.starts(), codes.steps(), codes.links())?;
         let (starts, askers) = list_chains(alloc, &firsts, &nexts, &nodes)?;
         let table = AskerTable { starts, askers };
         Ok(Askers {
@@ -110,29 +114,40 @@ impl Askers {
 }
 
 // All nodes, one condition behind another, by where the code of each starts.
-fn nodes_of(alloc: Global, starts: &[usize], steps: &[Step]) -> Result<Vec<Asker>, AllocError>
-    requires first { slice_index starts.now 0 ≡ 0 }
+fn nodes_of(
+    alloc: Global,
+    starts: &[Starts],
+    steps: &[Step],
+    links: &[Link],
+) -> Result<Vec<Asker>, AllocError>
+    requires first { slice_index (node_starts starts.now) 0 ≡ 0 }
     requires some { 1 ≤ length starts.now }
     requires ordered { (j : ℕ) → suc j < length starts.now
-        → slice_index starts.now j ≤ slice_index starts.now (suc j) }
+        → slice_index (node_starts starts.now) j ≤ slice_index (node_starts starts.now) (suc j) }
     requires small { (j : ℕ) → suc j < length starts.now
-        → slice_index starts.now (suc j) - slice_index starts.now j ≤ TERM_NODES }
+        → slice_index (node_starts starts.now) (suc j) - slice_index (node_starts starts.now) j
+        ≤ TERM_NODES }
     requires few { length starts.now ≤ 2 ^ 26 }
-    requires steps { slice_index starts.now (length starts.now - 1) ≡ length steps.now }
-    ensures nodes { IfOk result (λ r. AreNodes starts.now steps.now r.items) }
+    requires steps { slice_index (node_starts starts.now) (length starts.now - 1)
+        ≡ length steps.now }
+    requires links { length links.now ≡ length steps.now }
+    ensures nodes { IfOk result (λ r. AreNodes (node_starts starts.now) steps.now links.now
+        r.items) }
     ensures count { IfOk result (λ r. length r.items ≡ length steps.now) }
 {
     let mut nodes = Vec::with_capacity(alloc, steps.len())?;
     for term in 0..starts.len() - 1 {
-        let first = starts[term];
-        let size = starts[term + 1] - first;
+        let first = starts[term].node;
+        let size = starts[term + 1].node - first;
         for node in 0..size {
+            let place = (first + node) as usize;
             nodes.push(Asker {
                 term: term as u32,
-                first: first as u32,
+                first,
+                link: links[place],
                 node: node as u8,
                 size: size as u8,
-                test: test_of(&steps[first + node].node),
+                test: test_of(&steps[place].node),
             })?;
         }
     }

@@ -1,27 +1,28 @@
 // The codes of a book in one list.
-ghost use Rattle.std.specs.Prelude.{◌≡◌, ℕ, ◌<◌, length, slice_get, Some, IfOk};
+ghost use Rattle.std.specs.Prelude.{◌≡◌, ℕ, suc, ◌<◌, length, slice_get, Some, IfOk};
 ghost use Rattle.std.specs.Box.{boxed_slice_items};
 ghost use Rattle.ecam_spec.specs.Book as plain;
 ghost use Rattle.ecam_spec.specs.TermSize.{Placed, nodes};
-ghost use Rattle.term_eval.specs.Code.{code, owners, IsCode};
+ghost use Rattle.term_eval.specs.Code.{code, IsCode};
 ghost use Rattle.book_model.specs.Sealed.{the_book};
 ghost use Rattle.book_model.specs.Conditions.{places};
 ghost use Rattle.term_eval.specs.Climb.{step_at};
-ghost use Rattle.term_eval.specs.Links.{links};
 ghost use Rattle.term_eval.specs.Reading.{IsReading, atom_says};
 ghost use Rattle.condition_codes.specs.IsAskers.{IsAsking};
 ghost use Rattle.condition_codes.specs.IsCodes.{IsCodes};
+ghost use Rattle.condition_codes.specs.Pieces.{links_of, owners_of};
 ghost use Rattle.condition_codes.specs.Places.{nodes_before};
 
 use crate::askers::Asker;
 use crate::book::add_all;
 use crate::pieces::Pieces;
+use crate::starts::{Starts, starts_of};
 use book_model::Book;
 use std::alloc::{AllocError, Global};
 use std::boxed::BoxedSlice;
 use std::marker::Model;
 use std::rc::Rc;
-use term_eval::{Link, Reading, Step, says};
+use term_eval::{Link, Owner, Reading, Step, says};
 
 /// The codes of a book, which their owners share. Nothing changes them.
 #[derive(Drop)]
@@ -43,26 +44,43 @@ impl Model for Codes {
 pub struct CodeTable {
     steps: BoxedSlice<Step>,
     links: BoxedSlice<Link>,
-    starts: BoxedSlice<usize>,
-    owners: BoxedSlice<usize>,
-    owner_starts: BoxedSlice<usize>,
-    slot_starts: BoxedSlice<usize>,
+    owners: BoxedSlice<Owner>,
+    starts: BoxedSlice<Starts>,
+}
+
+/// What of a condition is read where it is run.
+#[derive(Clone, Copy)]
+pub struct Parts<'a> {
+    /// The links of its nodes.
+    pub links: &'a [Link],
+    /// Its temporal nodes, slot by slot.
+    pub owners: &'a [Owner],
+    /// The number of its first node among the nodes of all conditions, which are numbered in stepping order.
+    pub first: usize,
+    /// Where its slots start.
+    pub slot: usize,
 }
 
 impl Codes {
-    /// The codes of a book. Its cost is three visits of each node of the book's conditions. An error is want of memory.
+    /// The codes of a book. Its cost is three visits of each node of the book's conditions, and one of each condition more. An
+    /// error is want of memory.
     pub fn new(alloc: Global, book: &Book) -> Result<Codes, AllocError>
         ensures { IfOk result (IsCodes (the_book book.now)) }
     {
         let mut pieces = Pieces::new(alloc)?;
         add_all(&mut pieces, book)?;
+        book.sealed();
+        let starts = starts_of(
+            alloc,
+            &pieces.starts,
+            &pieces.slot_starts,
+            &pieces.owner_starts,
+        )?;
         let table = CodeTable {
             steps: pieces.steps.into_boxed_slice(),
             links: pieces.links.into_boxed_slice(),
-            starts: pieces.starts.into_boxed_slice(),
             owners: pieces.owners.into_boxed_slice(),
-            owner_starts: pieces.owner_starts.into_boxed_slice(),
-            slot_starts: pieces.slot_starts.into_boxed_slice(),
+            starts: starts.into_boxed_slice(),
         };
         Ok(Codes {
             table: Rc::new(alloc, table)?,
@@ -94,16 +112,30 @@ impl CodeTable {
         ensures { (b : plain.Book) → IsCodes b self.now → (p : Placed)
             → slice_get (places b) number ≡ Some p → IsCode p.tree p.at result.now }
     {
-        &self.steps[self.start(number)..self.starts[number + 1]]
+        &self.steps[self.start(number)..self.start_behind(number)]
     }
 
-    /// The links of its nodes. A look-up costs two reads.
-    pub fn links(&self, number: usize) -> &[Link]
+    /// All that is read of it where it is run. A look-up costs a look at two records one behind the other.
+    #[inline(always)]
+    pub fn parts(&self, number: usize) -> Parts<'_>
         requires { (b : plain.Book) × IsCodes b self.now × (number < length (places b)) }
-        ensures { (b : plain.Book) → IsCodes b self.now → (p : Placed)
-            → slice_get (places b) number ≡ Some p → result.now ≡ links p.at p.tree }
+        ensures links { (b : plain.Book) → IsCodes b self.now → (p : Placed)
+            → slice_get (places b) number ≡ Some p → result.links.now ≡ links_of p }
+        ensures owners { (b : plain.Book) → IsCodes b self.now → (p : Placed)
+            → slice_get (places b) number ≡ Some p → result.owners.now ≡ owners_of p }
+        ensures first { (b : plain.Book) → IsCodes b self.now → number < length (places b)
+            → result.first ≡ nodes_before (places b) number }
+        ensures slot { (b : plain.Book) → IsCodes b self.now → (p : Placed)
+            → slice_get (places b) number ≡ Some p → result.slot ≡ p.at }
     {
-        &self.links[self.start(number)..self.starts[number + 1]]
+        let own = self.starts[number];
+        let next = self.starts[number + 1];
+        Parts {
+            links: &self.links[own.node as usize..next.node as usize],
+            owners: &self.owners[own.owner as usize..next.owner as usize],
+            first: own.node as usize,
+            slot: own.slot as usize,
+        }
     }
 
     /// The links of the nodes of the condition in which a node asks. A look-up costs no read but of the asker.
@@ -112,7 +144,7 @@ impl CodeTable {
         requires { (b : plain.Book) × (o : ℕ) × IsCodes b self.now × IsAsking b o asker.now }
         ensures { (b : plain.Book) (o : ℕ) → IsCodes b self.now → IsAsking b o asker.now
             → (p : Placed) → slice_get (places b) asker.now.term ≡ Some p
-            → result.now ≡ links p.at p.tree }
+            → result.now ≡ links_of p }
     {
         let first = asker.first as usize;
         &self.links[first..first + usize::from(asker.size)]
@@ -138,26 +170,7 @@ impl CodeTable {
         ensures { (b : plain.Book) → IsCodes b self.now → number < length (places b)
             → result ≡ nodes_before (places b) number }
     {
-        self.starts[number]
-    }
-
-    /// Where its slots start. A look-up costs one read.
-    pub fn at(&self, number: usize) -> usize
-        requires { (b : plain.Book) × IsCodes b self.now × (number < length (places b)) }
-        ensures { (b : plain.Book) → IsCodes b self.now → (p : Placed)
-            → slice_get (places b) number ≡ Some p → result ≡ p.at }
-    {
-        self.slot_starts[number]
-    }
-
-    /// The numbers of its temporal nodes, slot by slot. A look-up costs two reads.
-    pub fn owners(&self, number: usize) -> &[usize]
-        requires { (b : plain.Book) × IsCodes b self.now × (number < length (places b)) }
-        ensures { (b : plain.Book) → IsCodes b self.now → (p : Placed)
-            → slice_get (places b) number ≡ Some p
-            → result.now ≡ owners 0 (code p.at 0 p.tree) }
-    {
-        &self.owners[self.owner_starts[number]..self.owner_starts[number + 1]]
+        self.starts[number].node as usize
     }
 
     /// How many nodes it has. A look-up costs two reads.
@@ -166,7 +179,7 @@ impl CodeTable {
         ensures { (b : plain.Book) → IsCodes b self.now → (p : Placed)
             → slice_get (places b) number ≡ Some p → result ≡ nodes p.tree }
     {
-        self.starts[number + 1] - self.starts[number]
+        self.start_behind(number) - self.start(number)
     }
 
     /// How many nodes all conditions have. Its cost is one read.
@@ -177,8 +190,8 @@ impl CodeTable {
         self.steps.len()
     }
 
-    /// Where the code of each condition starts, and where the last ends.
-    pub(crate) fn starts(&self) -> &[usize]
+    /// Where what belongs to each condition starts, and where the last ends.
+    pub(crate) fn starts(&self) -> &[Starts]
         ensures { result.now ≡ boxed_slice_items self.now.starts }
     {
         &self.starts
@@ -189,5 +202,22 @@ impl CodeTable {
         ensures { result.now ≡ boxed_slice_items self.now.steps }
     {
         &self.steps
+    }
+
+    /// The links of all.
+    pub(crate) fn links(&self) -> &[Link]
+        ensures { result.now ≡ boxed_slice_items self.now.links }
+    {
+        &self.links
+    }
+
+    // The number of the first node behind it.
+    #[inline(always)]
+    fn start_behind(&self, number: usize) -> usize
+        requires { (b : plain.Book) × IsCodes b self.now × (number < length (places b)) }
+        ensures { (b : plain.Book) → IsCodes b self.now → number < length (places b)
+            → result ≡ nodes_before (places b) (suc number) }
+    {
+        self.starts[number + 1].node as usize
     }
 }

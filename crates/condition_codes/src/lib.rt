@@ -7,6 +7,7 @@ mod book;
 mod chains;
 mod codes;
 mod pieces;
+mod starts;
 
 pub use askers::{Asker, Askers};
-pub use codes::{CodeTable, Codes};
+pub use codes::{CodeTable, Codes, Parts};

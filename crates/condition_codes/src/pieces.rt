@@ -5,7 +5,7 @@ ghost use Rattle.condition_codes.specs.Pieces.{AddsCodes, HasCodes, FitsLinks};
 
 use book_model::Term;
 use std::alloc::{AllocError, Global};
-use term_eval::{Link, Step, add_code, add_links, add_owners};
+use term_eval::{Link, Owner, Step, add_code, add_links, add_owners};
 
 /// The codes of some conditions.
 #[derive(Drop)]
@@ -16,8 +16,8 @@ pub struct Pieces {
     pub links: Vec<Link>,
     /// Where each starts, and where the last ends.
     pub starts: Vec<usize>,
-    /// The numbers of the temporal nodes of each, slot by slot, one condition behind another.
-    pub owners: Vec<usize>,
+    /// The temporal nodes of each, slot by slot, one condition behind another.
+    pub owners: Vec<Owner>,
     /// Where those of each start, and where the last end.
     pub owner_starts: Vec<usize>,
     /// Where the slots of each start.

@@ -9,6 +9,8 @@ use Rattle.ecam_spec.specs.Term.{World}
 use Rattle.ecam_spec.specs.TermSize.{Placed, nodes}
 use Rattle.term_eval.specs.Woken.{woken}
 use Rattle.wakes.specs.Marks.{is_marked}
+use Rattle.condition_codes.specs.Places.{nodes_before}
+use Rattle.condition_codes.proofs.Places.{nodes-next}
 use Rattle.fwc_lane.specs.Visits.{visits_below, nodes_marked, marked_nodes, IsCounted}
 
 module _ (ps : List Placed) where
@@ -62,37 +64,51 @@ module _ (ps : List Placed) where
           omega (arith, below, same)
     ]
 
-    -- its nodes are counted
-    pub counted-more : (visited was now : ℕ) → now ≡ min (was + nodes p.tree) (2 ^ 64 - 1) → IsCounted ps visited old was → IsCounted ps visited new now
-    counted-more visited was now counts before = let more = marked-more (length ps) (slice_get_within ps i p here) in omega (arith, counts, before, more)
-
   pub counted-same : (old new : List ℕ) (visited count : ℕ) → ((j : ℕ) → is_marked new j ≡ is_marked old j) → IsCounted ps visited old count → IsCounted ps visited new count
   counted-same old new visited count same before = before ∙ ap (λ n. min (visited + n) (2 ^ 64 - 1)) (sym (marked-same old new (length ps) (λ j lt. same j)))
 
-  -- a condition was put in, and its nodes are counted where it is new
-  pub counted-put : (old new : List ℕ) (i size visited was now : ℕ) (is_new : Bool) → i < length ps → ((p : Placed) → slice_get ps i ≡ Some p → size ≡ nodes p.tree)
-      → is_new ≡ not (is_marked old i) → ((j : ℕ) → is_marked new j ≡ (eqb j i || is_marked old j)) → now ≡ min (was + cond is_new size 0) (2 ^ 64 - 1)
-      → IsCounted ps visited old was → IsCounted ps visited new now
-  counted-put old new i size visited was now is_new inside sizes is marks counts before = by (is_marked old i) refl where
+  -- a condition was put in, whose nodes are more where it is new
+  pub marked-put : (old new : List ℕ) (i size : ℕ) (is_new : Bool) → i < length ps → ((p : Placed) → slice_get ps i ≡ Some p → size ≡ nodes p.tree)
+      → is_new ≡ not (is_marked old i) → ((j : ℕ) → is_marked new j ≡ (eqb j i || is_marked old j))
+      → marked_nodes ps new (length ps) ≡ marked_nodes ps old (length ps) + cond is_new size 0
+  marked-put old new i size is_new inside sizes is marks = by (is_marked old i) refl where
     none : Placed
     none = record { tree = constant true; at = 0 }
 
     here : slice_get ps i ≡ Some (get_or ps i none)
     here = slice_get-get_or ps i none inside
 
-    by : (on : Bool) → is_marked old i ≡ on → IsCounted ps visited new now
+    by : (on : Bool) → is_marked old i ≡ on → marked_nodes ps new (length ps) ≡ marked_nodes ps old (length ps) + cond is_new size 0
     by false off =
-        counted-more old new i (get_or ps i none) here off marks visited was now
-        (counts ∙ ap (λ b. min (was + cond b size 0) (2 ^ 64 - 1)) (is ∙ ap not off) ∙ ap (λ n. min (was + n) (2 ^ 64 - 1)) (sizes (get_or ps i none) here)) before
+        let own : cond is_new size 0 ≡ nodes (get_or ps i none).tree = ap (λ b. cond b size 0) (is ∙ ap not off) ∙ sizes (get_or ps i none) here in
+        omega (arith, own, marked-more old new i (get_or ps i none) here off marks (length ps) inside)
     by true on =
-        let same : now ≡ was = counts ∙ ap (λ b. min (was + cond b size 0) (2 ^ 64 - 1)) (is ∙ ap not on) ∙ (let most : min (was + 0) (2 ^ 64 - 1) ≡ was = omega (arith, before) in most) in
-        same ∙ counted-same old new visited was stays before
+        let own : cond is_new size 0 ≡ 0 = ap (λ b. cond b size 0) (is ∙ ap not on) in
+        omega (arith, own, marked-same old new (length ps) (λ j lt. stays j))
       where
         stays : (j : ℕ) → is_marked new j ≡ is_marked old j
         stays j = marks j ∙ elim (cases_eq j i) [
           | inl e ↦ ap (λ b. b || is_marked old j) (eq-eqb j i e) ∙ sym (ap (is_marked old) e ∙ on)
           | inr ne ↦ ap (λ b. b || is_marked old j) (ne_eqb j i ne)
         ]
+
+  -- and so are counted
+  pub counted-put : (old new : List ℕ) (i size visited was now : ℕ) (is_new : Bool) → i < length ps → ((p : Placed) → slice_get ps i ≡ Some p → size ≡ nodes p.tree)
+      → is_new ≡ not (is_marked old i) → ((j : ℕ) → is_marked new j ≡ (eqb j i || is_marked old j)) → now ≡ min (was + cond is_new size 0) (2 ^ 64 - 1)
+      → IsCounted ps visited old was → IsCounted ps visited new now
+  counted-put old new i size visited was now is_new inside sizes is marks counts before =
+      let more = marked-put old new i size is_new inside sizes is marks in omega (arith, counts, before, more)
+
+  -- there are no more than all nodes
+  pub marked-most : (marks : List ℕ) (n : ℕ) → n ≤ length ps → marked_nodes ps marks n ≤ nodes_before ps n
+  unfolding marked_nodes
+  marked-most marks zero le = omega arith
+  marked-most marks (suc n) le = by (slice_get ps n) refl (is_marked marks n) (marked-most marks n (omega arith)) where
+    by : (found : Option Placed) → slice_get ps n ≡ found → (on : Bool) → marked_nodes ps marks n ≤ nodes_before ps n
+        → marked_nodes ps marks n + option_map_or (λ (p : Placed). cond on (nodes p.tree) 0) found 0 ≤ nodes_before ps (suc n)
+    by None past on below = absurd (let no : Some (get_or ps n (record { tree = constant true; at = 0 })) ≡ None = sym (slice_get-get_or ps n (record { tree = constant true; at = 0 }) (omega arith)) ∙ past in (let w : ⊥ = cc in w))
+    by (Some p) is true below = omega (arith, below, nodes-next ps n p is)
+    by (Some p) is false below = omega (arith, below, nodes-next ps n p is)
 
   pub counted-none : (marks : List ℕ) (visited count : ℕ) → ((j : ℕ) → is_marked marks j ≡ false) → count ≡ min visited (2 ^ 64 - 1) → IsCounted ps visited marks count
   counted-none marks visited count none is = let no = marked-none marks (length ps) none in omega (arith, no, is)

@@ -1,6 +1,6 @@
 -- One condition more is stepped: run where it may turn, and left as it is where it doesn't. The others, whose nodes and slots are
 -- their own, are as they were.
-use Rattle.std.proofs.Common.{◌≡◌, ◌≢◌, ℕ, zero, suc, ◌+◌, ◌^◌, ◌<◌, ◌≤◌, Bool, true, false, not, ◌&&◌, ◌||◌, List, length, map, slice_get, slice_index, get_or, set, Some, AllPairs, refl, sym, ap, subst, ◌∙◌, inl, inr, arith, eqb}
+use Rattle.std.proofs.Common.{◌≡◌, ◌≢◌, ℕ, zero, suc, ◌+◌, ◌^◌, ◌<◌, ◌≤◌, Bool, true, false, not, ◌&&◌, ◌||◌, List, length, slice_get, slice_index, get_or, set, Some, AllPairs, refl, sym, ap, subst, ◌∙◌, inl, inr, arith, eqb}
 use Rattle.std.proofs.Math.Nat.{eq-or-lt_of_le}
 use Rattle.std.proofs.lemmas.List.{get_or-set_same, get_or-set_other}
 use Rattle.std.proofs.lemmas.Option.{slice_get_within}
@@ -12,8 +12,8 @@ use Rattle.book_model.proofs.ConditionRanges.{range}
 use Rattle.term_eval.specs.declared.env.Env.{Env}
 use Rattle.term_eval.specs.declared.code.Step.{Step}
 use Rattle.term_eval.specs.declared.link.Link.{Link}
-use Rattle.term_eval.specs.Code.{IsCode, IsReady, code, owners}
-use Rattle.term_eval.specs.Links.{link_of, links}
+use Rattle.term_eval.specs.declared.owner.Owner.{Owner}
+use Rattle.term_eval.specs.Code.{IsCode, IsReady, code}
 use Rattle.term_eval.specs.Linked.{CanRun}
 use Rattle.term_eval.specs.CellWords.{cell_at}
 use Rattle.term_eval.specs.CellState.{Stand}
@@ -25,6 +25,7 @@ use Rattle.term_eval.proofs.Frames.{Stand-same}
 use Rattle.term_eval.proofs.Later.{woken_is}
 use Rattle.term_eval.proofs.Unstirred.{unstirred-truth, unstirred-nodes, unstirred-cells, unstirred-due}
 use Rattle.wakes.specs.Marks.{is_marked}
+use Rattle.condition_codes.specs.Pieces.{links_of, owners_of}
 use Rattle.condition_codes.specs.Places.{nodes_before}
 use Rattle.fwc_lane.specs.declared.terms.Terms.{Terms}
 use Rattle.fwc_lane.specs.TermsFit.{TermsFit}
@@ -47,14 +48,13 @@ is-ready b t i p steps start fits here code at = record {
 }
 
 -- and its temporal nodes be gone through
-pub can-run : (b : Book) (t : Terms) (i : ℕ) (p : Placed) (steps : List Step) (own : List Link) (temporal : List ℕ) (start at : ℕ) → TermsFit b t → slice_get (places b) i ≡ Some p
-    → IsCode p.tree p.at steps → own ≡ links p.at p.tree → temporal ≡ owners 0 (code p.at 0 p.tree) → start ≡ nodes_before (places b) i → at ≡ p.at
-    → CanRun steps own temporal t.cells t.nodes p.tree at start
-can-run b t i p steps own temporal start at fits here coded linked numbered first is = record {
-  ready = subst (λ n. IsReady steps t.cells t.nodes p.tree n start) (sym is) (is-ready b t i p steps start fits here coded first);
-  links = linked ∙ ap (map link_of) (sym coded.is);
-  owners = numbered ∙ ap (owners 0) (sym coded.is);
-}
+pub can-run : (b : Book) (t : Terms) (i : ℕ) (p : Placed) (own : List Link) (temporal : List Owner) (start at : ℕ) → TermsFit b t → slice_get (places b) i ≡ Some p
+    → own ≡ links_of p → temporal ≡ owners_of p → start ≡ nodes_before (places b) i → at ≡ p.at → CanRun own temporal t.cells t.nodes p.tree at start
+can-run b t i p own temporal start at fits here linked timed first is =
+    let coded = fits.codes.codes.codes i p here in
+    let ready = is-ready b t i p (code p.at 0 p.tree) start fits here (record { is = refl; short = coded.short; small = coded.small }) first in
+    subst (λ n. CanRun own temporal t.cells t.nodes p.tree n start) (sym is)
+    (record { linked = record { links = linked; held = ready.held }; owners = timed; range = ready.range })
 
 -- a condition that is left is marked where the moment wakes it
 pub marked-is : (w : World) (hit : Operand → Bool) (k j start : ℕ) (p : Placed) (t : Terms) → k < 2 ^ 63 → TellsMoved hit w k p → IsLeft w hit k j start p t → woken w p.tree k ≡ is_marked t.woken j

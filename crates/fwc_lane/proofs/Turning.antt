@@ -1,6 +1,8 @@
 -- One node of a list after another is told what the operand reads for which they ask.
-use Rattle.std.proofs.Common.{◌≡◌, ◌≢◌, ℕ, zero, suc, ◌+◌, ◌-◌, ◌^◌, ◌<◌, ◌≤◌, Bool, true, false, ◌&&◌, ◌||◌, eqb, List, [], ◌∷◌, take, length, slice_get, None, Some, refl, sym, ap, subst, ◌∙◌, ◌⊎◌, inl, inr, arith}
+use Rattle.std.proofs.Common.{◌≡◌, ◌≢◌, ℕ, zero, suc, ◌+◌, ◌-◌, ◌*◌, ◌^◌, ◌<◌, ◌≤◌, Bool, true, false, ◌&&◌, ◌||◌, eqb, not, cond, min, List, [], ◌∷◌, take, get_or, length, slice_get, None, Some, refl, sym, ap, subst, ◌∙◌, ◌⊎◌, inl, inr, arith}
+use mir.Val.{bool_byte}
 use Rattle.std.proofs.lemmas.Bool.{cases_eq, eq-eqb, ne_eqb}
+use Rattle.std.proofs.lemmas.List.Folds.{list_any_more}
 use Rattle.std.proofs.lemmas.Option.{slice_get_within}
 use Rattle.std.proofs.Math.Bool.{and-false, and-true, or-false, or-true, or_assoc, or_comm}
 use Rattle.ecam_spec.specs.Book.{Book, Tree}
@@ -20,14 +22,16 @@ use Rattle.term_eval.specs.Woken.{Operand}
 use Rattle.term_eval.specs.declared.reading.Reading.{Reading}
 use Rattle.wakes.specs.Marks.{is_marked, room}
 use Rattle.condition_codes.specs.IsAskers.{IsAsking}
+use Rattle.condition_codes.specs.IsCodes.{IsCodes}
 use Rattle.condition_codes.specs.Places.{nodes_before}
 use Rattle.condition_codes.specs.declared.codes.CodeTable.{CodeTable}
 use Rattle.condition_codes.specs.declared.askers.Asker.{Asker}
 use Rattle.fwc_lane.specs.TermsFit.{AreWoken}
-use Rattle.fwc_lane.specs.Visits.{IsCounted}
+use Rattle.fwc_lane.specs.Visits.{marked_nodes, IsCounted}
 use Rattle.fwc_lane.specs.Waking.{CanTurn, TurnsEach, MarksEach, Kept, is_listed, is_asking}
 use Rattle.fwc_lane.proofs.FlagSteps.{left-false, right-false}
 use Rattle.fwc_lane.proofs.Askers.{nodes-apart, one-of}
+use Rattle.fwc_lane.proofs.Counting.{marked-put, marked-most}
 use Rattle.fwc_lane.proofs.Hears.{waits-by}
 use Rattle.fwc_lane.proofs.Listing.{listed-at}
 use Rattle.fwc_lane.proofs.NodeFrames.{waits-apart, wake-apart, told-apart}
@@ -66,10 +70,11 @@ are-linked b asking codes old now woken stirred can states wakes j p own first i
     let code = can.are.codes.codes j p is in
     record {
       links = linked;
-      short = code.short;
-      small = code.small;
-      nodes = omega (arith, can.states, states, at, nodes-apart (places b) j (length (places b)) p (slice_get_within (places b) j p is) is);
-      slots = omega (arith, can.slots, wakes, range b j p is);
+      held = record {
+        code = record { is = refl; short = code.short; small = code.small };
+        nodes = omega (arith, can.states, states, at, nodes-apart (places b) j (length (places b)) p (slice_get_within (places b) j p is) is);
+        slots = omega (arith, can.slots, wakes, range b j p is);
+      };
     }
 
 -- a node that asks is one of the condition's
@@ -200,29 +205,75 @@ module _ (b : Book) (reading : Reading) (done more : List Asker) (a : Asker) (ol
 
 -- ---- their conditions are marked
 
-pub marks-none : (b : Book) (woken : List ℕ) (cells : Memory) → MarksEach b [] woken cells woken cells
-marks-none b woken cells = record {
+-- the conditions of some nodes are marked, and those that weren't have so many nodes
+pub record AddsEach (b : Book) (asking : List Asker) (woken marks : List ℕ) (fresh : ℕ) : Type 0 where
+  pub same : room marks ≡ room woken
+  pub marked : (j : ℕ) → is_marked marks j ≡ (is_marked woken j || is_asking asking j)
+  pub nodes : marked_nodes (places b) marks (length (places b)) ≡ marked_nodes (places b) woken (length (places b)) + fresh
+
+pub adds-none : (b : Book) (woken : List ℕ) → AddsEach b [] woken woken 0
+adds-none b woken = record {
   same = refl;
   marked = λ j. sym (or-false (is_marked woken j));
-  slots = refl;
-  most = λ le. le;
-  counts = λ visited counted. counted;
+  nodes = omega arith;
 }
 
 -- one more
-pub marks-more : (b : Book) (done more : List Asker) (term : ℕ) (woken mid marks : List ℕ) (cells was now : Memory)
-    → ((j : ℕ) → is_asking more j ≡ (is_asking done j || eqb term j)) → room marks ≡ room mid → ((j : ℕ) → is_marked marks j ≡ (eqb j term || is_marked mid j)) → now.slots ≡ was.slots
-    → (was.visits ≤ 2 ^ 64 - 1 → now.visits ≤ 2 ^ 64 - 1) → ((visited : ℕ) → IsCounted (places b) visited mid was.visits → IsCounted (places b) visited marks now.visits)
-    → MarksEach b done woken cells mid was → MarksEach b more woken cells marks now
-marks-more b done more term woken mid marks cells was now listed rooms marked slots most counts before = record {
+pub adds-more : (b : Book) (done more : List Asker) (term : ℕ) (woken mid marks : List ℕ) (was own : ℕ)
+    → ((j : ℕ) → is_asking more j ≡ (is_asking done j || eqb term j)) → room marks ≡ room mid → ((j : ℕ) → is_marked marks j ≡ (eqb j term || is_marked mid j))
+    → marked_nodes (places b) marks (length (places b)) ≡ marked_nodes (places b) mid (length (places b)) + own
+    → AddsEach b done woken mid was → AddsEach b more woken marks (was + own)
+adds-more b done more term woken mid marks was own listed rooms marked adds before = record {
   same = rooms ∙ before.same;
   marked = λ j.
       marked j ∙ ap (λ c. eqb j term || c) (before.marked j) ∙ or_comm (eqb j term) (is_marked woken j || is_asking done j)
       ∙ or_assoc (is_marked woken j) (is_asking done j) (eqb j term) ∙ ap (λ c. is_marked woken j || (is_asking done j || c)) (eqb-turn j term)
       ∙ ap (λ c. is_marked woken j || c) (sym (listed j));
-  slots = slots ∙ before.slots;
-  most = λ le. most (before.most le);
-  counts = λ visited counted. counts visited (before.counts visited counted);
+  nodes = omega (arith, adds, before.nodes);
+}
+
+-- its size counts where it is new
+times-new : (size n : ℕ) (on : Bool) → n ≡ bool_byte on → size * n ≡ cond on size 0
+times-new size n true is = ap (λ m. size * m) is ∙ omega arith
+times-new size n false is = ap (λ m. size * m) is ∙ omega arith
+
+-- one of the list more
+pub adds-asker : (b : Book) (asking : List Asker) (i o : ℕ) (d : Asker) (woken mid marks : List ℕ) (fresh size n : ℕ) (is_new : Bool) → i < length asking → IsAsking b o (get_or asking i d)
+    → size ≡ (get_or asking i d).size → n ≡ bool_byte is_new → is_new ≡ not (is_marked mid (get_or asking i d).term) → room marks ≡ room mid
+    → ((j : ℕ) → is_marked marks j ≡ (eqb j (get_or asking i d).term || is_marked mid j))
+    → AddsEach b (take i asking) woken mid fresh → AddsEach b (take (i + 1) asking) woken marks (fresh + size * n)
+adds-asker b asking i o d woken mid marks fresh size n is_new lt asks sized once is rooms marked before =
+    let a = get_or asking i d in
+    let nodes_of : (p : Placed) → slice_get (places b) a.term ≡ Some p → size ≡ nodes p.tree = λ p there.
+    let both : Some asks.place ≡ Some p = sym asks.there ∙ there in
+    let same : asks.place ≡ p = cc in
+    sized ∙ asks.size ∙ ap (λ (q : Placed). nodes q.tree) same in
+    adds-more b (take i asking) (take (i + 1) asking) a.term woken mid marks fresh (size * n)
+    (λ j. list_any_more (λ (x : Asker). eqb x.term j) asking i d lt) rooms marked
+    (marked-put (places b) mid marks a.term size is_new (slice_get_within (places b) a.term asks.place asks.there) nodes_of is marked
+    ∙ ap (λ m. marked_nodes (places b) mid (length (places b)) + m) (sym (times-new size n is_new once)))
+    before
+
+-- so many are no more than there are
+pub adds-few : (b : Book) (c : CodeTable) (asking : List Asker) (woken marks : List ℕ) (fresh : ℕ) → IsCodes b c → AddsEach b asking woken marks fresh → fresh ≤ length c.steps.items.items
+adds-few b c asking woken marks fresh coded adds =
+    omega (
+      arith,
+      adds.nodes,
+      marked-most (places b) marks (length (places b)) (omega arith),
+      coded.codes.nodes (length (places b)) (omega arith),
+      coded.codes.pieces.ends,
+    )
+
+-- and then they are counted
+pub marks-all : (b : Book) (asking : List Asker) (woken marks : List ℕ) (fresh : ℕ) (cells after : Memory) → AddsEach b asking woken marks fresh
+    → after.slots ≡ cells.slots → after.visits ≡ min (cells.visits + fresh) (2 ^ 64 - 1) → MarksEach b asking woken cells marks after
+marks-all b asking woken marks fresh cells after adds slots visits = record {
+  same = adds.same;
+  marked = adds.marked;
+  slots = slots;
+  most = λ le. omega (arith, visits);
+  counts = λ visited counted. omega (arith, counted, visits, adds.nodes);
 }
 
 -- where each that was stirred was woken, so it is when one more is woken and is stirred too or not

@@ -72,18 +72,21 @@ fn run_term(terms: &mut Terms, number: usize, env: &Env<'_>, now: u64) -> bool
         → StepsTerm (places b) env.now now number p terms.old terms.new result }
 {
     let codes = terms.codes.table();
-    let start = codes.start(number);
-    let steps = codes.code(number);
     if now == 0 {
+        let steps = codes.code(number);
+        let start = codes.start(number);
         let turn = terms.cells.begin(&mut terms.nodes, steps, start, env);
         return note(terms, number, turn);
     }
-    let at = codes.at(number);
-    let owners = codes.owners(number);
-    let links = codes.links(number);
-    let turn = terms
-        .cells
-        .run(&mut terms.nodes, steps, links, start, owners, at, now);
+    let parts = codes.parts(number);
+    let turn = terms.cells.run(
+        &mut terms.nodes,
+        parts.links,
+        parts.first,
+        parts.owners,
+        parts.slot,
+        now,
+    );
     note(terms, number, turn)
 }
 

@@ -51,8 +51,8 @@ pub fn wake(terms: &mut Terms, book: &Book, operand: usize, other: bool, reading
     }
 }
 
-// Tells some nodes what the operand that they ask for reads, marks their conditions, and marks as stirred those of these that
-// may turn by that.
+// Tells some nodes what the operand that they ask for reads, marks their conditions, counts the nodes of those that weren't
+// marked before, and marks as stirred those that may turn by that.
 #[inline(always)]
 fn turn_each(
     nodes: &mut Nodes,
@@ -74,20 +74,21 @@ fn turn_each(
         → MarksEach b asking.now woken.old cells.old woken.new cells.new }
     ensures stirs { AreWoken woken.old stirred.old → AreWoken woken.new stirred.new }
 {
+    let mut fresh = 0;
     for asker in asking {
         let term = asker.term as usize;
-        mark_counted(woken, cells, term, usize::from(asker.size));
         let holds = codes.says(asker, reading);
         let links = codes.links_by(asker);
         let first = asker.first as usize;
-        if nodes.turn(links, first, usize::from(asker.node), holds) {
+        if nodes.turn(asker.link, links, first, usize::from(asker.node), holds) {
             stirred.mark(term);
         }
+        fresh += usize::from(asker.size) * usize::from(woken.put(term));
     }
+    cells.count(fresh);
 }
 
-// Marks a condition of so many nodes, and counts these where it wasn't marked before. (It takes no branch, since which
-// conditions were marked can't be foreseen.)
+// Marks a condition of so many nodes, and counts these where it wasn't marked before.
 #[inline(always)]
 fn mark_counted(woken: &mut Marked, cells: &mut Cells, term: usize, size: usize)
     requires room { term < room woken.old }

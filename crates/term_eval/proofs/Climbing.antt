@@ -16,7 +16,7 @@ use Rattle.term_eval.specs.NodeState.{state_at, says, said, IsKept, NodesWait, a
 use Rattle.term_eval.proofs.PartLaws.{parts-ends, slots-within}
 use Rattle.term_eval.proofs.NodeKinds.{is_gate, own-slot}
 use Rattle.term_eval.proofs.CodeParts.{heads-within}
-use Rattle.term_eval.proofs.Linking.{heads-link}
+use Rattle.term_eval.proofs.Linking.{link-up, link-top, link-gate}
 use Rattle.term_eval.proofs.TellingParts.{ToTell, Given}
 use Rattle.term_eval.proofs.Telling.{told}
 
@@ -51,13 +51,16 @@ climbed w h updated c at first i x n links now ready heads own is free before j 
     } in
     let given : (k : ℕ) (z : Part) → Heads c at k z → Given w h updated links first i x.at n start k z = λ k z of_it.
     (record {
-      link = heads-link c at first n links ready k z of_it;
-      few = (let ends = parts-ends at 0 c k z of_it in let small = ready.small in omega arith);
-      room = (let ends = parts-ends at 0 c k z of_it in let room = ready.nodes in omega arith);
+      link = link-up c at first n links ready k z of_it;
+      top = link-top c at first n links ready k z of_it;
+      gate = λ m high up below. link-gate c at first n links ready m k z
+          (let w = heads-within c at i x heads in omega arith) of_it up below;
+      few = (let ends = parts-ends at 0 c k z of_it in let small = ready.held.code.small in omega arith);
+      room = (let ends = parts-ends at 0 c k z of_it in let room = ready.held.nodes in omega arith);
       slot = λ temporal.
           let high = slots-within at 0 c k z of_it in
           let some = own-slot z.tree temporal in
-          let room = ready.slots in
+          let room = ready.held.slots in
           omega (arith, high.1);
       free = λ above. free k z above of_it;
       kept = before.others k z of_it;

@@ -1,5 +1,5 @@
 -- The steps of a condition's code by its parts: what stands where.
-use Rattle.std.proofs.Common.{◌≡◌, ℕ, zero, suc, ◌+◌, ◌<◌, ◌≤◌, true, List, ◌++◌, length, inl, inr, Some, get_or, sym, ◌∙◌, ap, arith}
+use Rattle.std.proofs.Common.{◌≡◌, ℕ, zero, suc, ◌+◌, ◌<◌, ◌≤◌, true, List, ◌++◌, length, inl, inr, Some, get_or, refl, sym, ◌∙◌, ap, arith}
 use Rattle.std.specs.Option.{option_map}
 use Rattle.std.specs.List.{slice_get}
 use Rattle.std.proofs.lemmas.Option.{slice_get-map, slice_get-get_or, slice_get_within, get_or_from_slice_get, same_Some}
@@ -121,6 +121,50 @@ up-more c cs one rest at up j y is =
 pub heads-up : (c : Tree) (at j : ℕ) (y : Part) → Heads c at j y → y.up ≤ j
 unfolding UpIn
 heads-up c at j y heads = let far = for-tree UpIn UpOf up-node up-none up-more c at 0 j y heads in omega arith
+
+-- each node but the first stands behind another
+AloneOf : Trees → Type 0
+AloneOf cs = (at up j : ℕ) (y : Part) → 0 < up → slice_get (parts_of at up cs) j ≡ Some y → 0 < y.up
+
+AloneIn : Tree → Type 0
+AloneIn c = (at up j : ℕ) (y : Part) → slice_get (parts at up c) (suc j) ≡ Some y → 0 < y.up
+
+alone-node : (c : Tree) → AloneOf (children c) → AloneIn c
+unfolding AloneOf AloneIn
+alone-node c inner at up j y is = inner (inside at c) 1 j y (omega arith)
+    (sym (ap (λ l. slice_get l (suc j)) (parts-is at up c)) ∙ is)
+
+alone-none : AloneOf none
+unfolding AloneOf parts
+alone-none at up j y some is = absurd (let f : ⊥ = cc in f)
+
+alone-first : (c : Tree) → AloneIn c → (at up j : ℕ) (y : Part) → 0 < up → slice_get (parts at up c) j ≡ Some y → 0 < y.up
+unfolding AloneIn
+alone-first c one at up zero y some is =
+    let own : record { tree = c; at = at; up = up } ≡ y =
+    same_Some (record { tree = c; at = at; up = up }) y (sym (ap (λ l. slice_get l 0) (parts-is at up c)) ∙ is) in
+    let place : up ≡ y.up = ap (λ (z : Part). z.up) own in
+    omega arith
+alone-first c one at up (suc j) y some is = one at up j y is
+
+alone-more : (c : Tree) (cs : Trees) → AloneIn c → AloneOf cs → AloneOf (more c cs)
+unfolding AloneOf parts
+alone-more c cs one rest at up j y some is =
+    let xs = parts at up c in
+    let ys = parts_of (at + slots c) (up + nodes c) cs in
+    elim (split j (length xs)) [
+      | inl h ↦ alone-first c one at up j y some (sym (get-left xs ys j h) ∙ is)
+      | inr h ↦
+          rest (at + slots c) (up + nodes c) h.0 y (omega arith)
+          (sym (get-right xs ys h.0) ∙ ap (slice_get (xs ++ ys)) (sym h.1) ∙ is)
+    ]
+
+pub heads-alone : (c : Tree) (at j : ℕ) (y : Part) → Heads c at j y → y.up ≡ 0 → j ≡ 0
+unfolding AloneIn
+heads-alone c at zero y heads top = refl
+heads-alone c at (suc j) y heads top =
+    let some = for-tree AloneIn AloneOf alone-node alone-none alone-more c at 0 j y heads in
+    absurd (let f : ⊥ = omega arith in f)
 
 -- there is a step for each node
 pub length-steps : (c : Tree) (at : ℕ) (steps : List Step) → IsCode c at steps → length steps ≡ nodes c

@@ -9,13 +9,13 @@ use Rattle.ecam_spec.specs.Book.{Tree}
 use Rattle.ecam_spec.specs.Term.{World, holds}
 use Rattle.ecam_spec.specs.TermSize.{nodes_of, children}
 use Rattle.term_eval.specs.declared.memory.Cell.{Cell}
-use Rattle.term_eval.specs.declared.code.Step.{Step}
 use Rattle.term_eval.specs.CellWords.{never, cell_at}
 use Rattle.term_eval.specs.CellState.{Stand}
 use Rattle.term_eval.specs.OwnDue.{own_due}
 use Rattle.term_eval.specs.Asked.{heard}
 use Rattle.term_eval.specs.Woken.{moved}
-use Rattle.term_eval.specs.Code.{IsHeld, owners}
+use Rattle.term_eval.specs.Code.{code, owner_of, owners, IsHeld}
+use Rattle.term_eval.specs.Links.{links}
 use Rattle.term_eval.specs.Memory.{NodeMemory}
 use Rattle.term_eval.specs.Parts.{Part, parts, Heads, is_temporal}
 use Rattle.term_eval.specs.NodeState.{state_at, own_says, said, Rests, Wakes, NodesWait, also}
@@ -25,7 +25,6 @@ use Rattle.term_eval.proofs.Inside.{node_at, OwnCell}
 use Rattle.term_eval.proofs.NodeKinds.{no-gate, own-slot, spoken-own}
 use Rattle.term_eval.proofs.Settling.{differ-same}
 use Rattle.term_eval.proofs.PartLaws.{slots-within, says-after, said-after, says-is}
-use Rattle.term_eval.proofs.CodeParts.{heads-node}
 use Rattle.term_eval.proofs.KeptSame.{also-own, also-other, kept-same}
 use Rattle.term_eval.proofs.ClimbSteps.{climb-same}
 use Rattle.term_eval.proofs.Climbing.{IsToBeTold, climbed, kept_by}
@@ -37,7 +36,7 @@ use Rattle.term_eval.proofs.Short.{short-part}
 use Rattle.term_eval.proofs.Hearing.{wait-same}
 use Rattle.term_eval.proofs.AskedSoFar.{temporal_at, gone, gone-untimed, gone-through, gone-ahead, start-waits}
 use Rattle.term_eval.proofs.RightBelow.{still-truths, set-heads}
-use Rattle.term_eval.proofs.PassFrame.{nodes_of_run, links_of, links-held, look_by, leave, leaves, looks, Room, room-still, over, passes-by, goes-over, framed}
+use Rattle.term_eval.proofs.PassFrame.{nodes_of_run, links-held, look_by, leave, leaves, looks, Room, room-still, over, passes-by, goes-over, framed}
 
 module _ (w : World) (h : ℕ) (c : Tree) (at first : ℕ) where
   -- ---- from one node to that before it
@@ -125,7 +124,7 @@ module _ (w : World) (h : ℕ) (c : Tree) (at first : ℕ) where
 
 -- ---- a node that is left, and one that is looked at
 
-module _ (w : World) (h : ℕ) (c : Tree) (at first : ℕ) (steps : List Step) (small : suc h < 2 ^ 63) where
+module _ (w : World) (h : ℕ) (c : Tree) (at first : ℕ) (small : suc h < 2 ^ 63) where
   -- all that stands below a node has been updated when it is its turn
   below-asked : (m : ℕ) (x : Part) → ((i : ℕ) → m + 1 ≤ i → i < m + 1 + nodes_of (children x.tree) → gone c at (m + 1) i ≡ true)
   below-asked m x i low high = gone-through c at (m + 1) i low
@@ -146,7 +145,7 @@ module _ (w : World) (h : ℕ) (c : Tree) (at first : ℕ) (steps : List Step) (
       ∙ ap (λ b. own_says w h b x.tree) (own-unasked m x heads temporal)
 
   module _ (m slot : ℕ) (x : Part) (xs : List Part) (place : Place c at m slot (x ∷ xs)) (temporal : is_temporal x.tree ≡ true) (s : Run)
-      (room : Room (suc h) steps first c at s) (g : Gone w h c at first (m + 1) s) where
+      (room : Room (suc h) first c at s) (g : Gone w h c at first (m + 1) s) where
     heads : Heads c at m x
     heads = place-heads c at m slot x xs place
 
@@ -175,8 +174,10 @@ module _ (w : World) (h : ℕ) (c : Tree) (at first : ℕ) (steps : List Step) (
           wake = λ t. r.due ∙ sym turn.due;
         } in
         let still : (state_at s.states (first + m)).told ≡ now = said-before-it m x s heads temporal g ∙ sym turn.truth in
-        let waits = climbed w h (gone c at (m + 1)) c at first m x n (links_of steps) now (links-held steps n c at first room.nodes) heads (no-gate x.tree temporal) refl (before-free m) told in
-        let done = climb-same m (links_of steps) first m now s.states s.wakes (differ-same (state_at s.states (first + m)).told now still) in
+        let waits = climbed w h (gone c at (m + 1)) c at first m x n (links at c) now
+        (links-held n c at first room.nodes) heads (no-gate x.tree temporal) refl (before-free m) told in
+        let done = climb-same m (links at c) first m now s.states s.wakes
+        (differ-same (state_at s.states (first + m)).told now still) in
         record {
           waits = gone-told w h c at first m x heads temporal (leave x.at s) (subst (λ d. NodesWait w h (also m (gone c at (m + 1))) c at first (kept_by d)) done waits);
           behind = behind-cells w h c at first m slot x xs place temporal s g s.cells (λ i other. refl) (left-cell w h x.tree (cell_at s.cells x.at) same own);
@@ -190,7 +191,7 @@ module _ (w : World) (h : ℕ) (c : Tree) (at first : ℕ) (steps : List Step) (
         let e : first + m + 1 ≡ first + (m + 1) = omega arith in
         ap (λ i. (state_at s.states i).told) e ∙ kept.told ∙ says-after w h (gone c at (m + 1)) a (m + 1) (λ i low high. gone-through c at (m + 1) i low)
 
-    gone-seen : Gone w h c at first m (look_by (suc h) steps first m x.at (node_at x.at x.tree) s)
+    gone-seen : Gone w h c at first m (look_by (suc h) (links at c) first m x.at (node_at x.at x.tree) s)
     gone-seen =
         let own = g.ahead m x heads (omega arith) in
         let kept = g.waits m x heads in
@@ -206,7 +207,12 @@ module _ (w : World) (h : ℕ) (c : Tree) (at first : ℕ) (steps : List Step) (
         let len : length mid ≡ length s.wakes = length-set s.wakes x.at due in
         let n : NodeMemory = record { states = s.states; wakes = mid } in
         let now = run.temporal_says (suc h) s.cells count set (node_at x.at x.tree) in
-        let ready : IsHeld steps n c at first = record { code = room.nodes.code; nodes = room.nodes.nodes; slots = omega (arith, len, room.nodes.slots) } in
+        let ready : IsHeld (code at 0 c) n c at first = record {
+          code = room.nodes.code;
+          nodes = room.nodes.nodes;
+          slots =
+              omega (arith, len, room.nodes.slots);
+        } in
         let set-wake : slice_index mid x.at ≡ due = get_or-set_same s.wakes x.at due _ (omega (arith, within.1, some, room.nodes.slots)) in
         let told : IsToBeTold w h (gone c at (m + 1)) c at first m x n = record {
           others = λ j y there other. kept-same w h (gone c at (m + 1)) y first j (nodes_of_run s) n refl (λ timed. other-slot j y there other timed due) (g.waits j y there);
@@ -214,9 +220,11 @@ module _ (w : World) (h : ℕ) (c : Tree) (at first : ℕ) (steps : List Step) (
           count = kept.count;
           wake = λ t. set-wake ∙ r.wake;
         } in
-        let waits = climbed w h (gone c at (m + 1)) c at first m x n (links_of steps) now (links-held steps n c at first ready) heads (no-gate x.tree temporal) r.told (before-free m) told in
+        let waits = climbed w h (gone c at (m + 1)) c at first m x n (links at c) now (links-held n c at first ready) heads
+        (no-gate x.tree temporal) r.told (before-free m) told in
         record {
-          waits = gone-told w h c at first m x heads temporal (look_by (suc h) steps first m x.at (node_at x.at x.tree) s) waits;
+          waits = gone-told w h c at first m x heads temporal
+              (look_by (suc h) (links at c) first m x.at (node_at x.at x.tree) s) waits;
           behind = behind-cells w h c at first m slot x xs place temporal s g (cells_after (suc h) s.cells count set (node_at x.at x.tree)) a.others r.cell;
           ahead = ahead-cells w h c at first m slot x xs place temporal s g (cells_after (suc h) s.cells count set (node_at x.at x.tree)) a.others;
         }
@@ -224,26 +232,30 @@ module _ (w : World) (h : ℕ) (c : Tree) (at first : ℕ) (steps : List Step) (
         other-slot : (j : ℕ) (y : Part) → Heads c at j y → j ≢ m → is_temporal y.tree ≡ true → (due : ℕ) → slice_index (slice_set s.wakes x.at due) y.at ≡ slice_index s.wakes y.at
         other-slot j y there other timed due = get_or-set_other s.wakes x.at y.at due _ (slots-apart c at m j x y heads there temporal timed other)
 
-    gone-one : x.at ≡ slot → Gone w h c at first m (look_or_leave (suc h) steps (links_of steps) first m slot s)
+    gone-one : x.at ≡ slot → Gone w h c at first m (look_or_leave (suc h) (links at c) first
+        (owner_of m (node_at x.at x.tree)) slot s)
     gone-one own = elim (cases_lt (suc h) (slice_index s.wakes slot)) [
       | inl later ↦
           (let there : suc h < slice_index s.wakes x.at = subst (λ p. suc h < slice_index s.wakes p) (sym own) later in
-          subst (Gone w h c at first m) (sym (leaves (suc h) steps first m slot s later)) (subst (λ p. Gone w h c at first m (leave p s)) own (gone-left there)))
+          subst (Gone w h c at first m) (sym (leaves (suc h) (links at c) first slot
+          (owner_of m (node_at x.at x.tree)) s later))
+          (subst (λ p. Gone w h c at first m (leave p s)) own (gone-left there)))
       | inr now ↦
           subst (Gone w h c at first m)
-          (sym (looks (suc h) steps first m slot x s now (heads-node c at steps room.nodes.code m x heads) own)) gone-seen
+          (sym (looks (suc h) (links at c) first m slot x s now temporal own)) gone-seen
     ]
 
   gone-step : (m slot : ℕ) (x : Part) (xs : List Part) (s : Run) (b : Bool) → is_temporal x.tree ≡ b → Place c at m slot (x ∷ xs) →
-      (Room (suc h) steps first c at (over (suc h) steps first c at (m + 1) (cond b (suc slot) slot) xs s)) →
-      Gone w h c at first (m + 1) (over (suc h) steps first c at (m + 1) (cond b (suc slot) slot) xs s) →
-      Gone w h c at first m (over (suc h) steps first c at m slot (x ∷ xs) s)
+      (Room (suc h) first c at (over (suc h) first c at (m + 1) (cond b (suc slot) slot) xs s)) →
+      Gone w h c at first (m + 1) (over (suc h) first c at (m + 1) (cond b (suc slot) slot) xs s) →
+      Gone w h c at first m (over (suc h) first c at m slot (x ∷ xs) s)
   gone-step m slot x xs s true temporal place room g =
-      subst (Gone w h c at first m) (sym (goes-over (suc h) steps first c at m slot x xs s temporal))
-      (gone-one m slot x xs place temporal (over (suc h) steps first c at (m + 1) (suc slot) xs s) room g (place-slot c at m slot x xs place))
+      subst (Gone w h c at first m) (sym (goes-over (suc h) first c at m slot x xs s temporal))
+      (gone-one m slot x xs place temporal (over (suc h) first c at (m + 1) (suc slot) xs s) room g
+      (place-slot c at m slot x xs place))
   gone-step m slot x xs s false untimed place room g =
-      subst (Gone w h c at first m) (sym (passes-by (suc h) steps first c at m slot x xs s untimed))
-      (gone-by w h c at first m x (over (suc h) steps first c at (m + 1) slot xs s) (place-heads c at m slot x xs place) untimed g)
+      subst (Gone w h c at first m) (sym (passes-by (suc h) first c at m slot x xs s untimed))
+      (gone-by w h c at first m x (over (suc h) first c at (m + 1) slot xs s) (place-heads c at m slot x xs place) untimed g)
 
   -- nothing heads a node behind the last
   none-behind : (m slot : ℕ) → Place c at m slot [] → (i : ℕ) (x : Part) → Heads c at i x → i < m
@@ -255,9 +267,9 @@ module _ (w : World) (h : ℕ) (c : Tree) (at first : ℕ) (steps : List Step) (
         absurd (let z : ⊥ = cc in z))
   ]
 
-  pub gone-over : (xs : List Part) (m slot : ℕ) (s : Run) → Place c at m slot xs → Room (suc h) steps first c at s → s.due ≡ never →
+  pub gone-over : (xs : List Part) (m slot : ℕ) (s : Run) → Place c at m slot xs → Room (suc h) first c at s → s.due ≡ never →
       NodesWait w h (heard (moved w (suc h)) c) c at first (nodes_of_run s) → Stand w (suc h) c at s.cells →
-      Gone w h c at first m (over (suc h) steps first c at m slot xs s)
+      Gone w h c at first m (over (suc h) first c at m slot xs s)
   unfolding owners pass_over
   gone-over [] m slot s place room due waits stand = record {
     waits = start-waits w h c at first m (nodes_of_run s) (none-behind m slot place) waits;
@@ -266,7 +278,8 @@ module _ (w : World) (h : ℕ) (c : Tree) (at first : ℕ) (steps : List Step) (
   }
   gone-over (x ∷ xs) m slot s place room due waits stand =
       let next = place-next c at m slot x xs place in
-      let f = framed (suc h) steps first c at xs (m + 1) (behind x.tree slot) s next room due in
+      let f = framed (suc h) first c at xs (m + 1) (behind x.tree slot) s next room due in
       gone-step m slot x xs s (is_temporal x.tree) refl place
-      (room-still (suc h) steps first c at (behind x.tree slot) (temporal_count xs) s (over (suc h) steps first c at (m + 1) (behind x.tree slot) xs s) f room)
+      (room-still (suc h) first c at (behind x.tree slot) (temporal_count xs) s
+      (over (suc h) first c at (m + 1) (behind x.tree slot) xs s) f room)
       (gone-over xs (m + 1) (behind x.tree slot) s next room due waits stand)

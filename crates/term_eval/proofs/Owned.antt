@@ -4,7 +4,8 @@ use Rattle.std.specs.List.{slice_get}
 use Rattle.std.proofs.lemmas.Bool.{cases_lt}
 use Rattle.ecam_spec.specs.Book.{Tree, Trees, constant, discrete, valid, compared, in_phase, alert, press, computer, negation, all, any, at_least, confirmed, held, risen, latched, none, more}
 use Rattle.ecam_spec.specs.TermSize.{slots, slots_of, nodes, children}
-use Rattle.term_eval.specs.Code.{has_slot}
+use Rattle.term_eval.specs.Code.{has_slot, owner_of}
+use Rattle.term_eval.specs.Run.{owned}
 use Rattle.term_eval.specs.Parts.{Part, parts, parts_of, Heads, is_temporal}
 use Rattle.term_eval.proofs.Inside.{node_at, inside, slots-is}
 use Rattle.term_eval.proofs.PartLaws.{for-tree, parts-is}
@@ -52,6 +53,26 @@ has-slot (confirmed c n) at = refl
 has-slot (held c n) at = refl
 has-slot (risen c) at = refl
 has-slot (latched s r) at = refl
+
+-- what is read of a temporal node tells which it is
+pub owned-is : (c : Tree) (at i : ℕ) → is_temporal c ≡ true → owned (owner_of i (node_at at c)) at ≡ node_at at c
+unfolding is_temporal
+owned-is (constant b) at i temporal = absurd (let f : ⊥ = cc in f)
+owned-is (discrete x) at i temporal = absurd (let f : ⊥ = cc in f)
+owned-is (valid x) at i temporal = absurd (let f : ⊥ = cc in f)
+owned-is (compared x op n) at i temporal = absurd (let f : ⊥ = cc in f)
+owned-is (in_phase set) at i temporal = absurd (let f : ⊥ = cc in f)
+owned-is (alert a) at i temporal = absurd (let f : ⊥ = cc in f)
+owned-is (press key) at i temporal = absurd (let f : ⊥ = cc in f)
+owned-is (computer n) at i temporal = absurd (let f : ⊥ = cc in f)
+owned-is (negation c) at i temporal = absurd (let f : ⊥ = cc in f)
+owned-is (all cs) at i temporal = absurd (let f : ⊥ = cc in f)
+owned-is (any cs) at i temporal = absurd (let f : ⊥ = cc in f)
+owned-is (at_least n cs) at i temporal = absurd (let f : ⊥ = cc in f)
+owned-is (confirmed c n) at i temporal = refl
+owned-is (held c n) at i temporal = refl
+owned-is (risen c) at i temporal = refl
+owned-is (latched s r) at i temporal = refl
 
 -- the slots of some parts follow one another from a place up to another
 unfoldable pub Follow : ℕ → List Part → ℕ → Type 0

@@ -5,26 +5,26 @@ use Rattle.std.specs.List.{slice_get}
 use Rattle.ecam_spec.specs.Book.{Tree, Trees, none, more}
 use Rattle.ecam_spec.specs.Term.{World, holds}
 use Rattle.ecam_spec.specs.TermSize.{nodes, slots, children}
-use Rattle.term_eval.specs.declared.code.Step.{Step}
 use Rattle.term_eval.specs.declared.link.Link.{Link}
+use Rattle.term_eval.specs.declared.owner.Owner.{Owner}
 use Rattle.term_eval.specs.CellWords.{never}
 use Rattle.term_eval.specs.CellState.{Stand}
 use Rattle.term_eval.specs.Due.{staying, IsDue}
 use Rattle.term_eval.specs.OwnDue.{own_due}
 use Rattle.term_eval.specs.Memory.{Memory, NodeMemory}
 use Rattle.term_eval.specs.Code.{owners}
+use Rattle.term_eval.specs.Links.{links}
 use Rattle.term_eval.specs.Linked.{CanRun}
 use Rattle.term_eval.specs.Asked.{heard}
 use Rattle.term_eval.specs.Woken.{moved}
 use Rattle.term_eval.specs.Parts.{Part, parts, Heads, is_temporal}
 use Rattle.term_eval.specs.NodeState.{state_at, SayTheSame, Wakes, NodesWait, NodesStand}
 use Rattle.term_eval.specs.Run.{Run, pass_over}
-use Rattle.term_eval.proofs.PartLaws.{parts-is, says-before, says-after, said-before, said-after}
+use Rattle.term_eval.proofs.PartLaws.{parts-is, parts-code, says-before, says-after, said-before, said-after}
 use Rattle.term_eval.proofs.Dues.{due-of}
 use Rattle.term_eval.proofs.PartCells.{close-parts}
 use Rattle.term_eval.proofs.Owned.{place-first, temporal_count, many-slots, follow}
-use Rattle.term_eval.proofs.CanPass.{is-code}
-use Rattle.term_eval.proofs.PassFrame.{links_of, nodes_of_run, Framed, FramedTo, Room, over, framed}
+use Rattle.term_eval.proofs.PassFrame.{nodes_of_run, Framed, FramedTo, Room, over, framed}
 use Rattle.term_eval.proofs.AskedSoFar.{gone, gone-through}
 use Rattle.term_eval.proofs.Over.{Gone, gone-over}
 
@@ -67,26 +67,27 @@ module _ (w : World) (h : ℕ) (c : Tree) (at first : ℕ) (n : NodeMemory) (wai
 
 -- ---- the whole
 
-module _ (k : ℕ) (steps : List Step) (own : List Link) (temporal : List ℕ) (m : Memory) (n : NodeMemory) (c : Tree) (at first : ℕ)
-    (can : CanRun steps own temporal m n c at first) where
+module _ (k : ℕ) (own : List Link) (temporal : List Owner) (m : Memory) (n : NodeMemory) (c : Tree) (at first : ℕ)
+    (can : CanRun own temporal m n c at first) where
   abbrev pub ran : Run
-  ran = pass_over k steps own first temporal at (fresh m n)
+  ran = pass_over k own first temporal at (fresh m n)
 
-  goes : over k steps first c at 0 at (parts at 0 c) (fresh m n) ≡ ran
+  goes : over k first c at 0 at (parts at 0 c) (fresh m n) ≡ ran
   goes =
-      ap (λ l. pass_over k steps (links_of steps) first (owners 0 l) at (fresh m n)) (sym (is-code steps own temporal m n c at first can))
-      ∙ ap (λ l. pass_over k steps (links_of steps) first l at (fresh m n)) (sym can.owners)
-      ∙ ap (λ l. pass_over k steps l first temporal at (fresh m n)) (sym can.links)
+      ap (λ l. pass_over k (links at c) first (owners 0 l) at (fresh m n)) (sym (parts-code at 0 c))
+      ∙ ap (λ l. pass_over k (links at c) first l at (fresh m n)) (sym can.owners)
+      ∙ ap (λ l. pass_over k l first temporal at (fresh m n)) (sym can.linked.links)
 
-  room : Room k steps first c at (fresh m n)
-  room = record { nodes = can.ready.held; cells = can.ready.range }
+  room : Room k first c at (fresh m n)
+  room = record { nodes = can.linked.held; cells = can.range }
 
   pub ran-frame : Framed first (first + nodes c) at (at + slots c) at (slots c) (fresh m n) ran
   ran-frame =
       let many = many-slots at (at + slots c) (parts at 0 c) (follow c at) in
       let e : temporal_count (parts at 0 c) ≡ slots c = omega (arith, many) in
-      subst (λ count. FramedTo k steps first c at at count (fresh m n) ran) e
-      (subst (FramedTo k steps first c at at (temporal_count (parts at 0 c)) (fresh m n)) goes (framed k steps first c at (parts at 0 c) 0 at (fresh m n) (place-first c at) room refl))
+      subst (λ count. FramedTo k first c at at count (fresh m n) ran) e
+      (subst (FramedTo k first c at at (temporal_count (parts at 0 c)) (fresh m n)) goes
+      (framed k first c at (parts at 0 c) 0 at (fresh m n) (place-first c at) room refl))
 
 -- it tells the condition's truth and when it is due, and all stands for the moment
 pub record Done (w : World) (k : ℕ) (c : Tree) (at first : ℕ) (r : Run) : Type 0 where
@@ -95,27 +96,30 @@ pub record Done (w : World) (k : ℕ) (c : Tree) (at first : ℕ) (r : Run) : Ty
   pub stands : Stand w (suc k) c at r.cells
   pub nodes : NodesStand w k c at first (nodes_of_run r)
 
-module _ (steps : List Step) (own : List Link) (temporal : List ℕ) (m : Memory) (n : NodeMemory) (c : Tree) (at first : ℕ)
-    (can : CanRun steps own temporal m n c at first) (w : World) (h : ℕ) where
+module _ (own : List Link) (temporal : List Owner) (m : Memory) (n : NodeMemory) (c : Tree) (at first : ℕ)
+    (can : CanRun own temporal m n c at first) (w : World) (h : ℕ) where
   done-next : suc h < 2 ^ 63 → Stand w (suc h) c at m.slots → NodesWait w h (heard (moved w (suc h)) c) c at first n →
-      Done w (suc h) c at first (ran (suc h) steps own temporal m n c at first can)
+      Done w (suc h) c at first (ran (suc h) own temporal m n c at first can)
   done-next small stand waits =
-      let r = ran (suc h) steps own temporal m n c at first can in
+      let r = ran (suc h) own temporal m n c at first can in
       let g : Gone w h c at first 0 r =
-      subst (Gone w h c at first 0) (goes (suc h) steps own temporal m n c at first can)
-      (gone-over w h c at first steps small (parts at 0 c) 0 at (fresh m n) (place-first c at) (room (suc h) steps own temporal m n c at first can) refl waits stand) in
-      let f = ran-frame (suc h) steps own temporal m n c at first can in
+      subst (Gone w h c at first 0) (goes (suc h) own temporal m n c at first can)
+      (gone-over w h c at first small (parts at 0 c) 0 at (fresh m n) (place-first c at)
+      (room (suc h) own temporal m n c at first can) refl waits stand) in
+      let f = ran-frame (suc h) own temporal m n c at first can in
       record {
         told = first-told w h c at first (nodes_of_run r) g.waits;
         due =
             subst (IsDue (staying w (suc h)) c (suc h)) (sym f.due)
-            (due-of w (suc h) c at r.wakes small can.ready.held.code.short (own-wakes w h c at first (nodes_of_run r) g.waits));
+            (due-of w (suc h) c at r.wakes small can.linked.held.code.short
+            (own-wakes w h c at first (nodes_of_run r) g.waits));
         stands = close-parts w (suc (suc h)) r.cells c at (λ i x heads. g.behind i x heads (omega arith));
         nodes = stand-after w h c at first (nodes_of_run r) g.waits;
       }
 
   pub done : (k : ℕ) → k ≡ suc h → k < 2 ^ 63 → Stand w k c at m.slots → NodesWait w h (heard (moved w k) c) c at first n →
-      Done w k c at first (ran k steps own temporal m n c at first can)
+      Done w k c at first (ran k own temporal m n c at first can)
   done k is =
-      subst (λ k. k < 2 ^ 63 → Stand w k c at m.slots → NodesWait w h (heard (moved w k) c) c at first n → Done w k c at first (ran k steps own temporal m n c at first can))
+      subst (λ k. k < 2 ^ 63 → Stand w k c at m.slots → NodesWait w h (heard (moved w k) c) c at first n →
+      Done w k c at first (ran k own temporal m n c at first can))
       (sym is) done-next

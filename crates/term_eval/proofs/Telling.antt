@@ -11,17 +11,17 @@ use Rattle.term_eval.specs.declared.nodes.NodeState.{NodeState}
 use Rattle.term_eval.specs.declared.link.Link.{Link}
 use Rattle.term_eval.specs.Memory.{NodeMemory}
 use Rattle.term_eval.specs.Woken.{differ}
-use Rattle.term_eval.specs.Climb.{Climbed, climb, count_with, gate_says, go_on, link_at, told_as, counted}
+use Rattle.term_eval.specs.Climb.{Climbed, climb, count_with, gate_says, is_top, go_on, link_at, told_as, counted}
 use Rattle.term_eval.specs.Code.{many}
 use Rattle.term_eval.specs.Parts.{Part, parts, parts_of}
 use Rattle.term_eval.specs.NodeState.{state_at, unasked, one_if, own_says, says, said, Wakes, SayTheSame, also}
 use Rattle.term_eval.proofs.Codes.{many-nodes}
-use Rattle.term_eval.proofs.Inside.{inside, nodes-is, slots-is}
+use Rattle.term_eval.proofs.Inside.{node_at, inside, nodes-is, slots-is}
 use Rattle.term_eval.proofs.PartLaws.{for-tree, parts-count, slots-within_of, split, low-inside, spoken, says-is}
 use Rattle.term_eval.proofs.NodeKinds.{link_says, Kind, an_atom, a_gate, a_temporal, kind-of, spoken-own, own-inside}
 use Rattle.term_eval.proofs.KeptSame.{also-other, kept-same, wakes-by, Each, each-left, each-right, each-own, each-inner, each-whole}
 use Rattle.term_eval.proofs.ClimbSteps.{told_in, counted_in, climb-same, climb-first, climb-above, counts-one, same-truth}
-use Rattle.term_eval.proofs.Linking.{said-many}
+use Rattle.term_eval.proofs.Linking.{gate-below, said-many}
 use Rattle.term_eval.proofs.TellingParts.{none-inside, here, wider, leaves-set, settled}
 use Rattle.term_eval.proofs.TellingParts as tell
 use Rattle.term_eval.proofs.TellingBeside.{first-stops, rest-stops, first-comes, rest-comes}
@@ -167,13 +167,17 @@ module _ (w : World) (h : ℕ) (updated : ℕ → Bool) (links : List Link) (fir
       = length-set comes.states (first + comes.node) (told_as comes.says_now (state_at comes.states (first + comes.node))) in
       let here_now : state_at after (first + p) ≡ value = get_or-set_same told (first + p) value unasked (omega arith) in
       let up : (link_at links comes.node).up + p ≡ comes.node = omega arith in
+      let gate = own.gate comes.node comes.high up (omega arith) in
       record {
         is = comes.is
-            ∙ climb-above comes.fuel links first comes.node p comes.says_now comes.states n.wakes (ap (λ b. differ b comes.says_now) comes.told ∙ turns) up (omega arith)
-            ∙ ap (λ m. go_on (gate_says (link_at links p).gate (link_at links p).number m) (λ says. climb comes.fuel links first p says after n.wakes)
+            ∙ climb-above comes.fuel links first comes.node p comes.says_now comes.states n.wakes
+            (ap (λ b. differ b comes.says_now) comes.told ∙ turns)
+            (ap (λ (l : Link). is_top l.gate) gate ∙ gate-below (node_at at c)) up
+            ∙ ap (λ m. go_on (gate_says (link_at links comes.node).gate (link_at links comes.node).number m)
+            (λ says. climb comes.fuel links first p says after n.wakes)
             (λ slot. record { states = after; wakes = slice_set n.wakes slot 0; stirs = true })) counts
             ∙ ap (λ (l : Link). go_on (gate_says l.gate l.number said_new) (λ says. climb comes.fuel links first p says after n.wakes)
-            (λ slot. record { states = after; wakes = slice_set n.wakes slot 0; stirs = true })) own.link;
+            (λ slot. record { states = after; wakes = slice_set n.wakes slot 0; stirs = true })) gate;
         told = ap (λ s. s.told) here_now ∙ ap (λ s. s.told) own_state ∙ was.told;
         count = ap (λ s. s.count) here_now ∙ counts;
         inner = λ j y is.
@@ -339,7 +343,7 @@ module _ (w : World) (h : ℕ) (updated : ℕ → Bool) (links : List Link) (fir
       = get_or-set_same comes.states (first + 0) value unasked room in
       subst (λ (done : Climbed). Each (Kept (record { states = done.states; wakes = done.wakes })) 0 (parts at 0 c))
       (sym (comes.is ∙ climb-first comes.fuel links first 0 (says w h (also i updated) c 0) comes.states n.wakes
-      (ap (λ b. differ b (says w h (also i updated) c 0)) comes.told ∙ is) (ap (λ s. s.up) own.link)))
+      (ap (λ b. differ b (says w h (also i updated) c 0)) comes.told ∙ is) (ap is_top (own.top refl))))
       (settled w h updated links first i end n start c at 0 0 comes (told_in first 0 (says w h (also i updated) c 0) comes.states) (ap (λ s. s.told) set) (ap (λ s. s.count) set)
       (λ s apart. get_or-set_other comes.states (first + 0) s value unasked apart))
 

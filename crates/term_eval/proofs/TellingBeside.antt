@@ -112,7 +112,7 @@ module _ (w : World) (h : ℕ) (updated : ℕ → Bool) (links : List Link) (fir
         low = omega arith;
         high = low;
         far_is = omega arith;
-        link = ap (λ s. s.up) own.link;
+        link = own.link;
         told = comes.told;
         counts = (let e : one_if now_says + said w h (also i updated) cs (q + nodes c) + one_if (says w h updated c q)
             ≡ one_if (says w h updated c q) + said w h updated cs (q + nodes c) + one_if now_says = omega (arith, other) in e);

@@ -9,14 +9,15 @@ use Rattle.ecam_spec.specs.TermSize.{nodes, nodes_of, slots, slots_of, children}
 use Rattle.ecam_spec.specs.declared.limits.TheConstants.{TERM_NODES}
 use Rattle.term_eval.specs.declared.nodes.NodeState.{NodeState}
 use Rattle.term_eval.specs.declared.link.Link.{Link}
-use Rattle.term_eval.specs.Links.{link_of}
+use Rattle.term_eval.specs.declared.link.Gate.TheVariants.{Top}
+use Rattle.term_eval.specs.Links.{gate_of, number_of}
 use Rattle.term_eval.specs.Memory.{NodeMemory}
 use Rattle.term_eval.specs.Climb.{Climbed, climb, link_at}
 use Rattle.term_eval.specs.OwnDue.{own_due}
 use Rattle.term_eval.specs.Parts.{Part, parts, parts_of, is_temporal}
 use Rattle.term_eval.specs.NodeState.{state_at, unasked, one_if, says, said, IsKept, Wakes, SayTheSame, also}
-use Rattle.term_eval.proofs.Inside.{inside, nodes-is}
-use Rattle.term_eval.proofs.PartLaws.{step_of, parts-ends, slots-within, slots-within_of, spoken, says-is, said-by}
+use Rattle.term_eval.proofs.Inside.{node_at, inside, nodes-is}
+use Rattle.term_eval.proofs.PartLaws.{parts-ends, slots-within, slots-within_of, spoken, says-is, said-by}
 use Rattle.term_eval.proofs.NodeKinds.{is_gate, spoken-own, own-slot}
 use Rattle.term_eval.proofs.KeptSame.{also-own, also-other, kept-same, kept-by, Each, each-own, each-inner, each-whole}
 use Rattle.term_eval.proofs.ClimbSteps.{told_in}
@@ -38,7 +39,15 @@ module _ (w : World) (h : ℕ) (updated : ℕ → Bool) (links : List Link) (fir
     pub starts : start ≡ climb (suc i) links first i (holds w y.tree (suc h)) n.states n.wakes
 
   pub record Given (j : ℕ) (y : Part) : Type 0 where
-    pub link : link_at links j ≡ link_of (step_of y)
+    pub link : (link_at links j).up ≡ y.up
+    pub top : y.up ≡ 0 → (link_at links j).gate ≡ Top
+    pub gate : (k : ℕ) → k ≤ i → (link_at links k).up + j ≡ k → j < k →
+        link_at links k ≡ record {
+          number = number_of (node_at y.at y.tree);
+          up = (link_at links k).up;
+          gate =
+              gate_of (node_at y.at y.tree);
+        }
     pub few : nodes y.tree ≤ TERM_NODES
     pub room : first + (j + nodes y.tree) ≤ length n.states
     pub slot : is_temporal y.tree ≡ true → y.at < length n.wakes

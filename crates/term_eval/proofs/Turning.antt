@@ -17,7 +17,6 @@ use Rattle.term_eval.specs.Climb.{climb, step_at}
 use Rattle.term_eval.specs.NodeState.{NodesWait, Within, also}
 use Rattle.term_eval.proofs.PartLaws.{slots-within}
 use Rattle.term_eval.proofs.CodeParts.{heads-one, heads-node}
-use Rattle.term_eval.proofs.Linking.{code-of}
 use Rattle.term_eval.proofs.Asking.{asks-within, asks-part, asks-atom, says-read, atoms-free}
 use Rattle.term_eval.proofs.Climbing.{kept_by, climbed}
 use Rattle.term_eval.proofs.ClimbLeaves.{climb-leaves}
@@ -41,7 +40,7 @@ pub turned-waits : (w : World) (h : ℕ) (updated : ℕ → Bool) (c : Tree) (at
     NodesWait w h (also i updated) c at first (kept_by (climb (suc i) links first i now n.states n.wakes))
 turned-waits w h updated c at first i x reading n links now ready atoms asks reads is waits =
     let y = heads-one c at i (asks-within c i x asks) in
-    let node = heads-node c at (code at 0 c) (code-of c at first n links ready) i y.0 y.1 in
+    let node = heads-node c at (code at 0 c) ready.held.code i y.0 y.1 in
     let does = asks-part c at i y.0 x y.1 asks in
     let atom = asks-atom y.0.tree y.0.at x does in
     let own = waits i y.0 y.1 in

@@ -1,6 +1,6 @@
 -- How each node of a condition is asked in the first moment: from the last to the first, so that children come before the
 -- node that they stand in.
-use Rattle.std.specs.Prelude.{ℕ, ◌+◌, ◌-◌, ◌<◌, ◌≤◌, ◌==◌, min, nat_le, nat_lt, Bool, true, pos, is_some, List, [], ◌∷◌, ◌++◌, take, drop, replicate, length, slice_set, if◌then◌else◌}
+use Rattle.std.specs.Prelude.{ℕ, ◌+◌, ◌-◌, ◌^◌, ◌<◌, ◌≤◌, ◌==◌, min, nat_le, nat_lt, Bool, pos, is_some, List, [], ◌∷◌, ◌++◌, take, drop, replicate, length, slice_set, if◌then◌else◌}
 use Rattle.std.specs.Ordering.{int_eq}
 use Rattle.ecam_spec.specs.Keys.{IsKey}
 use Rattle.ecam_spec.specs.Term.{in_set, is_so, stands}
@@ -13,7 +13,7 @@ use Rattle.term_eval.specs.declared.code.Node.{Node}
 use Rattle.term_eval.specs.declared.code.Node.TheVariants.{Const, Disc, Valid, Cmp, InPhase, Alert, Press, Fwc, Not, All, Any, AtLeast, Conf, Hold, Rise, Latch}
 use Rattle.term_eval.specs.Shown.{value_of, is_active}
 use Rattle.term_eval.specs.NodeState.{state_at, unasked}
-use Rattle.term_eval.specs.Climb.{count_with, told_as, counted}
+use Rattle.term_eval.specs.Climb.{told_as, counted}
 use Rattle.term_eval.specs.Run.{Run, temporal_says, cells_after, due_after, SlotWithin}
 
 -- what a node says in moment 0 of whose children so many hold, and the first or not
@@ -45,7 +45,7 @@ wakes_after _ wakes due = wakes
 
 -- one more child holds, or not
 abbrev pub raised : Bool → NodeState → NodeState
-raised holds s = if holds then counted (count_with s.count true) s else s
+raised holds s = if holds then counted (min (s.count + 1) (2 ^ 8 - 1)) s else s
 
 -- the node that stands so far before node i counts it, if there is one
 abbrev pub count_up : ℕ → ℕ → Bool → List NodeState → List NodeState

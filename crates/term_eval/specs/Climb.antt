@@ -1,11 +1,11 @@
 -- How a node that turned is told to those above it.
-use Rattle.std.specs.Prelude.{ℕ, zero, suc, ◌+◌, ◌-◌, ◌^◌, ◌<◌, ◌≤◌, ◌==◌, not, min, nat_le, Bool, true, false, List, length, slice_get, slice_index_or, slice_set, Result, Ok, Err, Some, ◌≡◌, if◌then◌else◌}
+use Rattle.std.specs.Prelude.{ℕ, zero, suc, ◌+◌, ◌-◌, ◌^◌, ◌<◌, ◌≤◌, ◌%◌, not, nat_le, Bool, true, false, List, length, slice_get, slice_index_or, slice_set, Result, Ok, Err, Some, ◌≡◌, ◌≢◌, if◌then◌else◌}
 use Rattle.term_eval.specs.declared.nodes.NodeState.{NodeState}
 use Rattle.term_eval.specs.declared.code.Step.{Step}
 use Rattle.term_eval.specs.declared.code.Node.TheVariants.{Const}
 use Rattle.term_eval.specs.declared.link.Link.{Link}
 use Rattle.term_eval.specs.declared.link.Gate.{Gate}
-use Rattle.term_eval.specs.declared.link.Gate.TheVariants.{AtLeast, Fewer, Temporal}
+use Rattle.term_eval.specs.declared.link.Gate.TheVariants.{AtLeast, Fewer, Temporal, Top}
 use Rattle.term_eval.specs.NodeState.{state_at}
 use Rattle.term_eval.specs.Woken.{differ}
 
@@ -15,15 +15,24 @@ pub record Climbed : Type 0 where
   pub wakes : List ℕ
   pub stirs : Bool
 
--- how many children hold where one turned
+-- how many children hold where one turned, modulo 256
 abbrev pub count_with : ℕ → Bool → ℕ
-count_with count holds = if holds then min (count + 1) (2 ^ 8 - 1) else count - 1
+count_with count holds = (count + (if holds then 1 else 255)) % 2 ^ 8
 
--- what a gate says that asks for so many, of whose children so many hold; of a temporal node its slot
+-- what a gate says that asks for so many, of whose children so many hold; of a temporal node its slot. Where there is no
+-- node above, nothing says anything
 abbrev pub gate_says : Gate → ℕ → ℕ → Result Bool ℕ
 gate_says AtLeast n count = Ok (nat_le n count)
 gate_says Fewer n count = Ok (not (nat_le n count))
 gate_says Temporal slot count = Err slot
+gate_says Top n count = Ok false
+
+-- there is no node above
+abbrev pub is_top : Gate → Bool
+is_top AtLeast = false
+is_top Fewer = false
+is_top Temporal = false
+is_top Top = true
 
 -- step i, or behind the last one that says nothing
 abbrev pub step_at : List Step → ℕ → Step
@@ -51,19 +60,21 @@ unfoldable pub climb : ℕ → List Link → ℕ → ℕ → Bool → List NodeS
 climb zero links first i holds states wakes = record { states = states; wakes = wakes; stirs = false }
 climb (suc n) links first i holds states wakes =
     let own = slice_set states (first + i) (told_as holds (state_at states (first + i))) in
-    let above = i - (link_at links i).up in
-    let link = link_at links above in
+    let link = link_at links i in
+    let above = i - link.up in
     let count = count_with (state_at own (first + above)).count holds in
     let after = slice_set own (first + above) (counted count (state_at own (first + above))) in
     if not (differ (state_at states (first + i)).told holds)
     then (record { states = states; wakes = wakes; stirs = false })
-    else (if (link_at links i).up == 0
+    else (if is_top link.gate
     then (record { states = own; wakes = wakes; stirs = true })
     else (go_on (gate_says link.gate link.number count) (λ says. climb n links first above says after wakes)
     (λ slot. record { states = after; wakes = slice_set wakes slot 0; stirs = true })))
 
--- there is a state for each link, each says within the code what it stands in, and there is each temporal one's slot
+-- there is a state for each link, each says how far before it within the code the node above stands, if there is one, and
+-- there is each temporal one's slot
 pub record CanClimb (links : List Link) (first nodes slots : ℕ) : Type 0 where
   pub room : first + length links ≤ nodes
   pub ups : (i : ℕ) (l : Link) → slice_get links i ≡ Some l → l.up ≤ i
+  pub above : (i : ℕ) (l : Link) → slice_get links i ≡ Some l → l.gate ≢ Top → 0 < l.up
   pub held : (i : ℕ) (l : Link) → slice_get links i ≡ Some l → l.gate ≡ Temporal → l.number < slots

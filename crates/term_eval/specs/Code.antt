@@ -6,6 +6,9 @@ use Rattle.ecam_spec.specs.declared.limits.TheConstants.{TERM_NODES}
 use Rattle.term_eval.specs.declared.code.Step.{Step}
 use Rattle.term_eval.specs.declared.code.Node.{Node}
 use Rattle.term_eval.specs.declared.code.Node.TheVariants.{Const, Disc, Valid, Cmp, InPhase, Alert, Press, Fwc, Not, All, Any, AtLeast, Conf, Hold, Rise, Latch}
+use Rattle.term_eval.specs.declared.owner.Owner.{Owner}
+use Rattle.term_eval.specs.declared.owner.Timing.{Timing}
+use Rattle.term_eval.specs.declared.owner.Timing.TheVariants.{Confirmed, Held, Risen, Latched}
 use Rattle.term_eval.specs.Memory.{Memory, NodeMemory}
 
 -- how many conditions there are
@@ -67,10 +70,27 @@ has_slot (Rise slot) = true
 has_slot (Latch slot) = true
 has_slot _ = false
 
--- the numbers of the temporal nodes of code, of which the first node has this number: slot by slot
-unfoldable pub owners : ℕ → List Step → List ℕ
+-- by how many moments it goes: 0 where it goes by no number
+abbrev pub moments_of : Node → ℕ
+moments_of (Conf n slot) = n
+moments_of (Hold n slot) = n
+moments_of _ = 0
+
+-- how a node that has a slot goes by moments
+abbrev pub timing_of : Node → Timing
+timing_of (Conf n slot) = Confirmed
+timing_of (Hold n slot) = Held
+timing_of (Rise slot) = Risen
+timing_of _ = Latched
+
+-- what is read of a node that has a slot and this number, where it is looked at
+abbrev pub owner_of : ℕ → Node → Owner
+owner_of p node = record { moments = moments_of node; node = p; timing = timing_of node }
+
+-- what is read of the temporal nodes of code, of which the first node has this number: slot by slot
+unfoldable pub owners : ℕ → List Step → List Owner
 owners p [] = []
-owners p (s ∷ steps) = if has_slot s.node then p ∷ owners (p + 1) steps else owners (p + 1) steps
+owners p (s ∷ steps) = if has_slot s.node then owner_of p s.node ∷ owners (p + 1) steps else owners (p + 1) steps
 
 -- the steps are the code of the condition, which keeps its limits
 pub record IsCode (c : Tree) (at : ℕ) (steps : List Step) : Type 0 where

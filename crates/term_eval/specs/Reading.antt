@@ -7,7 +7,7 @@ use Rattle.term_eval.specs.Woken.Operand.{value, phase, activity, key, health}
 use Rattle.term_eval.specs.declared.reading.Reading.{Reading}
 use Rattle.term_eval.specs.declared.reading.Reading.TheVariants.{Value, InPhase, Flag}
 use Rattle.term_eval.specs.declared.reading.Test.{Test}
-use Rattle.term_eval.specs.declared.reading.Test.TheVariants.{IsOne, HasValue, IsSet, OfNode}
+use Rattle.term_eval.specs.declared.reading.Test.TheVariants.{HasValue, IsSet, OfNode}
 use Rattle.term_eval.specs.declared.code.Node.{Node}
 use Rattle.term_eval.specs.declared.code.Node.TheVariants as node
 
@@ -31,26 +31,26 @@ phase_read (Value v) test = false
 phase_read (InPhase p) test = test p.number
 phase_read (Flag b) test = false
 
--- what a flag says; where none is read, false
-abbrev pub flag_read : Reading → Bool
-flag_read (Value v) = false
-flag_read (InPhase p) = false
-flag_read (Flag b) = b
+-- whether what is read is set: a value that is 1, or a flag that holds; a phase is not
+abbrev pub set_read : Reading → Bool
+set_read (Value v) = is_so (int_eq (pos 1)) v
+set_read (InPhase p) = false
+set_read (Flag b) = b
 
 -- what an atom says by what its operand reads
 abbrev pub atom_says : Node → Reading → Bool
-atom_says (node.Disc p) r = value_read r (is_so (int_eq (pos 1)))
+atom_says (node.Disc p) r = set_read r
 atom_says (node.Valid p) r = value_read r is_some
 atom_says (node.Cmp p op x) r = value_read r (is_so (λ v. stands op v x))
 atom_says (node.InPhase set) r = phase_read r (in_set set.0)
-atom_says (node.Alert a) r = flag_read r
-atom_says (node.Press k) r = flag_read r
-atom_says (node.Fwc n) r = flag_read r
+atom_says (node.Alert a) r = set_read r
+atom_says (node.Press k) r = set_read r
+atom_says (node.Fwc n) r = set_read r
 atom_says _ r = false
 
 -- the test that an atom makes
 abbrev pub test_of : Node → Test
-test_of (node.Disc p) = IsOne
+test_of (node.Disc p) = IsSet
 test_of (node.Valid p) = HasValue
 test_of (node.Alert a) = IsSet
 test_of (node.Press k) = IsSet

@@ -3,14 +3,16 @@ use Rattle.std.specs.Prelude.{◌≡◌, ℕ, suc, ◌+◌, ◌<◌, ◌&&◌, �
 use Rattle.term_eval.specs.declared.memory.Cell.{Cell}
 use Rattle.term_eval.specs.declared.memory.Cell.TheVariants.{Off, On, At}
 use Rattle.term_eval.specs.declared.nodes.NodeState.{NodeState}
-use Rattle.term_eval.specs.declared.code.Step.{Step}
 use Rattle.term_eval.specs.declared.link.Link.{Link}
+use Rattle.term_eval.specs.declared.owner.Owner.{Owner}
+use Rattle.term_eval.specs.declared.owner.Timing.{Timing}
+use Rattle.term_eval.specs.declared.owner.Timing.TheVariants.{Confirmed, Held, Risen, Latched}
 use Rattle.term_eval.specs.declared.code.Node.{Node}
 use Rattle.term_eval.specs.declared.code.Node.TheVariants.{Conf, Hold, Rise, Latch}
 use Rattle.term_eval.specs.CellWords.{never, cell_at, on_if, is_on, at_last, start_by, last_by, end_of}
 use Rattle.term_eval.specs.OwnDue.{confirmed_due, held_due, risen_due}
 use Rattle.term_eval.specs.NodeState.{state_at}
-use Rattle.term_eval.specs.Climb.{climb, step_at, CanClimb}
+use Rattle.term_eval.specs.Climb.{climb, CanClimb}
 
 -- what is kept of the nodes, the cells, and the first of the due moments so far
 pub record Run : Type 0 where
@@ -54,36 +56,48 @@ SlotWithin slots (Rise i) = i < slots
 SlotWithin slots (Latch i) = i < slots
 SlotWithin slots _ = Unit {0}
 
--- a look at node i of those from a place on, which has this slot
-unfoldable pub look : ℕ → List Step → List Link → ℕ → ℕ → ℕ → Run → Run
-look k steps links first i slot s =
-    let own = state_at s.states (first + i) in
-    let first_child = (state_at s.states (first + i + 1)).told in
-    let node = (step_at steps i).node in
+-- a temporal node by its timing, its moments, and its slot
+abbrev pub node_by : Timing → ℕ → ℕ → Node
+node_by Confirmed n slot = Conf n slot
+node_by Held n slot = Hold n slot
+node_by Risen n slot = Rise slot
+node_by Latched n slot = Latch slot
+
+-- the node of which this is read, and which has this slot
+abbrev pub owned : Owner → ℕ → Node
+owned owner slot = node_by owner.timing owner.moments slot
+
+-- a look at a temporal node of those from a place on, which has this slot
+unfoldable pub look : ℕ → List Link → ℕ → Owner → ℕ → Run → Run
+look k links first owner slot s =
+    let own = state_at s.states (first + owner.node) in
+    let first_child = (state_at s.states (first + owner.node + 1)).told in
+    let node = owned owner slot in
     let due = due_after k s.cells own.count node in
-    let done = climb (suc i) links first i (temporal_says k s.cells own.count first_child node) s.states (slice_set s.wakes slot due) in
+    let says = temporal_says k s.cells own.count first_child node in
+    let done = climb (suc owner.node) links first owner.node says s.states (slice_set s.wakes slot due) in
     record { states = done.states; wakes = done.wakes; cells = cells_after k s.cells own.count first_child node; due = min s.due due }
 
 -- one that isn't to be looked at yet is left as it is
-unfoldable pub look_or_leave : ℕ → List Step → List Link → ℕ → ℕ → ℕ → Run → Run
-look_or_leave k steps links first i slot s =
+unfoldable pub look_or_leave : ℕ → List Link → ℕ → Owner → ℕ → Run → Run
+look_or_leave k links first owner slot s =
     if nat_lt k (slice_index s.wakes slot)
     then (record { states = s.states; wakes = s.wakes; cells = s.cells; due = min s.due (slice_index s.wakes slot) })
-    else look k steps links first i slot s
+    else look k links first owner slot s
 
 -- some nodes, whose slots follow one another from a place on, the last of them first
-unfoldable pub pass_over : ℕ → List Step → List Link → ℕ → List ℕ → ℕ → Run → Run
-pass_over k steps links first [] slot s = s
-pass_over k steps links first (i ∷ is) slot s = look_or_leave k steps links first i slot (pass_over k steps links first is (suc slot) s)
+unfoldable pub pass_over : ℕ → List Link → ℕ → List Owner → ℕ → Run → Run
+pass_over k links first [] slot s = s
+pass_over k links first (o ∷ os) slot s = look_or_leave k links first o slot (pass_over k links first os (suc slot) s)
 
--- what the look at a node asks for is there, of so many nodes and slots, and a link for each step
-pub record CanLook (steps : List Step) (links : List Link) (first nodes slots cells i slot : ℕ) : Type 0 where
+-- what the look at a node asks for is there, of so many nodes, slots and cells: it stands before another, and has a link
+pub record CanLook (links : List Link) (first nodes slots cells : ℕ) (owner : Owner) (slot : ℕ) : Type 0 where
   pub climb : CanClimb links first nodes slots
-  pub linked : length links ≡ length steps
-  pub within : suc i < length steps
+  pub within : suc owner.node < length links
   pub room : slot < slots
-  pub has : SlotWithin cells (step_at steps i).node
+  pub has : slot < cells
 
 -- the same of all
-abbrev pub CanPass : List Step → List Link → ℕ → ℕ → ℕ → ℕ → List ℕ → ℕ → Type 0
-CanPass steps links first nodes slots cells owners at = (j i : ℕ) → slice_get owners j ≡ Some i → CanLook steps links first nodes slots cells i (at + j)
+abbrev pub CanPass : List Link → ℕ → ℕ → ℕ → ℕ → List Owner → ℕ → Type 0
+CanPass links first nodes slots cells owners at =
+    (j : ℕ) (o : Owner) → slice_get owners j ≡ Some o → CanLook links first nodes slots cells o (at + j)

@@ -21,6 +21,7 @@ use crate::env::Env;
 use crate::link::Link;
 use crate::memory::Cell;
 use crate::nodes::Nodes;
+use crate::owner::Owner;
 use crate::run::pass;
 use crate::turn::Turn;
 use crate::walk::step;
@@ -165,60 +166,58 @@ impl Cells {
     pub fn run(
         &mut self,
         states: &mut Nodes,
-        steps: &[Step],
         links: &[Link],
         first: usize,
-        owners: &[usize],
+        owners: &[Owner],
         at: usize,
         now: u64,
     ) -> Turn
         requires ready { (c : Tree)
-            × CanRun steps.now links.now owners.now self.old states.old c at first }
+            × CanRun links.now owners.now self.old states.old c at first }
         requires now { now < 2 ^ 63 }
         ensures truth { (c : Tree)
-            → CanRun steps.now links.now owners.now self.old states.old c at first
+            → CanRun links.now owners.now self.old states.old c at first
             → (w : World) (h : ℕ) → now ≡ suc h
             → Stand w now c at self.old.slots
             → NodesWait w h (heard (moved w now) c) c at first states.old
             → result.holds ≡ holds w c now }
         ensures due { (c : Tree)
-            → CanRun steps.now links.now owners.now self.old states.old c at first
+            → CanRun links.now owners.now self.old states.old c at first
             → (w : World) (h : ℕ) → now ≡ suc h
             → Stand w now c at self.old.slots
             → NodesWait w h (heard (moved w now) c) c at first states.old
             → IsDue (staying w now) c now result.due }
         ensures wake { (c : Tree)
-            → CanRun steps.now links.now owners.now self.old states.old c at first
+            → CanRun links.now owners.now self.old states.old c at first
             → (w : World) (h : ℕ) → now ≡ suc h
             → Stand w now c at self.old.slots
             → NodesWait w h (heard (moved w now) c) c at first states.old
             → result.due ≡ first_wake states.new.wakes at (slots c) }
         ensures stands { (c : Tree)
-            → CanRun steps.now links.now owners.now self.old states.old c at first
+            → CanRun links.now owners.now self.old states.old c at first
             → (w : World) (h : ℕ) → now ≡ suc h
             → Stand w now c at self.old.slots
             → NodesWait w h (heard (moved w now) c) c at first states.old
             → Stand w (suc now) c at self.new.slots }
         ensures nodes { (c : Tree)
-            → CanRun steps.now links.now owners.now self.old states.old c at first
+            → CanRun links.now owners.now self.old states.old c at first
             → (w : World) (h : ℕ) → now ≡ suc h
             → Stand w now c at self.old.slots
             → NodesWait w h (heard (moved w now) c) c at first states.old
             → NodesStand w now c at first states.new }
         ensures within { (c : Tree)
-            → CanRun steps.now links.now owners.now self.old states.old c at first
+            → CanRun links.now owners.now self.old states.old c at first
             → Within first (first + nodes c) at (at + slots c) states.old states.new }
         ensures before { (c : Tree)
-            → CanRun steps.now links.now owners.now self.old states.old c at first
+            → CanRun links.now owners.now self.old states.old c at first
             → (i : ℕ) → i < at → cell_at self.new.slots i ≡ cell_at self.old.slots i }
         ensures behind { (c : Tree)
-            → CanRun steps.now links.now owners.now self.old states.old c at first
+            → CanRun links.now owners.now self.old states.old c at first
             → (i : ℕ) → at + slots c ≤ i → cell_at self.new.slots i ≡ cell_at self.old.slots i }
         ensures len { length self.new.slots ≡ length self.old.slots }
         ensures visits { self.new.visits ≡ self.old.visits }
     {
         let due = pass(
-            steps,
             links,
             first,
             owners,

@@ -1,37 +1,36 @@
 // A node that turned is told to the gates above it.
-ghost use Rattle.std.specs.Prelude.{◌≡◌, ◌+◌, ◌<◌, false, length, ◌==◌};
-ghost use Rattle.term_eval.specs.Climb.{climb, count_with, gate_says, CanClimb};
+ghost use Rattle.std.specs.Prelude.{◌≡◌, ◌≢◌, ◌+◌, ◌<◌, length, Ok};
+ghost use Rattle.term_eval.specs.declared.link.Gate.TheVariants as kind;
+ghost use Rattle.term_eval.specs.Climb.{climb, count_with, gate_says, link_at, CanClimb};
 
 use crate::link::{Gate, Link};
 use crate::nodes::NodeState;
 
-// How many children hold where one turned. (It takes no branch, since which way a node turns can't be foreseen.)
+// How many children hold where one turned, modulo 256: this asks for no test.
 #[inline(always)]
 fn count_with(count: u8, holds: bool) -> u8
     ensures { result ≡ count_with count holds }
 {
-    count
-        .saturating_add(u8::from(holds))
-        .saturating_sub(u8::from(!holds))
+    count.wrapping_add(if holds { 1 } else { 255 })
 }
 
-// What a gate says that asks for so many, of whose children so many hold, or the slot of a temporal node.
+// What the gate above says, of whose children so many hold.
 #[inline(always)]
-fn gate_says(link: Link, count: u8) -> Result<bool, usize>
-    ensures { result ≡ gate_says link.gate link.number count }
+fn gate_says(link: Link, count: u8) -> bool
+    requires untimed { link.gate ≢ kind.Temporal }
+    requires there { link.gate ≢ kind.Top }
+    ensures { gate_says link.gate link.number count ≡ Ok result }
 {
-    if link.gate == Gate::Temporal {
-        return Err(link.number as usize);
-    }
-    let enough = link.number <= u32::from(count);
-    Ok(enough != (link.gate == Gate::Fewer))
+    (link.number <= u32::from(count)) != (link.gate == Gate::Fewer)
 }
 
-/// Node `node` of a condition, whose nodes start at `first` and have these links, says so from now on. Where it said
-/// otherwise, the node above it counts it, and is told in turn if it is a gate, and so on; a temporal node is to be looked
-/// at. Answers whether there is such a one, or the first node turned.
+/// Node `node` of a condition, whose nodes start at `first` and have these links, and which has this one, says so from now
+/// on. Where it said otherwise, the node above it counts it, and is told in turn if it is a gate, and so on; a temporal node
+/// is to be looked at. Answers whether there is such a one, or the first node turned. The link of a node above is read only
+/// where that turned.
 #[inline(always)]
 pub fn climb(
+    link: Link,
     states: &mut [NodeState],
     wakes: &mut [u64],
     links: &[Link],
@@ -41,27 +40,32 @@ pub fn climb(
 ) -> bool
     requires can { CanClimb links.now first (length states.old) (length wakes.old) }
     requires node { node < length links.now }
+    requires link { link ≡ link_at links.now node }
     ensures { record { states = states.new; wakes = wakes.new; stirs = result }
         ≡ climb (node + 1) links.now first node holds states.old wakes.old }
 {
+    let mut link = link;
     let mut node = node;
     let mut holds = holds;
-    while states[first + node].told != holds {
+    if states[first + node].told == holds {
+        return false;
+    }
+    'up: loop {
         states[first + node].told = holds;
-        let up = usize::from(links[node].up);
-        if up == 0 {
+        if link.gate == Gate::Top {
             return true;
         }
-        node -= up;
+        node -= usize::from(link.up);
         let count = count_with(states[first + node].count, holds);
         states[first + node].count = count;
-        match gate_says(links[node], count) {
-            Ok(says) => holds = says,
-            Err(slot) => {
-                wakes[slot] = 0;
-                return true;
-            }
+        if link.gate == Gate::Temporal {
+            wakes[link.number as usize] = 0;
+            return true;
         }
+        holds = gate_says(link, count);
+        if states[first + node].told == holds {
+            return false;
+        }
+        link = links[node];
     }
-    false
 }

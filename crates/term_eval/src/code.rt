@@ -3,8 +3,7 @@
 ghost use Rattle.std.specs.Prelude.{◌≡◌, ◌+◌, ◌<◌, ◌≤◌, ◌^◌, ◌++◌, [], ◌∷◌, length, OnOk};
 ghost use Rattle.ecam_spec.specs.TermSize.{slots, slots_of};
 ghost use Rattle.term_tree.specs.View.{tree_of, trees_of};
-ghost use Rattle.term_eval.specs.Code.{code, codes, step, has_slot, IsShort, AreShort};
-ghost use Rattle.term_eval.specs.Code as coded;
+ghost use Rattle.term_eval.specs.Code.{code, codes, step, IsShort, AreShort};
 
 use ecam_kinds::{Key, PhaseSet};
 use std::alloc::AllocError;
@@ -64,29 +63,6 @@ pub fn add_code(steps: &mut Vec<Step>, cond: &Cond, at: usize) -> Result<(), All
 {
     let mut next = at;
     add_node(steps, cond, 0, &mut next)
-}
-
-/// Puts the numbers of a code's temporal nodes behind those that are there, in the order of their slots. Its cost is one
-/// visit of each step. An error is want of memory.
-pub fn add_owners(owners: &mut Vec<usize>, steps: &[Step]) -> Result<(), AllocError>
-    ensures { OnOk result (owners.new.items ≡ owners.old.items ++ coded.owners 0 steps.now) }
-{
-    for (i, step) in steps.iter().enumerate() {
-        if has_slot(&step.node) {
-            owners.push(i)?;
-        }
-    }
-    Ok(())
-}
-
-// Whether a node has a slot.
-fn has_slot(node: &Node) -> bool
-    ensures { result ≡ has_slot node.now }
-{
-    matches!(
-        node,
-        Node::Conf(_, _) | Node::Hold(_, _) | Node::Rise(_) | Node::Latch(_)
-    )
 }
 
 // Puts one step more behind the others.

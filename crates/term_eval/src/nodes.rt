@@ -1,5 +1,5 @@
 // What is kept of the nodes of conditions from one moment to the next.
-ghost use Rattle.std.specs.Prelude.{◌≡◌, ℕ, suc, ◌<◌, ◌+◌, Bool, false, length, IfOk};
+ghost use Rattle.std.specs.Prelude.{◌≡◌, ◌≢◌, ◌⊎◌, ℕ, suc, ◌<◌, ◌≤◌, ◌+◌, Bool, true, false, length, slice_index, IfOk};
 ghost use Rattle.ecam_spec.specs.Book.{Tree};
 ghost use Rattle.ecam_spec.specs.Term.{World};
 ghost use Rattle.ecam_spec.specs.TermSize.{slots, nodes};
@@ -7,6 +7,7 @@ ghost use Rattle.term_eval.specs.Asked.{Asks, AreAtoms};
 ghost use Rattle.term_eval.specs.Code.{code};
 ghost use Rattle.term_eval.specs.Climb.{step_at};
 ghost use Rattle.term_eval.specs.Linked.{AreLinked};
+ghost use Rattle.term_eval.specs.Links.{link_from};
 ghost use Rattle.term_eval.specs.NodeState.{state_at, unasked, NodesWait, also, Within};
 ghost use Rattle.term_eval.specs.Reading.{Reads, atom_says};
 ghost use Rattle.term_eval.specs.declared.reading.Reading.{Reading};
@@ -79,14 +80,22 @@ impl Nodes {
         self.wakes.copy_from_slice(&other.wakes);
     }
 
-    /// Node `node` of a condition, whose nodes start at `first` and have these links, is an atom, which says so in a moment:
-    /// it is told, and with it each node right above one that turned, up to a temporal one, which is then to be looked at.
-    /// `false` says that no temporal node is to be looked at that wasn't, and that the condition's first node tells what it
-    /// told. Its cost is a look at each of these nodes.
+    /// Node `node` of a condition, whose nodes start at `first` and have these links, is an atom, which has this link and
+    /// says so in a moment: it is told, and with it each node right above one that turned, up to a temporal one, which is then
+    /// to be looked at. `false` says that no temporal node is to be looked at that wasn't, and that the condition's first node
+    /// tells what it told; `true` that a temporal node is to be looked at, or that the first node turned. Its cost is a look at
+    /// each of these nodes.
     #[inline(always)]
-    pub fn turn(&mut self, links: &[Link], first: usize, node: usize, holds: bool) -> bool
+    pub fn turn(
+        &mut self,
+        link: Link,
+        links: &[Link],
+        first: usize,
+        node: usize,
+        holds: bool,
+    ) -> bool
         requires { (c : Tree) × (at : ℕ) × AreLinked links.now self.old c at first
-            × (node < nodes c) }
+            × (node < nodes c) × (link ≡ link_from (code at 0 c) node) }
         ensures waits { (c : Tree) (at : ℕ) → AreLinked links.now self.old c at first
             → (w : World) (h : ℕ) (updated : ℕ → Bool) (x : Operand) (reading : Reading)
             → AreAtoms c updated → Asks c node x → Reads w (suc h) x reading
@@ -98,7 +107,19 @@ impl Nodes {
         ensures wakes { result ≡ false → self.new.wakes ≡ self.old.wakes }
         ensures told { result ≡ false
             → (state_at self.new.states first).told ≡ (state_at self.old.states first).told }
+        ensures stirs { (c : Tree) (at : ℕ) → AreLinked links.now self.old c at first
+            → result ≡ true
+            → ((state_at self.new.states first).told ≢ (state_at self.old.states first).told)
+            ⊎ ((s : ℕ) × (at ≤ s) × (s < at + slots c) × (slice_index self.new.wakes s ≡ 0)) }
     {
-        climb(&mut self.states, &mut self.wakes, links, first, node, holds)
+        climb(
+            link,
+            &mut self.states,
+            &mut self.wakes,
+            links,
+            first,
+            node,
+            holds,
+        )
     }
 }

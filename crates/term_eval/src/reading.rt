@@ -1,8 +1,7 @@
 // What an operand reads, by which the atoms that ask for it are told.
-ghost use Rattle.std.specs.Prelude.{◌≡◌, pos, is_some};
-ghost use Rattle.std.specs.Ordering.{int_eq};
+ghost use Rattle.std.specs.Prelude.{◌≡◌, is_some};
 ghost use Rattle.ecam_spec.specs.Term.{in_set, is_so, stands};
-ghost use Rattle.term_eval.specs.Reading.{IsReading, atom_says, test_of, value_read, phase_read, flag_read};
+ghost use Rattle.term_eval.specs.Reading.{IsReading, atom_says, test_of, value_read, phase_read, set_read};
 
 use crate::code::Node;
 use crate::env::stands;
@@ -23,12 +22,10 @@ pub enum Reading {
 /// How an atom goes by what its operand reads, as far as a byte tells it.
 #[derive(Clone, Copy, Debug, PartialEq, Eq)]
 pub enum Test {
-    /// It asks whether a parameter's value is 1.
-    IsOne,
+    /// It asks whether a parameter's value is 1, an alert is active, a key is pressed, or a computer is up.
+    IsSet,
     /// It asks whether a parameter has a value.
     HasValue,
-    /// It asks whether an alert is active, a key is pressed, or a computer is up.
-    IsSet,
     /// It goes by numbers that its node has.
     OfNode,
 }
@@ -38,9 +35,8 @@ pub fn test_of(node: &Node) -> Test
     ensures { result ≡ test_of node.now }
 {
     match node {
-        Node::Disc(_) => Test::IsOne,
+        Node::Disc(_) | Node::Alert(_) | Node::Press(_) | Node::Fwc(_) => Test::IsSet,
         Node::Valid(_) => Test::HasValue,
-        Node::Alert(_) | Node::Press(_) | Node::Fwc(_) => Test::IsSet,
         _ => Test::OfNode,
     }
 }
@@ -54,9 +50,8 @@ pub fn says(test: Test, node: &Node, reading: Reading) -> bool
     ensures { result ≡ atom_says node.now reading }
 {
     match test {
-        Test::IsOne => is_one(reading),
-        Test::HasValue => has_value(reading),
         Test::IsSet => is_set(reading),
+        Test::HasValue => has_value(reading),
         Test::OfNode => atom_says(node, reading),
     }
 }
@@ -68,21 +63,10 @@ fn atom_says(node: &Node, reading: Reading) -> bool
     ensures { result ≡ atom_says node.now reading }
 {
     match node {
-        Node::Disc(_) => is_one(reading),
+        Node::Disc(_) | Node::Alert(_) | Node::Press(_) | Node::Fwc(_) => is_set(reading),
         Node::Valid(_) => has_value(reading),
         Node::Cmp(_, op, number) => compares(reading, *op, *number),
         Node::InPhase(phases) => is_in(reading, *phases),
-        Node::Alert(_) | Node::Press(_) | Node::Fwc(_) => is_set(reading),
-        _ => false,
-    }
-}
-
-#[inline(always)]
-fn is_one(reading: Reading) -> bool
-    ensures { result ≡ value_read reading (is_so (int_eq (pos 1))) }
-{
-    match reading {
-        Reading::Value(value) => value == Some(1),
         _ => false,
     }
 }
@@ -120,9 +104,10 @@ fn is_in(reading: Reading, phases: PhaseSet) -> bool
 
 #[inline(always)]
 fn is_set(reading: Reading) -> bool
-    ensures { result ≡ flag_read reading }
+    ensures { result ≡ set_read reading }
 {
     match reading {
+        Reading::Value(value) => value == Some(1),
         Reading::Flag(flag) => flag,
         _ => false,
     }

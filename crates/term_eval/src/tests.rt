@@ -1,14 +1,14 @@
 // Worked histories of five moments, over a that holds in one of them, b in another, and d in each.
 #![tactic(auto, unfolding(ecam_spec::specs::TermSize::slots, ecam_spec::specs::TermSize::nodes, ecam_spec::specs::TermNames::IsWithin))]
 
-ghost use Rattle.std.specs.Prelude.{◌≡◌, ◌≤◌, length, map, IfOk};
+ghost use Rattle.std.specs.Prelude.{◌≡◌, ◌≤◌, length, IfOk};
 ghost use Rattle.ecam_spec.specs.Book.{Tree};
 ghost use Rattle.ecam_spec.specs.TermSize.{slots, nodes};
 ghost use Rattle.ecam_spec.specs.TermNames.{IsWithin};
 ghost use Rattle.ecam_spec.specs.declared.limits.TheConstants.{TERM_NODES};
 ghost use Rattle.term_tree.specs.View.{tree_of};
 ghost use Rattle.term_eval.specs.Code.{IsCode, IsHeld};
-ghost use Rattle.term_eval.specs.Links.{link_of};
+ghost use Rattle.term_eval.specs.Links.{links_from};
 
 use crate::{
     Cells, Env, Link, Node, Nodes, Reading, Step, add_code, add_links, add_owners, says, test_of,
@@ -86,7 +86,7 @@ fn hear(
     values: &[Option<i64>],
 )
     requires held { (c : Tree) × IsHeld steps.now nodes.old c 0 0 }
-    requires links { links.now ≡ map link_of steps.now }
+    requires links { links.now ≡ links_from steps.now }
     ensures states { length nodes.new.states ≡ length nodes.old.states }
     ensures wakes { length nodes.new.wakes ≡ length nodes.old.wakes }
 {
@@ -96,7 +96,7 @@ fn hear(
             if value != value_at(was, param) {
                 let test = test_of(&step.node);
                 let holds = says(test, &step.node, Reading::Value(value));
-                nodes.turn(links, 0, node, holds);
+                nodes.turn(links[node], links, 0, node, holds);
             }
         }
     }
@@ -142,7 +142,7 @@ fn answers_by_code(
         };
         hear(&mut nodes, &steps, &links, &values, &next);
         values = next;
-        let turn = cells.run(&mut nodes, &steps, &links, 0, &owners, 0, moment as u64);
+        let turn = cells.run(&mut nodes, &links, 0, &owners, 0, moment as u64);
         found[moment] = turn.holds;
         dues[moment] = turn.due;
     }

@@ -82,22 +82,8 @@ returns-then-now-eq0-clause-steps c b p fits here names =
     (begun.truth p.tree p.at ready w shown stood) (begun.due p.tree p.at ready w shown stood) (begun.wake p.tree p.at ready)
     (begun.stands p.tree p.at ready w shown stood) (begun.nodes p.tree p.at ready w shown stood))))
 
-pub at-at-requires : goal.at-at-requires
-at-at-requires c =
-    let (b, p, fits, here, names) = c.requires.place in
-    let coded : IsCodes b c.table-codes.result.now = subst (IsCodes b) (sym c.table-codes.ensures) fits.codes in
-    let inside : c.args.number < length (places b) = slice_get_within (places b) c.args.number p here in
-    (b, coded, inside)
-
-pub owners-owners-requires : goal.owners-owners-requires
-owners-owners-requires c =
-    let (b, p, fits, here, names) = c.requires.place in
-    let coded : IsCodes b c.table-codes.result.now = subst (IsCodes b) (sym c.table-codes.ensures) fits.codes in
-    let inside : c.args.number < length (places b) = slice_get_within (places b) c.args.number p here in
-    (b, coded, inside)
-
-pub links-links-requires : goal.links-links-requires
-links-links-requires c =
+pub parts-parts-requires : goal.parts-parts-requires
+parts-parts-requires c =
     let (b, p, fits, here, names) = c.requires.place in
     let coded : IsCodes b c.table-codes.result.now = subst (IsCodes b) (sym c.table-codes.ensures) fits.codes in
     let inside : c.args.number < length (places b) = slice_get_within (places b) c.args.number p here in
@@ -107,10 +93,12 @@ pub run-turn-requires-clause-ready : goal.run-turn-requires-clause-ready
 run-turn-requires-clause-ready c =
     let (b, p, fits, here, names) = c.requires.place in
     let coded : IsCodes b c.table-codes.result.now = subst (IsCodes b) (sym c.table-codes.ensures) fits.codes in
-    let inside : c.args.number < length (places b) = slice_get_within (places b) c.args.number p here in (
+    let inside : c.args.number < length (places b) = slice_get_within (places b) c.args.number p here in
+    let are = c.parts-parts.ensures in
+    let parts = c.parts-parts.result in (
       p.tree,
-      can-run b c.args.terms.now c.args.number p c.code-steps.result.now c.links-links.result.now c.owners-owners.result.now c.start-start.result c.at-at.result fits here
-          (c.code-steps.ensures b coded p here) (c.links-links.ensures b coded p here) (c.owners-owners.ensures b coded p here) (c.start-start.ensures b coded inside) (c.at-at.ensures b coded p here),
+      can-run b c.args.terms.now c.args.number p parts.links.now parts.owners.now parts.first parts.slot fits here
+          (are.links b coded p here) (are.owners b coded p here) (are.first b coded inside) (are.slot b coded p here),
     )
 
 pub note-requires-2-clause-truths : goal.note-requires-2-clause-truths
@@ -130,10 +118,12 @@ returns-clause-fits c b fits =
     let (b', p, own, here, names) = c.requires.place in
     let coded : IsCodes b' c.table-codes.result.now = subst (IsCodes b') (sym c.table-codes.ensures) own.codes in
     let inside : c.args.number < length (places b') = slice_get_within (places b') c.args.number p here in
-    let first = c.start-start.result in
-    let can = can-run b' c.args.terms.now c.args.number p c.code-steps.result.now c.links-links.result.now c.owners-owners.result.now first p.at own here
-    (c.code-steps.ensures b' coded p here) (c.links-links.ensures b' coded p here) (c.owners-owners.ensures b' coded p here) (c.start-start.ensures b' coded inside) refl in
-    let run = rw (c.at-at.ensures b' coded p here) at c.run-turn.ensures in
+    let parts = c.parts-parts.result in
+    let are = c.parts-parts.ensures in
+    let first = parts.first in
+    let can = can-run b' c.args.terms.now c.args.number p parts.links.now parts.owners.now first p.at own here
+    (are.links b' coded p here) (are.owners b' coded p here) (are.first b' coded inside) refl in
+    let run = rw (are.slot b' coded p here) at c.run-turn.ensures in
     run-fits b c.args.number first p c.run-turn.result.holds c.run-turn.result.due c.args.terms.now c.note-2.new.terms
     (noted c.args.number first p c.run-turn.result.holds c.run-turn.result.due c.args.terms.now c.note-2.new.terms c.run-turn.new.states c.run-turn.new.self c.note-2.ensures.rest
     (run.within p.tree can) (run.before p.tree can) (run.behind p.tree can) run.len run.visits c.note-2.ensures.truths c.note-2.ensures.dues)
@@ -144,10 +134,11 @@ returns-clause-steps c b p fits here names =
     let coded : IsCodes b c.table-codes.result.now = subst (IsCodes b) (sym c.table-codes.ensures) fits.codes in
     let inside : c.args.number < length (places b) = slice_get_within (places b) c.args.number p here in
     let start = nodes_before (places b) c.args.number in
-    let first = c.start-start.ensures b coded inside in
-    let can = can-run b c.args.terms.now c.args.number p c.code-steps.result.now c.links-links.result.now c.owners-owners.result.now start p.at fits here
-    (c.code-steps.ensures b coded p here) (c.links-links.ensures b coded p here) (c.owners-owners.ensures b coded p here) refl refl in
-    let run = rw (first, c.at-at.ensures b coded p here) at c.run-turn.ensures in
+    let parts = c.parts-parts.result in
+    let are = c.parts-parts.ensures in
+    let can = can-run b c.args.terms.now c.args.number p parts.links.now parts.owners.now start p.at fits here
+    (are.links b coded p here) (are.owners b coded p here) refl refl in
+    let run = rw (are.first b coded inside, are.slot b coded p here) at c.run-turn.ensures in
     subst (StepsTerm (places b) c.args.env.now c.args.now c.args.number p c.args.terms.now c.note-2.new.terms) (sym c.note-2.ensures.holds)
     (run-steps b c.args.env.now c.args.now c.args.number p c.run-turn.result.holds c.run-turn.result.due c.args.terms.now c.note-2.new.terms c.requires.now here fits
     (noted c.args.number start p c.run-turn.result.holds c.run-turn.result.due c.args.terms.now c.note-2.new.terms c.run-turn.new.states c.run-turn.new.self c.note-2.ensures.rest

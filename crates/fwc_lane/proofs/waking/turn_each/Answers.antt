@@ -1,24 +1,50 @@
-use Rattle.std.proofs.Common.{◌≡◌, ◌+◌, ◌&&◌, ◌||◌, false, ◌==◌, ℕ, Some, take, get_or, subst, sym, ap, ◌∙◌, arith}
+use Rattle.std.proofs.Common.{◌≡◌, ◌+◌, ◌*◌, ◌&&◌, ◌||◌, false, ◌==◌, ℕ, Some, length, take, get_or, subst, sym, ap, ◌∙◌, arith}
+use Rattle.std.proofs.lemmas.List.{take_all}
 use Rattle.std.proofs.lemmas.List.Folds.{list_any_more}
 use Rattle.std.proofs.lemmas.Option.{slice_get-get_or, slice_get_within}
-use Rattle.ecam_spec.specs.TermSize.{Placed, nodes, slots}
+use Rattle.ecam_spec.specs.TermSize.{nodes, slots}
 use Rattle.book_model.specs.Conditions.{places}
 use Rattle.term_eval.specs.NodeState.{state_at, NodesWait, Within, also}
-use Rattle.term_eval.specs.declared.reading.Test.TheVariants.{IsOne}
+use Rattle.term_eval.specs.declared.link.Gate.TheVariants.{AtLeast}
+use Rattle.term_eval.specs.declared.reading.Test.TheVariants.{IsSet}
 use Rattle.wakes.specs.Marks.{is_marked, room}
 use Rattle.condition_codes.specs.declared.askers.Asker.{Asker}
-use Rattle.fwc_lane.proofs.Turning.{turns-more, marks-more, listed-asks, are-linked, asks-within, marks-then, marks-else, woken-more}
+use Rattle.fwc_lane.specs.Waking.{TurnsEach}
+use Rattle.fwc_lane.proofs.Turning.{turns-more, AddsEach, adds-asker, adds-few, marks-all, listed-asks, are-linked, asks-within, marks-then, marks-else, woken-more}
 use Rattle.fwc_lane.proofs.waking.turn_each.Goals.{then-turn, else-turn}
 use Rattle.fwc_lane.proofs.waking.turn_each.Goals as goal
 
 -- what stands behind the last
 abbrev none : Asker
-none = record { term = 0; first = 0; node = 0; size = 0; test = IsOne }
+none = record { term = 0; first = 0; link = record { number = 0; up = 0; gate = AtLeast }; node = 0; size = 0; test = IsSet }
+
+pub overflow_add-fresh : goal.overflow_add-fresh
+overflow_add-fresh c =
+    let (b, can) = c.requires.can in
+    let asking = c.args.asking.now in
+    let i = c.loop-asker.asker-index in
+    let steps = c.args.codes.now.steps.items in
+    let (o, own) = can.asks i (get_or asking i none) (slice_get-get_or asking i none c.loop-asker-test.true) in
+    let adds = adds-asker b asking i o none c.args.woken.now c.loop-asker.woken c.put.new.self c.loop-asker.fresh c.from-in-loop-asker.result c.from-in-loop-asker-2.result c.put.result c.loop-asker-test.true own
+    c.from-in-loop-asker.ensures c.from-in-loop-asker-2.ensures c.put.ensures.new c.put.ensures.room c.put.ensures.marks (c.loop-asker.invariant.adds b can) in
+    let few = adds-few b c.args.codes.now (take (i + 1) asking) c.args.woken.now c.put.new.self (c.loop-asker.fresh + c.from-in-loop-asker.result * c.from-in-loop-asker-2.result) can.are adds in
+    omega (arith, few, steps.ok, steps.small)
+
+pub says-holds-requires-clause-asks : goal.says-holds-requires-clause-asks
+says-holds-requires-clause-asks c =
+    let (b, can) = c.requires.can in
+    let (o, own) = can.asks c.loop-asker.asker-index _ (slice_get-get_or c.args.asking.now c.loop-asker.asker-index none c.loop-asker-test.true) in
+    (b, o, can.are, own)
+
+pub links_by-links-requires : goal.links_by-links-requires
+links_by-links-requires c =
+    let (b, can) = c.requires.can in
+    let (o, own) = can.asks c.loop-asker.asker-index _ (slice_get-get_or c.args.asking.now c.loop-asker.asker-index none c.loop-asker-test.true) in
+    (b, o, can.are, own)
 
 pub turn-requires : goal.turn-requires
 turn-requires c =
-    let b = c.requires.can.0 in
-    let can = c.requires.can.1 in
+    let (b, can) = c.requires.can in
     let a = get_or c.args.asking.now c.loop-asker.asker-index none in
     let (o, own) = can.asks c.loop-asker.asker-index a (slice_get-get_or c.args.asking.now c.loop-asker.asker-index none c.loop-asker-test.true) in
     let before = c.loop-asker.invariant.turns b can in (
@@ -26,13 +52,13 @@ turn-requires c =
       own.place.at,
       are-linked b c.args.asking.now c.args.codes.now c.args.nodes.now c.loop-asker.nodes c.args.woken.now c.args.stirred.now can before.states before.wakes a.term own.place
           c.links_by-links.result.now a.first own.there (c.links_by-links.ensures b o can.are own own.place own.there) own.first,
-      omega (arith, c.from-in-loop-asker.ensures, asks-within own.place.tree a.node own.operand own.asks),
+      omega (arith, c.from.ensures, asks-within own.place.tree a.node own.operand own.asks),
+      rw c.from.ensures own.link,
     )
 
 pub mark-requires : goal.mark-requires
 mark-requires c =
-    let b = c.requires.can.0 in
-    let can = c.requires.can.1 in
+    let (b, can) = c.requires.can in
     let a = get_or c.args.asking.now c.loop-asker.asker-index none in
     let (o, own) = can.asks c.loop-asker.asker-index a (slice_get-get_or c.args.asking.now c.loop-asker.asker-index none c.loop-asker-test.true) in
     omega (arith, can.enough, (c.loop-asker.invariant.turns b can).same, slice_get_within (places b) a.term own.place own.there)
@@ -51,7 +77,7 @@ loop-asker-preserved c = record {
       let new = c.turn.new.self in
       let linked = are-linked b asking c.args.codes.now c.args.nodes.now mid c.args.woken.now c.args.stirred.now can before.states before.wakes a.term q c.links_by-links.result.now a.first own.there
       (c.links_by-links.ensures b o can.are own q own.there) own.first in
-      let turned = rw c.from-in-loop-asker.ensures at c.turn.ensures.waits in
+      let turned = rw c.from.ensures at c.turn.ensures.waits in
       let rooms : room c.if-turn.stirred ≡ room c.loop-asker.stirred = elim c.if-turn.branch [
         | then-turn w ↦ ap room w.stirred-is ∙ w.mark.ensures.room
         | else-turn w ↦ ap room w.stirred-is
@@ -72,27 +98,30 @@ loop-asker-preserved c = record {
       c.turn.ensures.wakes
       (subst (λ n. c.turn.result ≡ false → (state_at new.states n).told ≡ (state_at mid.states n).told) own.first c.turn.ensures.told)
       rooms marked before;
-  marks = λ b can.
+  adds = λ b can.
       let asking = c.args.asking.now in
       let i = c.loop-asker.asker-index in
-      let a = get_or asking i none in
-      let lt = c.loop-asker-test.true in
-      let (o, own) = can.asks i a (slice_get-get_or asking i none lt) in
-      let is = c.mark_counted.ensures in
-      marks-more b (take i asking) (take (i + 1) asking) a.term c.args.woken.now c.loop-asker.woken c.mark_counted.new.woken c.args.cells.now c.loop-asker.cells c.mark_counted.new.cells
-      (λ j. list_any_more (λ (x : Asker). x.term == j) asking i none lt)
-      is.room is.marks is.slots is.most
-      (λ visited counted. is.counts (places b) visited (slice_get_within (places b) a.term own.place own.there)
-      (λ p there.
-      let both : Some own.place ≡ Some p = sym own.there ∙ there in
-      let same : own.place ≡ p = cc in
-      c.from.ensures ∙ own.size ∙ ap (λ (q : Placed). nodes q.tree) same) counted)
-      (c.loop-asker.invariant.marks b can);
+      let (o, own) = can.asks i (get_or asking i none) (slice_get-get_or asking i none c.loop-asker-test.true) in
+      adds-asker b asking i o none c.args.woken.now c.loop-asker.woken c.put.new.self c.loop-asker.fresh c.from-in-loop-asker.result c.from-in-loop-asker-2.result c.put.result c.loop-asker-test.true own
+      c.from-in-loop-asker.ensures c.from-in-loop-asker-2.ensures c.put.ensures.new c.put.ensures.room c.put.ensures.marks (c.loop-asker.invariant.adds b can);
   stirs = λ woken.
       let a = get_or c.args.asking.now c.loop-asker.asker-index none in
       let marked : (j : ℕ) → is_marked c.if-turn.stirred j ≡ (is_marked c.loop-asker.stirred j || (c.turn.result && a.term == j)) = λ j. elim c.if-turn.branch [
         | then-turn w ↦ marks-then c.turn.result (is_marked c.if-turn.stirred j) (is_marked c.loop-asker.stirred j) j a.term w.if-turn.true (ap (λ m. is_marked m j) w.stirred-is ∙ w.mark.ensures.marks j)
         | else-turn w ↦ ap (λ m. is_marked m j) w.stirred-is ∙ marks-else c.turn.result (is_marked c.loop-asker.stirred j) j a.term w.if-turn.false
       ] in
-      woken-more a.term c.turn.result c.loop-asker.woken c.mark_counted.new.woken c.loop-asker.stirred c.if-turn.stirred c.mark_counted.ensures.marks marked (c.loop-asker.invariant.stirs woken);
+      woken-more a.term c.turn.result c.loop-asker.woken c.put.new.self c.loop-asker.stirred c.if-turn.stirred c.put.ensures.marks marked (c.loop-asker.invariant.stirs woken);
 }
+
+pub returns-clause-turns : goal.returns-clause-turns
+returns-clause-turns c b can =
+    let asking = c.args.asking.now in
+    subst (λ l. TurnsEach b l c.args.reading c.args.nodes.now c.args.stirred.now c.loop-asker.nodes c.loop-asker.stirred)
+    (take_all c.loop-asker.asker-index asking (omega (arith, c.loop-asker-test.false))) (c.loop-asker.invariant.turns b can)
+
+pub returns-clause-marks : goal.returns-clause-marks
+returns-clause-marks c b can =
+    let asking = c.args.asking.now in
+    marks-all b asking c.args.woken.now c.loop-asker.woken c.loop-asker.fresh c.args.cells.now c.count.new.self
+    (subst (λ l. AddsEach b l c.args.woken.now c.loop-asker.woken c.loop-asker.fresh) (take_all c.loop-asker.asker-index asking (omega (arith, c.loop-asker-test.false))) (c.loop-asker.invariant.adds b can))
+    c.count.ensures.slots c.count.ensures.visits

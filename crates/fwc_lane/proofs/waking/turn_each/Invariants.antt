@@ -1,12 +1,13 @@
 use Rattle.std.proofs.Common.{take}
 use Rattle.ecam_spec.specs.Book as plain
 use Rattle.fwc_lane.specs.TermsFit.{AreWoken}
-use Rattle.fwc_lane.specs.Waking.{CanTurn, TurnsEach, MarksEach}
+use Rattle.fwc_lane.specs.Waking.{CanTurn, TurnsEach}
+use Rattle.fwc_lane.proofs.Turning.{AddsEach}
 use Rattle.fwc_lane.proofs.waking.turn_each.Given as goal
 
 abbrev pub invariant-loop-asker : goal.invariant-loop-asker
 invariant-loop-asker l = record {
   turns : (b : plain.Book) → CanTurn b l.asking l.codes l.fn.nodes l.fn.woken l.fn.stirred → TurnsEach b (take l.asker-index l.asking) l.reading l.fn.nodes l.fn.stirred l.nodes l.stirred;
-  marks : (b : plain.Book) → CanTurn b l.asking l.codes l.fn.nodes l.fn.woken l.fn.stirred → MarksEach b (take l.asker-index l.asking) l.fn.woken l.fn.cells l.woken l.cells;
+  adds : (b : plain.Book) → CanTurn b l.asking l.codes l.fn.nodes l.fn.woken l.fn.stirred → AddsEach b (take l.asker-index l.asking) l.fn.woken l.woken l.fresh;
   stirs : AreWoken l.fn.woken l.fn.stirred → AreWoken l.woken l.stirred;
 }

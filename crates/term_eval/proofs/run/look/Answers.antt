@@ -1,8 +1,9 @@
 use Rattle.std.proofs.Common.{◌≡◌, ◌+◌, ℕ, suc, min, Bool, List, ◌∙◌, ap, add-one, slice_set}
 use Rattle.term_eval.specs.declared.memory.Cell.{Cell}
-use Rattle.term_eval.specs.Climb.{climb, Climbed, step_at}
+use Rattle.term_eval.specs.declared.nodes.NodeState.{NodeState}
+use Rattle.term_eval.specs.Climb.{climb, Climbed}
 use Rattle.term_eval.specs.NodeState.{state_at}
-use Rattle.term_eval.specs.Run.{Run, temporal_says, due_after, cells_after, look}
+use Rattle.term_eval.specs.Run.{Run, owned, temporal_says, due_after, cells_after, look}
 use Rattle.term_eval.proofs.run.look.Goals as goal
 
 abbrev all_of : Climbed → List Cell → ℕ → Run
@@ -12,19 +13,29 @@ pub returns : goal.returns
 unfolding look
 returns c =
     let a = c.args in
-    let t = c.tell-turn in
-    let own = state_at a.states.now (a.first + a.node) in
-    let first = (state_at a.states.now (a.first + a.node + 1)).told in
-    let node = (step_at a.steps.now a.node).node in
-    let counts : c.from.result ≡ own.count = c.from.ensures in
-    let holds : Bool = temporal_says a.now a.cells.now own.count first node in
-    let wake : ℕ = due_after a.now a.cells.now own.count node in
-    let is-holds : t.result.holds ≡ holds = t.ensures.holds ∙ ap (λ n. temporal_says a.now a.cells.now n first node) counts in
-    let is-due : t.result.due ≡ wake = t.ensures.due ∙ ap (λ n. due_after a.now a.cells.now n node) counts in
-    let to : ℕ → Bool → ℕ → Climbed = λ n b d. climb n a.links.now a.first a.node b a.states.now (slice_set a.wakes.now a.slot d) in
-    let climbed : record { states = c.climb.new.states; wakes = c.climb.new.wakes; stirs = c.climb.result } ≡ to (suc a.node) holds wake =
-    c.climb.ensures ∙ ap (λ n. to n t.result.holds t.result.due) (add-one a.node) ∙ ap (λ b. to (suc a.node) b t.result.due) is-holds
-    ∙ ap (λ d. to (suc a.node) holds d) is-due in
+    let t = c.tell_by-turn in
+    let i = c.from-node.result in
+    let own : ℕ → NodeState = λ j. state_at a.states.now (a.first + j) in
+    let set : ℕ → Bool = λ j. (state_at a.states.now (a.first + j + 1)).told in
+    let node = owned a.owner a.slot in
+    let holds : ℕ → Bool = λ j. temporal_says a.now a.cells.now (own j).count (set j) node in
+    let wake : ℕ → ℕ = λ j. due_after a.now a.cells.now (own j).count node in
+    let to : ℕ → ℕ → Bool → ℕ → Climbed = λ j n b d. climb n a.links.now a.first j b a.states.now
+    (slice_set a.wakes.now a.slot d) in
+    let all : ℕ → Run = λ j. all_of (to j (suc j) (holds j) (wake j))
+    (cells_after a.now a.cells.now (own j).count (set j) node) (min a.due.now (wake j)) in
+    let counts : c.from.result ≡ (own i).count = c.from.ensures in
+    let is-holds : t.result.holds ≡ holds i = t.ensures.holds
+    ∙ ap (λ n. temporal_says a.now a.cells.now n (set i) node) counts in
+    let is-due : t.result.due ≡ wake i = t.ensures.due ∙ ap (λ n. due_after a.now a.cells.now n node) counts in
+    let climbed : record { states = c.climb.new.states; wakes = c.climb.new.wakes; stirs = c.climb.result }
+    ≡ to i (suc i) (holds i) (wake i) =
+    c.climb.ensures ∙ ap (λ n. to i n t.result.holds t.result.due) (add-one i)
+    ∙ ap (λ b. to i (suc i) b t.result.due) is-holds
+    ∙ ap (λ d. to i (suc i) (holds i) d) is-due in
     ap (λ d. all_of d t.new.cells c.earlier.new.due) climbed
-    ∙ ap (λ cells. all_of (to (suc a.node) holds wake) cells c.earlier.new.due) (t.ensures.cells ∙ ap (λ n. cells_after a.now a.cells.now n first node) counts)
-    ∙ ap (λ due. all_of (to (suc a.node) holds wake) (cells_after a.now a.cells.now own.count first node) due) (c.earlier.ensures ∙ ap (min a.due.now) is-due)
+    ∙ ap (λ cells. all_of (to i (suc i) (holds i) (wake i)) cells c.earlier.new.due)
+    (t.ensures.cells ∙ ap (λ n. cells_after a.now a.cells.now n (set i) node) counts)
+    ∙ ap (λ due. all_of (to i (suc i) (holds i) (wake i)) (cells_after a.now a.cells.now (own i).count (set i) node) due)
+    (c.earlier.ensures ∙ ap (min a.due.now) is-due)
+    ∙ ap all c.from-node.ensures

@@ -1,11 +1,14 @@
-use Rattle.std.proofs.Common.{rules, ◌≡◌, ◌≤◌, [], ◌++◌, List, map, length, ap, subst, sym, ◌∙◌, arith}
+use Rattle.std.proofs.Common.{rules, ◌≡◌, ◌≤◌, [], ◌++◌, List, length, ap, subst, sym, ◌∙◌, arith}
 use Rattle.ecam_spec.specs.Book.{Tree}
-use Rattle.ecam_spec.specs.TermSize.{nodes, slots}
+use Rattle.ecam_spec.specs.TermSize.{slots}
 use Rattle.term_tree.specs.View.{tree_of}
 use Rattle.term_eval.specs.declared.code.Step.{Step}
+use Rattle.term_eval.specs.declared.link.Link.{Link}
+use Rattle.term_eval.specs.declared.owner.Owner.{Owner}
 use Rattle.term_eval.specs.Memory.{Memory, NodeMemory}
-use Rattle.term_eval.specs.Code.{IsCode, IsReady, owners}
-use Rattle.term_eval.specs.Links.{link_of}
+use Rattle.term_eval.specs.Code.{code, owners, IsCode, IsReady}
+use Rattle.term_eval.specs.Links.{links_from}
+use Rattle.term_eval.specs.Linked.{CanRun}
 use Rattle.term_eval.proofs.Codes.{length-code}
 use Rattle.term_eval.proofs.tests.answers_by_code.Goals as goal
 
@@ -19,9 +22,28 @@ has-room c steps now m n code same few cells states wakes =
       range = omega (arith, few, cells);
     }
 
--- what was gathered of the steps is of the same steps as they are lent again
-gathered : {A : Type 0} (of : List Step → List A) (now items none : List A) (steps first again : List Step) → now ≡ items → items ≡ none ++ of first → none ≡ [] → first ≡ steps → again ≡ steps → now ≡ of again
-gathered of now items none steps first again lent is empty once twice = lent ∙ is ∙ ap (λ l. l ++ of first) empty ∙ ap of (once ∙ sym twice)
+-- what was gathered of the steps as they were lent is of the steps
+gathered : {A : Type 0} (of : List Step → List A) (now items none : List A) (steps first : List Step) → now ≡ items →
+    items ≡ none ++ of first → none ≡ [] → first ≡ steps → now ≡ of steps
+gathered of now items none steps first lent is empty once = lent ∙ is ∙ ap (λ l. l ++ of first) empty ∙ ap of once
+
+-- the condition can be run by what was gathered of its code
+can-run : (c : Tree) (steps : List Step) (own : List Link) (temporal : List Owner) (m : Memory) (n : NodeMemory) →
+    IsCode c 0 steps → own ≡ links_from steps → temporal ≡ owners 0 steps → slots c ≤ 2 →
+    length m.slots ≡ 2 → length n.states ≡ length steps → length n.wakes ≡ 2 → CanRun own temporal m n c 0 0
+can-run c steps own temporal m n of_it links by few cells states wakes =
+    let ready = has-room c steps (code 0 0 c) m n of_it (sym of_it.is) few cells states wakes in
+    record {
+      linked = record { links = links ∙ ap links_from of_it.is; held = ready.held };
+      owners = by
+          ∙ ap (owners 0) of_it.is;
+      range = ready.range;
+    }
+
+pub add_owners-requires : goal.add_owners-requires
+add_owners-requires c =
+    let code = c.in_ok-steps.ensures in
+    omega (arith, ap length c.deref-2.ensures.value, ap length code.is, length-code (tree_of c.args.cond.now) 0 0, code.small)
 
 pub begin-first-requires-clause-ready : goal.begin-first-requires-clause-ready
 begin-first-requires-clause-ready c =
@@ -51,33 +73,24 @@ hear-requires-clause-held c =
 
 pub hear-requires-clause-links : goal.hear-requires-clause-links
 hear-requires-clause-links c =
-    gathered (map link_of) _ _ _ _ _ _ c.deref-in-loop-moment-2.ensures.value c.in_ok-add_links.ensures c.new-links.ensures.items c.deref.ensures.value c.deref-in-loop-moment.ensures.value
+    gathered links_from _ _ _ _ _ c.deref-in-loop-moment-2.ensures.value c.in_ok-add_links.ensures c.new-links.ensures.items c.deref.ensures.value
+    ∙ ap links_from (sym c.deref-in-loop-moment.ensures.value)
 
 pub run-turn-requires-clause-ready : goal.run-turn-requires-clause-ready
 run-turn-requires-clause-ready c =
-    let i = c.loop-moment.invariant in (
-      tree_of c.args.cond.now,
-      record {
-        ready =
-            has-room (tree_of c.args.cond.now) c.in_ok-steps.steps.items c.deref-in-loop-moment-3.result.now c.loop-moment.cells c.hear.new.nodes c.in_ok-steps.ensures
-            c.deref-in-loop-moment-3.ensures.value c.requires.few i.cells (c.hear.ensures.states ∙ i.states) (c.hear.ensures.wakes ∙ i.wakes);
-        links =
-            gathered (map link_of) _ _ _ _ _ _ c.deref-in-loop-moment-4.ensures.value c.in_ok-add_links.ensures c.new-links.ensures.items c.deref.ensures.value
-            c.deref-in-loop-moment-3.ensures.value;
-        owners =
-            gathered (owners 0) _ _ _ _ _ _ c.deref-in-loop-moment-5.ensures.value c.in_ok-add_owners.ensures c.new-owners.ensures.items c.deref-2.ensures.value
-            c.deref-in-loop-moment-3.ensures.value;
-      },
-    )
+    let i = c.loop-moment.invariant in
+    let runs = can-run (tree_of c.args.cond.now) c.in_ok-steps.steps.items c.deref-in-loop-moment-3.result.now c.deref-in-loop-moment-4.result.now c.loop-moment.cells c.hear.new.nodes c.in_ok-steps.ensures
+    (gathered links_from _ _ _ _ _ c.deref-in-loop-moment-3.ensures.value c.in_ok-add_links.ensures c.new-links.ensures.items c.deref.ensures.value)
+    (gathered (owners 0) _ _ _ _ _ c.deref-in-loop-moment-4.ensures.value c.in_ok-add_owners.ensures c.new-owners.ensures.items c.deref-2.ensures.value)
+    c.requires.few i.cells (c.hear.ensures.states ∙ i.states) (c.hear.ensures.wakes ∙ i.wakes) in
+    (tree_of c.args.cond.now, runs)
 
 pub loop-moment-preserved : goal.loop-moment-preserved
 loop-moment-preserved c =
     let i = c.loop-moment.invariant in
-    let ready = has-room (tree_of c.args.cond.now) c.in_ok-steps.steps.items c.deref-in-loop-moment-3.result.now c.loop-moment.cells c.hear.new.nodes c.in_ok-steps.ensures
-    c.deref-in-loop-moment-3.ensures.value c.requires.few i.cells (c.hear.ensures.states ∙ i.states) (c.hear.ensures.wakes ∙ i.wakes) in
-    let links = gathered (map link_of) _ _ _ _ _ _ c.deref-in-loop-moment-4.ensures.value c.in_ok-add_links.ensures c.new-links.ensures.items c.deref.ensures.value
-    c.deref-in-loop-moment-3.ensures.value in
-    let owners = gathered (owners 0) _ _ _ _ _ _ c.deref-in-loop-moment-5.ensures.value c.in_ok-add_owners.ensures c.new-owners.ensures.items c.deref-2.ensures.value
-    c.deref-in-loop-moment-3.ensures.value in
-    let within = c.run-turn.ensures.within (tree_of c.args.cond.now) (record { ready = ready; links = links; owners = owners }) in
+    let runs = can-run (tree_of c.args.cond.now) c.in_ok-steps.steps.items c.deref-in-loop-moment-3.result.now c.deref-in-loop-moment-4.result.now c.loop-moment.cells c.hear.new.nodes c.in_ok-steps.ensures
+    (gathered links_from _ _ _ _ _ c.deref-in-loop-moment-3.ensures.value c.in_ok-add_links.ensures c.new-links.ensures.items c.deref.ensures.value)
+    (gathered (owners 0) _ _ _ _ _ c.deref-in-loop-moment-4.ensures.value c.in_ok-add_owners.ensures c.new-owners.ensures.items c.deref-2.ensures.value)
+    c.requires.few i.cells (c.hear.ensures.states ∙ i.states) (c.hear.ensures.wakes ∙ i.wakes) in
+    let within = c.run-turn.ensures.within (tree_of c.args.cond.now) runs in
     record { cells = c.run-turn.ensures.len ∙ i.cells; states = within.nodes ∙ c.hear.ensures.states ∙ i.states; wakes = within.slots ∙ c.hear.ensures.wakes ∙ i.wakes }

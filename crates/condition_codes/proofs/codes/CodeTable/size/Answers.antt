@@ -1,5 +1,4 @@
-use Rattle.std.proofs.Common.{◌≡◌, suc, ◌+◌, ◌<◌, length, slice_index, ap, ◌∙◌, arith, add-one}
-use Rattle.std.proofs.lemmas.List.{get_or_default}
+use Rattle.std.proofs.Common.{◌<◌, length, arith}
 use Rattle.std.proofs.lemmas.Option.{slice_get_within}
 use Rattle.book_model.specs.Conditions.{places}
 use Rattle.condition_codes.proofs.Places.{nodes-next}
@@ -7,11 +6,5 @@ use Rattle.condition_codes.proofs.codes.CodeTable.size.Goals as goal
 
 pub returns : goal.returns
 returns c b is p here =
-    let n = c.args.number in
-    let starts = c.args.self.now.starts.items.items in
-    let inside : n < length (places b) = slice_get_within (places b) n p here in
-    let to : c.index.result.now ≡ slice_index starts (suc n) =
-    c.index.ensures ∙ get_or_default starts (n + 1) c.index.result.now 0 (omega (arith, inside, is.codes.pieces.count)) ∙ ap (slice_index starts) (add-one n) in
-    let from : c.index-2.result.now ≡ slice_index starts n =
-    c.index-2.ensures ∙ get_or_default starts n c.index-2.result.now 0 (omega (arith, inside, is.codes.pieces.count)) in
-    omega (arith, to, from, is.codes.nodes n (omega (arith, inside)), is.codes.nodes (suc n) (omega (arith, inside)), nodes-next (places b) n p here)
+    let inside : c.args.number < length (places b) = slice_get_within (places b) c.args.number p here in
+    omega (arith, c.start_behind.ensures b is inside, c.start.ensures b is inside, nodes-next (places b) c.args.number p here)

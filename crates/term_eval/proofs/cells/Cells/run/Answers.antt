@@ -26,14 +26,15 @@ pass-due-requires c =
     let states = ap length (c.deref_mut.ensures.value ∙ ap (λ (n : NodeMemory). n.states) c.states.view_is) in
     let wakes = ap length (c.deref_mut-2.ensures.value ∙ ap (λ (n : NodeMemory). n.wakes) c.states.view_is) in
     let cells = ap length (c.deref_mut-3.ensures.value ∙ ap (λ (m : Memory). m.slots) c.self.view_is) in
-    rw states (rw wakes (rw cells (can-pass c.args.steps.now c.args.links.now c.args.owners.now c.args.self.now c.args.states.now tree c.args.at c.args.first can)))
+    rw states (rw wakes (rw cells
+    (can-pass c.args.links.now c.args.owners.now c.args.self.now c.args.states.now tree c.args.at c.args.first can)))
 
 pub index-requires : goal.index-requires
 index-requires c =
     let (tree, can) = c.requires.ready in
     let len = ap (λ (n : NodeMemory). length n.states) c.states.view_is in
     let own = c.states.inside.states.items.ok.0 in
-    omega (arith, can.ready.held.nodes, nodes-some tree, len, own)
+    omega (arith, can.linked.held.nodes, nodes-some tree, len, own)
 
 -- what is kept when the temporal nodes were gone through
 last : goal.After-index → Run
@@ -49,10 +50,11 @@ passed : goal.After-index → Run
 passed c = record { states = c.pass-due.new.states; wakes = c.pass-due.new.wakes; cells = c.pass-due.new.cells; due = c.pass-due.result }
 
 abbrev Runs : goal.After-index → Tree → Type 0
-Runs c tree = CanRun c.args.steps.now c.args.links.now c.args.owners.now c.args.self.now c.args.states.now tree c.args.at c.args.first
+Runs c tree = CanRun c.args.links.now c.args.owners.now c.args.self.now c.args.states.now tree c.args.at c.args.first
 
 after : (c : goal.After-index) (tree : Tree) (can : Runs c tree) →
-    ran c.args.now c.args.steps.now c.args.links.now c.args.owners.now c.args.self.now c.args.states.now tree c.args.at c.args.first can ≡ last c
+    ran c.args.now c.args.links.now c.args.owners.now c.args.self.now c.args.states.now tree c.args.at c.args.first can
+    ≡ last c
 unfolding last passed
 after c tree can =
     let states = c.deref_mut.ensures.value ∙ ap (λ (n : NodeMemory). n.states) c.states.view_is in
@@ -62,7 +64,8 @@ after c tree can =
     let new-wakes = with_items_is c.states.inside.wakes.items c.pass-due.new.wakes (c.pass-due.auto.wakes ∙ ap length c.deref_mut-2.ensures.value ∙ sym c.states.inside.wakes.items.ok.0) in
     let new-cells = with_items_is c.self.inside.cells.items c.pass-due.new.cells (c.pass-due.auto.cells ∙ ap length c.deref_mut-3.ensures.value ∙ sym c.self.inside.cells.items.ok.0) in
     let was : Run = record { states = c.deref_mut.result.now; wakes = c.deref_mut-2.result.now; cells = c.deref_mut-3.result.now; due = never } in
-    ap (pass_over c.args.now c.args.steps.now c.args.links.now c.args.first c.args.owners.now c.args.at) (sym (same-run was (fresh c.args.self.now c.args.states.now) states wakes cells refl))
+    ap (pass_over c.args.now c.args.links.now c.args.first c.args.owners.now c.args.at)
+    (sym (same-run was (fresh c.args.self.now c.args.states.now) states wakes cells refl))
     ∙ sym {a = passed c} c.pass-due.ensures
     ∙ sym {a = last c} (same-run (last c) (passed c) new-states new-wakes new-cells refl)
 
@@ -70,20 +73,21 @@ frame : (c : goal.After-index) (tree : Tree) → Runs c tree →
     Framed c.args.first (c.args.first + nodes tree) c.args.at (c.args.at + slots tree) c.args.at (slots tree) (fresh c.args.self.now c.args.states.now) (last c)
 frame c tree can =
     subst (Framed c.args.first (c.args.first + nodes tree) c.args.at (c.args.at + slots tree) c.args.at (slots tree) (fresh c.args.self.now c.args.states.now)) (after c tree can)
-    (ran-frame c.args.now c.args.steps.now c.args.links.now c.args.owners.now c.args.self.now c.args.states.now tree c.args.at c.args.first can)
+    (ran-frame c.args.now c.args.links.now c.args.owners.now c.args.self.now c.args.states.now tree c.args.at c.args.first can)
 
 all-done : (c : goal.After-index) (tree : Tree) → Runs c tree → (w : World) (h : ℕ) → c.args.now ≡ suc h → Stand w c.args.now tree c.args.at c.args.self.now.slots →
     NodesWait w h (heard (moved w c.args.now) tree) tree c.args.at c.args.first c.args.states.now → Done w c.args.now tree c.args.at c.args.first (last c)
 all-done c tree can w h is stand waits =
     subst (Done w c.args.now tree c.args.at c.args.first) (after c tree can)
-    (done c.args.steps.now c.args.links.now c.args.owners.now c.args.self.now c.args.states.now tree c.args.at c.args.first can w h c.args.now is c.requires.now stand waits)
+    (done c.args.links.now c.args.owners.now c.args.self.now c.args.states.now tree c.args.at c.args.first can w h c.args.now is c.requires.now stand waits)
 
 pub returns-clause-truth : goal.returns-clause-truth
 unfolding last
 returns-clause-truth c tree can w h is stand waits =
     let d = all-done c tree can w h is stand waits in
     let f = frame c tree can in
-    ap (λ (n : NodeState). n.told) (c.index.ensures ∙ get_or_default _ c.args.first c.index.result.now unasked (omega (arith, f.nodes, can.ready.held.nodes, nodes-some tree)))
+    ap (λ (n : NodeState). n.told) (c.index.ensures ∙ get_or_default _ c.args.first c.index.result.now unasked
+    (omega (arith, f.nodes, can.linked.held.nodes, nodes-some tree)))
     ∙ d.told
 
 pub returns-clause-due : goal.returns-clause-due

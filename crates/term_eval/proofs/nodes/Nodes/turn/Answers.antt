@@ -1,12 +1,14 @@
-use Rattle.std.proofs.Common.{◌≡◌, suc, ◌+◌, length, sym, ◌∙◌, ap, subst, arith}
+use Rattle.std.proofs.Common.{◌≡◌, suc, ◌+◌, length, inl, inr, sym, ◌∙◌, ap, subst, arith}
+use Rattle.std.specs.Prelude.{slice_index}
 use Rattle.std.proofs.lemmas.List.{with_items_is}
 use Rattle.std.specs.Vec.{with_items}
 use Rattle.term_eval.specs.Memory.{NodeMemory}
 use Rattle.term_eval.specs.Climb.{Climbed, climb, CanClimb}
 use Rattle.term_eval.specs.NodeState.{state_at, NodesWait, Within, also}
 use Rattle.ecam_spec.specs.TermSize.{nodes, slots}
+use Rattle.term_eval.proofs.PartLaws.{slots-within}
 use Rattle.term_eval.proofs.CodeParts.{heads-one}
-use Rattle.term_eval.proofs.Linking.{can-climb, length-links}
+use Rattle.term_eval.proofs.Linking.{can-climb, length-links, link-at}
 use Rattle.term_eval.proofs.Climbing.{kept_by}
 use Rattle.term_eval.proofs.ClimbLeaves.{climb-leaves}
 use Rattle.term_eval.proofs.Turning.{lent, turned-waits, turned-within}
@@ -14,13 +16,18 @@ use Rattle.term_eval.proofs.nodes.Nodes.turn.Goals as goal
 
 pub climb-requires-clause-node : goal.climb-requires-clause-node
 climb-requires-clause-node c =
-    let (tree, at, ready, within) = c.requires in
+    let (tree, at, ready, within, own) = c.requires in
     let long = length-links tree at c.args.links.now ready.links in
     omega arith
 
+pub climb-requires-clause-link : goal.climb-requires-clause-link
+climb-requires-clause-link c =
+    let (tree, at, ready, within, own) = c.requires in
+    own ∙ sym (link-at tree at c.args.links.now ready.links c.args.node within)
+
 pub climb-requires-clause-can : goal.climb-requires-clause-can
 climb-requires-clause-can c =
-    let (tree, at, ready, within) = c.requires in
+    let (tree, at, ready, within, own) = c.requires in
     let states = c.deref_mut.ensures.value ∙ ap (λ (n : NodeMemory). n.states) c.self.view_is in
     let wakes = c.deref_mut-2.ensures.value ∙ ap (λ (n : NodeMemory). n.wakes) c.self.view_is in
     subst (λ m. CanClimb c.args.links.now c.args.first m (length c.deref_mut-2.result.now)) (sym (ap length states))
@@ -49,7 +56,7 @@ returns-clause-waits c tree at ready w h updated x reading atoms asks reads is w
 
 pub returns-clause-within : goal.returns-clause-within
 returns-clause-within c tree at ready =
-    let (other, place, fits, within) = c.requires in
+    let (other, place, fits, within, own) = c.requires in
     let long = length-links other place c.args.links.now fits.links in
     let same = length-links tree at c.args.links.now ready.links in
     subst (λ (done : Climbed). Within c.args.first (c.args.first + nodes tree) at (at + slots tree) c.args.self.now (kept_by done)) (ran c)
@@ -57,7 +64,7 @@ returns-clause-within c tree at ready =
 
 pub returns-clause-wakes : goal.returns-clause-wakes
 returns-clause-wakes c none =
-    let (tree, at, ready, within) = c.requires in
+    let (tree, at, ready, within, own) = c.requires in
     let y = heads-one tree at c.args.node within in
     ap (λ (done : Climbed). done.wakes) (sym (ran c))
     ∙ (climb-leaves tree at c.args.first c.args.node y.0 c.args.self.now c.args.links.now c.args.holds ready y.1).quiet
@@ -65,8 +72,27 @@ returns-clause-wakes c none =
 
 pub returns-clause-told : goal.returns-clause-told
 returns-clause-told c none =
-    let (tree, at, ready, within) = c.requires in
+    let (tree, at, ready, within, own) = c.requires in
     let y = heads-one tree at c.args.node within in
     ap (λ (done : Climbed). (state_at done.states c.args.first).told) (sym (ran c))
     ∙ (climb-leaves tree at c.args.first c.args.node y.0 c.args.self.now c.args.links.now c.args.holds ready y.1).first_told
     (ap (λ (done : Climbed). done.stirs) (ran c) ∙ none)
+
+pub returns-clause-stirs : goal.returns-clause-stirs
+returns-clause-stirs c tree at ready stirs =
+    let (other, place, fits, within, own) = c.requires in
+    let long = length-links other place c.args.links.now fits.links in
+    let same = length-links tree at c.args.links.now ready.links in
+    let y = heads-one tree at c.args.node (omega arith) in
+    let high = slots-within at 0 tree c.args.node y.0 y.1 in
+    let done = (climb-leaves tree at c.args.first c.args.node y.0 c.args.self.now c.args.links.now c.args.holds ready y.1).stirred (ap (λ (done : Climbed). done.stirs) (ran c) ∙ stirs) in
+    elim done [
+      | inl turned ↦ inl (λ e. turned (ap (λ (done : Climbed). (state_at done.states c.args.first).told) (ran c) ∙ e))
+      | inr slot ↦
+          inr (
+            slot.0,
+            slot.1,
+            (omega (arith, slot.2, high.1)),
+            (ap (λ (done : Climbed). slice_index done.wakes slot.0) (sym (ran c)) ∙ slot.3),
+          )
+    ]
