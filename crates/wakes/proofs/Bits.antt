@@ -1,14 +1,15 @@
 -- One bit of some words is set or cleared, and the first is found.
-use Rattle.std.proofs.Common.{◌≡◌, ◌≢◌, ℕ, ◌+◌, ◌-◌, ◌*◌, ◌/◌, ◌%◌, ◌^◌, ◌<◌, ◌≤◌, false, not, ◌&&◌, ◌||◌, ◌==◌, List, length, get_or, set, slice_index, bit_or, bit_and, sym, ap, ◌∙◌, inl, inr, arith}
-use Rattle.std.proofs.lemmas.List.{get_or-set_same, get_or-set_other, get_or_default, length-set}
-use Rattle.std.proofs.Math.Bool.{and-false}
+use Rattle.std.proofs.Common.{◌≡◌, ◌≢◌, ℕ, ◌+◌, ◌-◌, ◌*◌, ◌/◌, ◌%◌, ◌^◌, ◌<◌, ◌≤◌, false, not, ◌&&◌, ◌||◌, ◌==◌, Bool, true, List, length, get_or, set, slice_index, bit_or, bit_and, sym, ap, subst, ◌∙◌, inl, inr, arith}
+use Rattle.std.proofs.lemmas.List.{get_or-set_same, get_or-set_other, get_or_default, length-set, set-get_or}
+use Rattle.std.proofs.Math.Bool.{and-false, and-true}
 use Rattle.std.proofs.lemmas.Bool.{cases_eq, cases_lt, eq-eqb, ne_eqb}
 use Rattle.std.proofs.lemmas.Nat.{shr-shr}
 use Rattle.std.proofs.lemmas.Nat.Bits.{bit_at_set_same, bit_at_set_other, bit_at_clear_same, bit_at_clear_other, bit_at-zero}
 use Rattle.std.proofs.Common.{lt_of_lt_of_le, suc-ne-zero}
 use lib.Pow.{pow_mono}
 use native.Mathlib.Nat.{div-eq_of_lt}
-use Rattle.std.specs.Int.{w64, bit_at}
+use Rattle.std.specs.Int.{w64, bit_at, from_bool}
+use Rattle.std.specs.Int.Bits.{or_zero_r}
 use Rattle.wakes.specs.Marks.{is_marked, IsNext}
 use Rattle.wakes.specs.MarkedEnd.{EndsAt}
 
@@ -85,6 +86,21 @@ module _ (words new : List ℕ) (i v : ℕ) (room : i < 64 * length words) (here
             marks is j ∙ ap (λ b. b || is_marked words j) (ne_eqb j i (λ same. let w : ⊥ = omega arith in w)) ∙ e.none j (omega arith);
       }
 
+  -- a number is marked where a flag says so
+  same : new ≡ set words (i / 64) (bit_or v (0 * 2 ^ (i % 64) % 2 ^ 64)) → new ≡ words
+  same is =
+      let none : 0 * 2 ^ (i % 64) % 2 ^ 64 ≡ 0 = omega arith in
+      is ∙ ap (set words (i / 64)) (ap (bit_or v) none ∙ or_zero_r v ∙ here) ∙ set-get_or words (i / 64) v
+
+  pub marks-where : (on : Bool) → new ≡ set words (i / 64) (bit_or v (from_bool on * 2 ^ (i % 64) % 2 ^ 64)) → (j : ℕ) → is_marked new j ≡ ((j == i && on) || is_marked words j)
+  marks-where true is j = marks is j ∙ sym (ap (λ b. b || is_marked words j) (and-true (j == i)))
+  marks-where false is j = ap (λ ws. is_marked ws j) (same is) ∙ sym (ap (λ b. b || is_marked words j) (and-false (j == i)))
+
+  pub marked-ends-where : (on : Bool) → (end later : ℕ) → new ≡ set words (i / 64) (bit_or v (from_bool on * 2 ^ (i % 64) % 2 ^ 64)) → EndsAt words end → end ≤ later → i < later → later ≤ 64 * length words → EndsAt new later
+  marked-ends-where true = marked-ends
+  marked-ends-where false = λ end later is e le lt fits.
+      subst (λ ws. EndsAt ws later) (sym (same is)) record { few = e.few; within = fits; none = λ j past. e.none j (omega arith) }
+
   pub unmarked-ends : (end : ℕ) → new ≡ set words (i / 64) (bit_and v (18446744073709551615 - 1 * 2 ^ (i % 64) % 2 ^ 64)) → EndsAt words end → EndsAt new end
   unmarked-ends end is e =
       let long = same-length _ is in
@@ -103,7 +119,7 @@ module _ (words : List ℕ) (from p s v : ℕ) (starts : 64 * p + s ≡ from) (h
   bit : (n : ℕ) → bit_at (v / 2 ^ s) n ≡ bit_at v (s + n)
   bit n = ap (λ x. x % 2) (shr-shr v s n)
 
-  marked-at : (n : ℕ) → s + n < 64 → is_marked words (from + n) ≡ (bit_at (v / 2 ^ s) n == 1)
+  pub marked-at : (n : ℕ) → s + n < 64 → is_marked words (from + n) ≡ (bit_at (v / 2 ^ s) n == 1)
   marked-at n lt =
       let word : (from + n) / 64 ≡ p = omega arith in
       let place : (from + n) % 64 ≡ s + n = omega arith in
@@ -117,7 +133,7 @@ module _ (words : List ℕ) (from p s v : ℕ) (starts : 64 * p + s ≡ from) (h
 
   -- the lowest of them is the first marked number
   module _ (low : ℕ) (within : p < length words) (small : v < 2 ^ 64) (there : bit_at (v / 2 ^ s) low ≡ 1) (lowest : (i : ℕ) → i < low → bit_at (v / 2 ^ s) i ≡ 0) where
-    fits : s + low < 64
+    pub fits : s + low < 64
     fits = elim (cases_lt (s + low) 64) [
       | inl lt ↦ lt
       | inr le ↦

@@ -1,22 +1,45 @@
 -- Numbers wait in rows, one for each of 64 moments that come round.
-use Rattle.std.specs.Prelude.{◌≡◌, ◌≢◌, ℕ, ◌+◌, ◌-◌, ◌*◌, ◌/◌, ◌%◌, ◌^◌, ◌<◌, ◌≤◌, min, Bool, true, List, length, slice_index}
+use Rattle.std.specs.Prelude.{◌≡◌, ◌≢◌, ℕ, ◌+◌, ◌-◌, ◌*◌, ◌/◌, ◌%◌, ◌^◌, ◌<◌, ◌≤◌, ◌==◌, min, Bool, true, List, length, slice_index, Option, MatchOption}
 use Rattle.std.specs.Box.{boxed_slice_items}
 use Rattle.std.specs.Int.{bit_at}
-use Rattle.wakes.specs.Marks.{is_marked, room}
 use Rattle.wakes.specs.Due.{never}
 use Rattle.wakes.specs.declared.rows.Rows.{Rows}
 use Rattle.wakes.specs.declared.wheel.Wheel.{Wheel}
 
--- number i waits in row r
-abbrev pub waits_in : Rows → ℕ → ℕ → Bool
-waits_in rows r i = is_marked rows.marks (r * rows.span + i)
+-- number i waits in row r of these words
+abbrev pub waits_at : List ℕ → ℕ → ℕ → Bool
+waits_at words r i = bit_at (slice_index words (i / 64 * 64 + r)) (i % 64) == 1
 
--- there is room, and each row in which a number waits is busy
-pub record IsRows (rows : Rows) : Type 0 where
-  pub few : rows.count ≤ 2 ^ 32
-  pub span : rows.span ≡ 64 * (rows.count / 64 + 1)
-  pub room : room rows.marks ≡ 64 * rows.span
-  pub busy : (r i : ℕ) → r < 64 → i < rows.count → waits_in rows r i ≡ true → bit_at rows.busy r ≡ 1
+abbrev pub waits_in : Rows → ℕ → ℕ → Bool
+waits_in rows r i = waits_at (boxed_slice_items rows.words) r i
+
+-- group g of row r is busy
+abbrev pub is_busy : List ℕ → ℕ → ℕ → Bool
+is_busy busy r g = bit_at (slice_index busy r) g == 1
+
+-- the first group behind one whose bit is set, or there is none
+abbrev pub FindsGroup : ℕ → ℕ → Option ℕ → Type 0
+FindsGroup busy group found =
+    MatchOption found ((g : ℕ) → group < g → bit_at busy g ≡ 0)
+    (λ next. (group < next) × (bit_at busy next ≡ 1) × ((g : ℕ) → group < g → g < next → bit_at busy g ≡ 0))
+
+-- a row's numbers are in at most 64 groups of 2 ^ shift, each of whole words, and of the fewest that do
+pub record IsGrouped (count shift : ℕ) : Type 0 where
+  pub whole : 6 ≤ shift
+  pub few : count < 64 * 2 ^ shift
+  pub fewest : shift ≢ 6 → 32 * 2 ^ shift ≤ count
+
+-- there is room, and each group in which a number waits is busy
+pub record AreRows (words summary : List ℕ) (count shift : ℕ) : Type 0 where
+  pub few : count ≤ 2 ^ 32
+  pub grouped : IsGrouped count shift
+  pub room : length words ≡ (count / 2 ^ shift + 1) * 2 ^ shift
+  pub within : (r i : ℕ) → r < 64 → i < length words → waits_at words r i ≡ true → i < count
+  pub busy : (r i : ℕ) → r < 64 → i < count → waits_at words r i ≡ true → is_busy summary r (i / 2 ^ shift) ≡ true
+  pub groups : (r g : ℕ) → r < 64 → is_busy summary r g ≡ true → g ≤ count / 2 ^ shift
+
+abbrev pub IsRows : Rows → Type 0
+IsRows rows = AreRows (boxed_slice_items rows.words) rows.busy rows.count rows.shift
 
 -- when a key is looked at, of the moments from `time` on: when it comes, but within 64 moments
 abbrev pub look_at : ℕ → ℕ → ℕ

@@ -34,15 +34,15 @@ impl Wakes {
         Ok(Wakes { wheel })
     }
 
-    /// From now on none is due, and the next moment is moment 0. Its cost is at most two writes a number, and 64 more.
+    /// From now on none is due, and the next moment is moment 0. Its cost is about two writes a number, and 128 more.
     pub fn clear(&mut self)
         ensures { self.new ≡ replicate (length self.old) never }
     {
         self.wheel.clear();
     }
 
-    /// Takes over the keys of others, of which there are as many, and their next moment. Its cost is at most two writes a
-    /// number, and 64 more.
+    /// Takes over the keys of others, of which there are as many, and their next moment. Its cost is about two writes a
+    /// number, and 128 more.
     pub fn copy_from(&mut self, other: &Wakes)
         requires { length self.old ≡ length other.now }
         ensures { self.new ≡ other.now }
@@ -60,8 +60,9 @@ impl Wakes {
         self.wheel.set(item, key);
     }
 
-    /// The first number whose key has come by now. Its cost in the next moment is one look where none waits for it, else one
-    /// for each 64 numbers and one at each that waits, up to that one; in another moment a look at each number up to it.
+    /// The first number whose key has come by now. Its cost in the next moment is one look where none waits for it, else a
+    /// few at each that waits or waited for it, up to that one, and from 4096 numbers on some more at each group of them in
+    /// which one did; in another moment a look at each number up to it.
     #[inline(always)]
     pub fn first(&self, now: u64) -> Option<usize>
         requires { now < never }

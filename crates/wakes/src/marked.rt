@@ -1,8 +1,8 @@
 // A set of numbers that is gone through in their order.
-ghost use Rattle.std.specs.Prelude.{◌≡◌, ℕ, ◌+◌, ◌*◌, ◌/◌, ◌<◌, ◌≤◌, ◌^◌, ◌==◌, ◌||◌, ◌&&◌, min, not, true, false, List, length, IfOk};
+ghost use Rattle.std.specs.Prelude.{◌≡◌, ℕ, ◌+◌, ◌*◌, ◌/◌, ◌%◌, ◌<◌, ◌≤◌, ◌^◌, ◌==◌, ◌||◌, ◌&&◌, min, not, true, false, List, length, count_ones, IfOk};
 ghost use Rattle.std.specs.Int.{bit_at};
 ghost use Rattle.std.specs.Box.{boxed_slice_items};
-ghost use Rattle.wakes.specs.Marks.{is_marked, room, Finds};
+ghost use Rattle.wakes.specs.Marks.{is_marked, marked_below, room, Finds};
 ghost use Rattle.wakes.specs.MarkedEnd.{EndsAt};
 
 use std::alloc::{AllocError, Global};
@@ -80,6 +80,17 @@ impl Marked {
         self.end = self.end.max(i + 1);
     }
 
+    /// Puts a number in where `on` is set. Its cost is one write, without a branch.
+    #[inline(always)]
+    pub fn mark_if(&mut self, i: usize, on: bool)
+        requires { i < room self.old }
+        ensures room { room self.new ≡ room self.old }
+        ensures marks { (j : ℕ) → is_marked self.new j ≡ ((j == i && on) || is_marked self.old j) }
+    {
+        self.words[i / 64] |= u64::from(on) << (i % 64);
+        self.end = self.end.max(i + 1);
+    }
+
     /// Puts a number in, and answers whether it wasn't in before. Its cost is one look and one write.
     pub fn put(&mut self, i: usize) -> bool
         requires { i < room self.old }
@@ -153,6 +164,19 @@ impl Marked {
         }
         next_in(&self.words, place + 1, end)
     }
+
+    /// How many numbers of the set stand from `from` on below `end`. Its cost is one look for each 64 numbers between them,
+    /// and none behind each number that was put in.
+    pub fn count_from(&self, from: usize, end: usize) -> usize
+        requires { from ≤ end }
+        ensures { marked_below self.now from + result ≡ marked_below self.now end }
+    {
+        let last = self.end.min(end);
+        if from >= last {
+            return 0;
+        }
+        count_in(&self.words, from, last)
+    }
 }
 
 // Puts the bits of other words in.
@@ -184,8 +208,33 @@ fn next_in(words: &[u64], start: usize, end: usize) -> usize
     end
 }
 
-// The bits of a word from one on.
-fn bits_from(word: u64, bit: usize) -> u64
+// How many numbers from one on below an end have a bit.
+fn count_in(words: &[u64], from: usize, end: usize) -> usize
+    requires from { from ≤ end }
+    requires end { end ≤ room words.now }
+    ensures { marked_below words.now from + result ≡ marked_below words.now end }
+{
+    let mut count = 0;
+    let mut next = from;
+    while next < end {
+        let part = (64 - next % 64).min(end - next);
+        count += ones_of(bits_from(words[next / 64], next % 64), part);
+        next += part;
+    }
+    count
+}
+
+// How many of a word's lowest bits are set, of so many.
+fn ones_of(word: u64, many: usize) -> usize
+    requires some { 0 < many }
+    requires most { many ≤ 64 }
+    ensures { result ≡ count_ones (word % 2 ^ many) }
+{
+    (word << (64 - many)).count_ones() as usize
+}
+
+/// The bits of a word from one on.
+pub fn bits_from(word: u64, bit: usize) -> u64
     requires { bit < 64 }
     ensures bits { result ≡ word / 2 ^ bit }
     ensures fits { word < 2 ^ 64 }
@@ -193,8 +242,8 @@ fn bits_from(word: u64, bit: usize) -> u64
     word >> bit
 }
 
-// The place of the lowest bit.
-fn lowest(word: u64) -> usize
+/// The place of the lowest bit.
+pub fn lowest(word: u64) -> usize
     requires { 0 < word }
     ensures within { result < 64 }
     ensures set { bit_at word result ≡ 1 }

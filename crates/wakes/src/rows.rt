@@ -1,20 +1,23 @@
 // The rows in which numbers wait for a moment.
-ghost use Rattle.std.specs.Prelude.{◌≡◌, ℕ, ◌+◌, ◌*◌, ◌%◌, ◌<◌, ◌≤◌, ◌^◌, ◌==◌, ◌||◌, ◌&&◌, not, false, IfOk};
-ghost use Rattle.wakes.specs.Turning.{IsRows, waits_in};
+ghost use Rattle.std.specs.Prelude.{◌≡◌, ℕ, ◌+◌, ◌*◌, ◌/◌, ◌%◌, ◌<◌, ◌≤◌, ◌^◌, ◌==◌, ◌||◌, ◌&&◌, not, false, length, slice_index, IfOk};
+ghost use Rattle.wakes.specs.Turning.{IsRows, FindsGroup, waits_in};
+ghost use Rattle.std.specs.Box.{boxed_slice_items};
 
-use crate::marked::Marked;
+use crate::marked::{bits_from, lowest};
 use std::alloc::{AllocError, Global};
+use std::boxed::BoxedSlice;
 
 /// 64 rows, in each of which any of some numbers may wait. A moment's row is that of its number modulo 64.
 #[derive(Drop)]
 pub struct Rows {
-    // Row r has number i at r * span + i.
-    marks: Marked,
+    // Row r has number i at bit i % 64 of word i / 64 * 64 + r, so the rows of near moments lie side by side.
+    words: BoxedSlice<u64>,
     /// How many numbers may wait.
     pub count: usize,
-    span: usize,
-    // Bit r is set where a number waits in row r, and may be where none does.
-    busy: u64,
+    // The numbers of a row are in at most 64 groups of 2 ^ shift, each of whole words.
+    shift: u32,
+    // Bit g of word r is set where a number of group g waits in row r, and may be where none does.
+    busy: [u64; 64],
 }
 
 impl Rows {
@@ -25,34 +28,37 @@ impl Rows {
         ensures count { IfOk result (λ rows. rows.count ≡ count) }
         ensures none { IfOk result (λ rows. (r i : ℕ) → waits_in rows r i ≡ false) }
     {
-        let span = 64 * (count / 64 + 1);
+        let shift = count.max(2048).ilog2() - 5;
         Ok(Rows {
-            marks: Marked::of_words(alloc, span)?,
+            words: vec![in alloc; 0u64; ((count >> shift) + 1) << shift]?.into_boxed_slice(),
             count,
-            span,
-            busy: 0,
+            shift,
+            busy: [0; 64],
         })
     }
 
-    /// No number waits. Its cost is one write for each number, and 64 more.
+    /// No number waits. Its cost is about one write for each number, and 128 more.
     pub fn clear(&mut self)
         requires { IsRows self.old }
         ensures rows { IsRows self.new }
         ensures count { self.new.count ≡ self.old.count }
         ensures none { (r i : ℕ) → waits_in self.new r i ≡ false }
     {
-        self.marks.clear();
-        self.busy = 0;
+        self.words.as_mut_slice().fill(0);
+        self.busy = [0; 64];
     }
 
-    /// The numbers wait that wait in other rows. Its cost is one write for each number, and 64 more.
+    /// The numbers wait that wait in other rows. Its cost is about one write for each number, and 128 more.
     pub fn copy_from(&mut self, other: &Rows)
         requires rows { IsRows self.old }
         requires other { IsRows other.now }
         requires count { self.old.count ≡ other.now.count }
-        ensures { self.new ≡ other.now }
+        ensures rows { IsRows self.new }
+        ensures count { self.new.count ≡ other.now.count }
+        ensures waits { boxed_slice_items self.new.words ≡ boxed_slice_items other.now.words }
+        ensures busy { self.new.busy ≡ other.now.busy }
     {
-        self.marks.copy_from(&other.marks);
+        self.words.copy_from_slice(&other.words);
         self.busy = other.busy;
     }
 
@@ -63,7 +69,7 @@ impl Rows {
         ensures { result ≡ false → (i : ℕ) → i < self.now.count
             → waits_in self.now (moment % 64) i ≡ false }
     {
-        (self.busy >> (moment % 64)) % 2 == 1
+        self.busy[(moment % 64) as usize] != 0
     }
 
     /// A number waits in a moment's row. Its cost is two writes.
@@ -76,9 +82,8 @@ impl Rows {
         ensures waits { (r i : ℕ) → r < 64 → i < self.old.count → waits_in self.new r i
             ≡ ((r == moment % 64 && i == item) || waits_in self.old r i) }
     {
-        let place = self.place(moment, item);
-        self.marks.mark(place);
-        self.busy |= 1 << (moment % 64);
+        self.words[place(moment, item)] |= 1 << (item % 64);
+        self.busy[(moment % 64) as usize] |= 1 << (item >> self.shift);
     }
 
     /// A number waits in a moment's row no more. Its cost is one write.
@@ -91,12 +96,12 @@ impl Rows {
         ensures waits { (r i : ℕ) → r < 64 → i < self.old.count → waits_in self.new r i
             ≡ (not (r == moment % 64 && i == item) && waits_in self.old r i) }
     {
-        let place = self.place(moment, item);
-        self.marks.unmark(place);
+        self.words[place(moment, item)] &= !(1 << (item % 64));
     }
 
-    /// The first number from one on that waits in a moment's row, or how many there are. Its cost is one look for each 64
-    /// numbers that it goes over.
+    /// The first number from one on that waits in a moment's row, or how many there are. Its cost is one look where it waits
+    /// in the same 64 numbers, else two more for each group that it goes over though none waits in it any more, and one for
+    /// each 64 numbers of a group, which has no more than that where there are less than 4096.
     #[inline(always)]
     pub fn next(&self, moment: u64, from: usize) -> usize
         requires rows { IsRows self.now }
@@ -106,8 +111,38 @@ impl Rows {
         ensures none { (i : ℕ) → from ≤ i → i < result
             → waits_in self.now (moment % 64) i ≡ false }
     {
-        let start = self.place(moment, 0);
-        self.marks.next_or(start + from, start + self.count) - start
+        let rest = bits_from(self.words[place(moment, from)], from % 64);
+        if rest != 0 {
+            return from + lowest(rest);
+        }
+        self.next_later(moment, from)
+    }
+
+    // The first number behind the 64 of one that waits in a moment's row, or how many there are.
+    #[inline(always)]
+    fn next_later(&self, moment: u64, from: usize) -> usize
+        requires rows { IsRows self.now }
+        requires from { from ≤ self.now.count }
+        ensures from { from ≤ result }
+        ensures end { result ≤ self.now.count }
+        ensures none { (i : ℕ) → from / 64 * 64 + 64 ≤ i → i < result
+            → waits_in self.now (moment % 64) i ≡ false }
+    {
+        let row = (moment % 64) as usize;
+        let mut group = from >> self.shift;
+        let mut start = from / 64 * 64 + 64;
+        loop {
+            let end = (group + 1) << self.shift;
+            start = next_word(&self.words, row, start, end);
+            if start < end {
+                return start + lowest(self.words[start + row]);
+            }
+            let Some(next) = next_group(self.busy[row], group) else {
+                return self.count;
+            };
+            group = next;
+            start = group << self.shift;
+        }
     }
 
     /// A moment's row, in which no number waits, is busy no more. Its cost is one write.
@@ -120,17 +155,50 @@ impl Rows {
         ensures count { self.new.count ≡ self.old.count }
         ensures waits { (r i : ℕ) → waits_in self.new r i ≡ waits_in self.old r i }
     {
-        self.busy &= !(1 << (moment % 64));
+        self.busy[(moment % 64) as usize] = 0;
     }
+}
 
-    // Where a moment's row has a number.
-    #[inline(always)]
-    fn place(&self, moment: u64, item: usize) -> usize
-        requires rows { IsRows self.now }
-        requires item { item ≤ self.now.count }
-        ensures place { result ≡ moment % 64 * self.now.span + item }
-        ensures few { result < 2 ^ 40 }
-    {
-        (moment % 64) as usize * self.span + item
+// The word in which a moment's row has a number.
+#[inline(always)]
+fn place(moment: u64, item: usize) -> usize
+    ensures { result ≡ item / 64 * 64 + moment % 64 }
+{
+    item / 64 * 64 + (moment % 64) as usize
+}
+
+// The first number from one on, or the end, whose word isn't 0 in a row, of those that begin a word.
+#[inline(always)]
+fn next_word(words: &[u64], row: usize, start: usize, end: usize) -> usize
+    requires row { row < 64 }
+    requires start { start % 64 ≡ 0 }
+    requires end { end % 64 ≡ 0 }
+    requires order { start ≤ end }
+    requires room { end ≤ length words.now }
+    ensures from { start ≤ result }
+    ensures end { result ≤ end }
+    ensures begins { result % 64 ≡ 0 }
+    ensures some { result < end → 0 < slice_index words.now (result + row) }
+    ensures none { (i : ℕ) → start ≤ i → i < result
+        → slice_index words.now (i / 64 * 64 + row) ≡ 0 }
+{
+    let mut next = start;
+    while next < end && words[next + row] == 0 {
+        next += 64;
+    }
+    next
+}
+
+// The first group behind one whose bit is set.
+#[inline(always)]
+fn next_group(busy: u64, group: usize) -> Option<usize>
+    requires { group < 64 }
+    ensures { FindsGroup busy group result }
+{
+    let later = bits_from(bits_from(busy, group), 1);
+    if later == 0 {
+        None
+    } else {
+        Some(group + 1 + lowest(later))
     }
 }

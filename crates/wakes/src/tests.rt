@@ -23,6 +23,10 @@ fn goes_through_in_order(rt: HostRuntime) -> Result<(), Fail> {
     others.join(&marked);
     assert_eq!(rt; others.first_from(8), Some(130));
     assert_eq!(rt; others.first_from(131), Some(199));
+    assert_eq!(rt; others.count_from(3, 131), 3);
+    assert_eq!(rt; others.count_from(4, 199), 2);
+    assert_eq!(rt; others.count_from(130, 300), 2);
+    assert_eq!(rt; others.count_from(200, 300), 0);
     marked.clear();
     assert_eq!(rt; marked.first_from(0), None);
     Ok(())
@@ -43,6 +47,45 @@ fn finds_the_first_that_is_due(rt: HostRuntime) -> Result<(), Fail> {
     assert_eq!(rt; others.first(10), Some(4));
     wakes.clear();
     assert_eq!(rt; wakes.first(10), None);
+    Ok(())
+}
+
+#[test]
+fn takes_in_order_beyond_one_word(rt: HostRuntime) -> Result<(), Fail> {
+    let mut wakes = Wakes::new(rt.alloc(), 1400)?;
+    wakes.set(1399, 1);
+    wakes.set(64, 1);
+    wakes.set(640, 1);
+    wakes.set(63, 1);
+    wakes.set(65, 2);
+    wakes.pass(0);
+    assert_eq!(rt; wakes.take(1), Some(63));
+    assert_eq!(rt; wakes.take(1), Some(64));
+    assert_eq!(rt; wakes.take(1), Some(640));
+    assert_eq!(rt; wakes.take(1), Some(1399));
+    assert_eq!(rt; wakes.take(1), None);
+    assert_eq!(rt; wakes.take(2), Some(65));
+    Ok(())
+}
+
+// A group has 256 of so many.
+#[test]
+fn takes_in_order_beyond_4096(rt: HostRuntime) -> Result<(), Fail> {
+    let mut wakes = Wakes::new(rt.alloc(), 9000)?;
+    wakes.set(8999, 1);
+    wakes.set(300, 1);
+    wakes.set(4096, 1);
+    wakes.set(255, 1);
+    wakes.set(1, 1);
+    wakes.set(8191, 2);
+    wakes.pass(0);
+    assert_eq!(rt; wakes.take(1), Some(1));
+    assert_eq!(rt; wakes.take(1), Some(255));
+    assert_eq!(rt; wakes.take(1), Some(300));
+    assert_eq!(rt; wakes.take(1), Some(4096));
+    assert_eq!(rt; wakes.take(1), Some(8999));
+    assert_eq!(rt; wakes.take(1), None);
+    assert_eq!(rt; wakes.take(2), Some(8191));
     Ok(())
 }
 

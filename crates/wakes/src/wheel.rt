@@ -238,7 +238,7 @@ fn wait(rows: &mut Rows, time: u64, item: usize, key: u64)
         ≡ ((r == look_at time key % 64 && i == item) || waits_in rows.old r i) }
 {
     if key != NEVER {
-        rows.put(time + key.saturating_sub(time).min(63), item);
+        rows.put(key.min(time.saturating_add(63)).max(time), item);
     }
 }
 
