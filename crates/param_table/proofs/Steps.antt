@@ -1,10 +1,14 @@
 -- What the places hold, step by step, and when each is looked at.
-use Rattle.std.proofs.Common.{◌≡◌, ◌≢◌, ℕ, zero, suc, ◌-◌, ◌/◌, ◌^◌, ◌<◌, ◌≤◌, ◌==◌, ◌&&◌, ◌||◌, Bool, true, false, leb, ltb, List, [], ◌∷◌, length, get_or, set, slice_index, Option, Some, None, cond, refl, sym, ap, subst, ◌∙◌, inl, inr, arith}
+use Rattle.std.proofs.Common.{◌≡◌, ◌≢◌, ℕ, zero, suc, ◌-◌, ◌/◌, ◌^◌, ◌<◌, ◌≤◌, ◌==◌, ◌&&◌, ◌||◌, Bool, true, false, leb, ltb, List, [], ◌∷◌, length, set, slice_index, Option, None, cond, refl, sym, ap, subst, ◌∙◌, inl, inr, arith}
 use Rattle.std.proofs.lemmas.Bool.{false≢true, cases_eq, eq-eqb, ne_eqb}
 use Rattle.std.proofs.lemmas.List.{get_or-set_same, get_or-set_other}
 use Rattle.std.proofs.lemmas.Bool.Decides.{nat_tests}
+use Rattle.ecam_spec.specs.declared.kinds.Kind.{Kind}
+use Rattle.ecam_spec.specs.Book.{Source, Parameter}
+use Rattle.ecam_spec.specs.Value.{reading}
 use Rattle.wakes.specs.Marks.{is_marked}
 use Rattle.param_table.specs.declared.received.Received.{Received}
+use Rattle.param_table.specs.declared.rules.Rule.{Rule}
 use Rattle.param_table.specs.declared.held.Held.{Held}
 use Rattle.param_table.specs.HeldValues.{given, is_ending, next_look}
 use Rattle.param_table.specs.HeldState.{IsDue, Renews}
@@ -33,35 +37,30 @@ set_set [] i x y = refl
 set_set (a ∷ xs) zero x y = refl
 set_set (a ∷ xs) (suc i) x y = ap (λ l. a ∷ l) (set_set xs i x y)
 
-pub renews_none : (clock : ℕ) (h : Held) → Renews clock h h
-renews_none clock h = record { marks = λ q off. (off, refl); due = λ due. due }
+pub renews_none : (params : List Parameter) (rules : List (Option Rule)) (clock : ℕ) (h : Held) → Renews params rules clock h h
+renews_none params rules clock h = record { marks = λ q off. off; gives = λ q s there off. refl; due = λ due. due }
 
-pub renews_both : (clock : ℕ) (a b c : Held) → Renews clock a b → Renews clock b c → Renews clock a c
-renews_both clock a b c first second = record {
-  marks = λ q off.
-      let late = second.marks q off in
-      let early = first.marks q late.0 in
-      (early.0, late.1 ∙ early.1);
+pub renews_both : (params : List Parameter) (rules : List (Option Rule)) (clock : ℕ) (a b c : Held) → Renews params rules clock a b → Renews params rules clock b c → Renews params rules clock a c
+renews_both params rules clock a b c first second = record {
+  marks = λ q off. first.marks q (second.marks q off);
+  gives = λ q s there off. second.gives q s there off ∙ first.gives q s there (second.marks q off);
   due = λ due. second.due (first.due due);
 }
 
 -- the next look at a place comes after now, and in time
-pub next_later : (clock : ℕ) (received : Option Received) → clock < 2 ^ 32 → clock < next_look clock received
-next_later clock None small = omega arith
-next_later clock (Some r) small = by (ltb clock r.end) refl where
+pub next_later : (clock : ℕ) (r : Received) → clock < 2 ^ 32 → clock < next_look clock r
+next_later clock r small = by (ltb clock r.end) refl where
   by : (b : Bool) → ltb clock r.end ≡ b → clock < cond b r.end (2 ^ 64 - 1)
   by true is = grind (arith, nat_tests)
   by false is = omega arith
 
-pub next_due : (clock : ℕ) (received : Option Received) → IsDue clock received (next_look clock received)
-next_due clock None = tt
-next_due clock (Some r) = λ fresh. let is : ltb clock r.end ≡ true = grind (arith, nat_tests) in rw is (omega arith)
+pub next_due : (clock : ℕ) (r : Received) → IsDue clock r (next_look clock r)
+next_due clock r = λ fresh. let is : ltb clock r.end ≡ true = grind (arith, nat_tests) in rw is (omega arith)
 
 -- a moment begins with the clock one on
-pub will_look_at : (clock : ℕ) (received : Option Received) (key : ℕ) → IsDue clock received key
-    → IsDue (suc clock) received key × (is_ending (suc clock) received ≡ true → key ≤ suc clock)
-will_look_at clock None key due = (tt, λ e. absurd (false≢true e))
-will_look_at clock (Some r) key due = (
+pub will_look_at : (clock : ℕ) (r : Received) (key : ℕ) → IsDue clock r key
+    → IsDue (suc clock) r key × (is_ending (suc clock) r ≡ true → key ≤ suc clock)
+will_look_at clock r key due = (
   λ fresh. due (omega arith),
   λ ends.
       let at : r.end ≡ suc clock = grind (arith, nat_tests) in
@@ -70,46 +69,45 @@ will_look_at clock (Some r) key due = (
 )
 
 -- a word that doesn't end to be fresh gives what it gave
-pub still_given : (clock : ℕ) (received : Option Received) → is_ending (suc clock) received ≡ false → given (suc clock) received ≡ given clock received
-still_given clock None e = refl
-still_given clock (Some r) e =
+pub still_given : (clock : ℕ) (kind : Kind) (s : Source) (r : Received) → is_ending (suc clock) r ≡ false → given (suc clock) kind s r ≡ given clock kind s r
+still_given clock kind s r e =
     let same : ltb (suc clock) r.end ≡ ltb clock r.end = grind (arith, nat_tests) in
-    ap (λ b. cond b r.value None) same
+    ap (λ b. cond b (reading kind s r.bits) None) same
 
 -- one place was looked at, and is looked at next in time
-module _ (clock : ℕ) (received : List (Option Received)) (dues : List ℕ) (place : ℕ) (within : place < length dues) where
-  looked : (q : ℕ) → q ≢ place → slice_index (set dues place (next_look clock (get_or received place None))) q ≡ slice_index dues q
+module _ (clock : ℕ) (x : ℕ → Received) (dues : List ℕ) (place : ℕ) (within : place < length dues) where
+  looked : (q : ℕ) → q ≢ place → slice_index (set dues place (next_look clock (x place))) q ≡ slice_index dues q
   looked q ne = get_or-set_other dues place q _ 0 ne
 
-  pub looked_due : ((q : ℕ) → IsDue clock (get_or received q None) (slice_index dues q))
-      → (q : ℕ) → IsDue clock (get_or received q None) (slice_index (set dues place (next_look clock (get_or received place None))) q)
+  pub looked_due : ((q : ℕ) → IsDue clock (x q) (slice_index dues q))
+      → (q : ℕ) → IsDue clock (x q) (slice_index (set dues place (next_look clock (x place))) q)
   looked_due was q = elim (cases_eq q place) [
     | inl e ↦
-        subst (λ n. IsDue clock (get_or received n None) (slice_index (set dues place (next_look clock (get_or received place None))) n)) (sym e)
-        (subst (IsDue clock (get_or received place None)) (sym (get_or-set_same dues place _ 0 within)) (next_due clock (get_or received place None)))
-    | inr ne ↦ subst (IsDue clock (get_or received q None)) (sym (looked q ne)) (was q)
+        subst (λ n. IsDue clock (x n) (slice_index (set dues place (next_look clock (x place))) n)) (sym e)
+        (subst (IsDue clock (x place)) (sym (get_or-set_same dues place _ 0 within)) (next_due clock (x place)))
+    | inr ne ↦ subst (IsDue clock (x q)) (sym (looked q ne)) (was q)
   ]
 
-  module _ (old new : List ℕ) (marks : (p : ℕ) → is_marked new p ≡ ((is_ending clock (get_or received place None) && p == place / 3) || is_marked old p)) where
+  module _ (old new : List ℕ) (marks : (p : ℕ) → is_marked new p ≡ ((is_ending clock (x place) && p == place / 3) || is_marked old p)) where
     apart : (a b : Bool) → (a || b) ≡ false → (a ≡ false) × (b ≡ false)
     apart false b is = (refl, is)
     apart true b is = absurd (false≢true (sym is))
 
-    pub looked_ending : ((q : ℕ) → is_marked old (q / 3) ≡ false → is_ending clock (get_or received q None) ≡ true → slice_index dues q ≤ clock)
-        → (q : ℕ) → is_marked new (q / 3) ≡ false → is_ending clock (get_or received q None) ≡ true → slice_index (set dues place (next_look clock (get_or received place None))) q ≤ clock
+    pub looked_ending : ((q : ℕ) → is_marked old (q / 3) ≡ false → is_ending clock (x q) ≡ true → slice_index dues q ≤ clock)
+        → (q : ℕ) → is_marked new (q / 3) ≡ false → is_ending clock (x q) ≡ true → slice_index (set dues place (next_look clock (x place))) q ≤ clock
     looked_ending was q off ends =
         let both = apart _ _ (sym (marks (q / 3)) ∙ off) in
         elim (cases_eq q place) [
           | inl e ↦
-              let own : is_ending clock (get_or received place None) ≡ true = ap (λ n. is_ending clock (get_or received n None)) (sym e) ∙ ends in
+              let own : is_ending clock (x place) ≡ true = ap (λ n. is_ending clock (x n)) (sym e) ∙ ends in
               absurd (false≢true (sym both.0 ∙ (ap (λ b. b && q / 3 == place / 3) own ∙ eq-eqb (q / 3) (place / 3) (ap (λ n. n / 3) e))))
           | inr ne ↦ subst (λ key. key ≤ clock) (sym (looked q ne)) (was q both.1 ends)
         ]
 
-    pub looked_others : (p : ℕ) → is_marked old p ≡ false → ((q : ℕ) → q / 3 ≡ p → is_ending clock (get_or received q None) ≡ false) → is_marked new p ≡ false
+    pub looked_others : (p : ℕ) → is_marked old p ≡ false → ((q : ℕ) → q / 3 ≡ p → is_ending clock (x q) ≡ false) → is_marked new p ≡ false
     looked_others p off none = elim (cases_eq p (place / 3)) [
       | inl e ↦ marks p ∙ ap (λ b. (b && p == place / 3) || is_marked old p) (none place (sym e)) ∙ off
-      | inr ne ↦ marks p ∙ ap (λ b. (is_ending clock (get_or received place None) && b) || is_marked old p) (ne_eqb p (place / 3) ne) ∙ and_none (is_ending clock (get_or received place None)) ∙ off
+      | inr ne ↦ marks p ∙ ap (λ b. (is_ending clock (x place) && b) || is_marked old p) (ne_eqb p (place / 3) ne) ∙ and_none (is_ending clock (x place)) ∙ off
     ]
       where
         and_none : (b : Bool) → ((b && false) || is_marked old p) ≡ is_marked old p

@@ -1,300 +1,304 @@
 -- A table of a book as a whole, step by step.
-use Rattle.std.proofs.Common.{◌≡◌, ℕ, zero, suc, ◌+◌, ◌-◌, ◌*◌, ◌/◌, ◌^◌, ◌<◌, ◌≤◌, true, ltb, List, [], ◌∷◌, false, length, map, get_or, slice_index, set, replicate, Option, Some, None, All, cond, refl, sym, ap, ◌∙◌, subst, arith, add-one, inl, inr}
-use Rattle.std.specs.Prelude.{IfSome, MatchOption, is_some, option_map, ◌==◌}
+use Rattle.std.proofs.Common.{◌≡◌, ℕ, zero, suc, ◌+◌, ◌-◌, ◌*◌, ◌/◌, ◌^◌, ◌<◌, ◌≤◌, ◌==◌, true, ltb, List, [], ◌∷◌, false, length, map, get_or, slice_index, Option, Some, None, All, cond, refl, sym, ap, ◌∙◌, subst, arith, add-one, inl, inr}
 use Rattle.std.specs.Option.{option_map_or}
-use Rattle.std.proofs.lemmas.Bool.{cases_Bool, and_parts, eqb-true, false≢true, cases_order, cases_lt}
-use Rattle.std.proofs.lemmas.Option.{same_Some, none-some}
-use Rattle.std.proofs.lemmas.List.{get_or-set_same, get_or-set_other, get_or_past, length-map}
+use Rattle.std.proofs.lemmas.Bool.{cases_Bool, false≢true, cases_lt}
+use Rattle.std.proofs.lemmas.Bool.Decides.{nat_tests}
+use Rattle.std.proofs.lemmas.List.{get_or_past, length-map}
+use Rattle.std.proofs.lemmas.List.Elements.{All-get_or}
+use Rattle.ecam_spec.specs.declared.limits.TheConstants.{STALE}
+use Rattle.ecam_spec.specs.Situation.{no_parameter}
 use Rattle.ecam_spec.specs.Book.{Source, Parameter, Book}
 use Rattle.ecam_spec.specs.Draft.{book_of}
 use Rattle.ecam_spec.specs.KeepsLimits.{IsSoundParameter}
 use Rattle.ecam_spec.specs.Word.{label, is_odd}
-use Rattle.ecam_spec.specs.Value.{BusWord, takes, has_sdi, reading}
+use Rattle.ecam_spec.specs.Value.{BusWord, takes, reading}
 use Rattle.ecam_spec.specs.History.{OneMore}
 use Rattle.book_model.specs.declared.draft.Draft.{Draft}
 use Rattle.book_model.specs.Sealed.{the_book, IsSealed}
-use Rattle.book_model.specs.View.{source_of}
 use Rattle.wakes.specs.Marks.{is_marked, room}
-use Rattle.param_table.specs.declared.received.Received.{Received}
-use Rattle.param_table.specs.declared.rules.Rule.{Rule}
-use Rattle.param_table.specs.declared.held.Held.{Held}
-use Rattle.param_table.specs.declared.table.Params.{Params}
 use Rattle.book_model.specs.SourcePlaces.{parameter_with, source_at, listens, last_below}
+use Rattle.book_model.proofs.SourcePlaces.{no_source, place_within}
+use Rattle.param_table.specs.declared.received.Received.{Received}
+use Rattle.param_table.specs.declared.mailbox.Mailbox.{Mailbox}
+use Rattle.param_table.specs.declared.rules.Rule.{Rule}
+use Rattle.param_table.specs.declared.routing.Routing.{Routing}
+use Rattle.param_table.specs.declared.table.Params.{Params}
 use Rattle.param_table.specs.Taking.{takes_at}
-use Rattle.param_table.specs.Rules.{IsRule, AreRules}
-use Rattle.param_table.specs.HeldValues.{given, kept_word, entry, is_ending, is_repeated, repeated, set_back}
-use Rattle.param_table.specs.HeldState.{AreDue, Renews, WillLook}
-use Rattle.param_table.specs.TableState.{SourceStands, IsHeld, ParamsFit, ParamsStand, IsValueOf, IsStill}
-use Rattle.param_table.proofs.Sources.{not_even}
-use Rattle.book_model.proofs.Entering.{none_replicate}
+use Rattle.param_table.specs.Rules.{IsRule, number_of, slot_of}
+use Rattle.param_table.specs.Routes.{AreRouted}
+use Rattle.param_table.specs.HeldValues.{nothing, unused, given, renewed, held_for, received_at, mailbox_at, emptied, is_ending, set_back}
+use Rattle.param_table.specs.HeldState.{CopiedWords, IsDue, AreDue, Renews, WillLook}
+use Rattle.param_table.specs.TableState.{SourceStands, ParamsFit, ParamsStand, IsStill, received_by}
+use Rattle.param_table.proofs.Chains.{is_past, past_fails}
+use Rattle.param_table.proofs.Sources.{not_even, takes_listens}
 use Rattle.param_table.proofs.Said.{start_stands, moment_stands, set_back_stands, word_stands, given_is, source_before-below}
 use Rattle.param_table.proofs.Told.{word_told, moment_told}
-use Rattle.param_table.proofs.Steps.{will_look_at, still_given}
-use Rattle.param_table.proofs.Visiting.{visited_none}
+use Rattle.param_table.proofs.ByRule.{rule-is, some_rule, no_rule, by_none, by_rule}
+use Rattle.param_table.proofs.Numbers.{number-within}
+use Rattle.param_table.proofs.Steps.{renews_none, will_look_at, still_given}
+use Rattle.param_table.proofs.Delivery.{routed_same}
 
 -- the parameters of a book are sound
 pub book_sound : (d : Draft) → IsSealed d → All IsSoundParameter (the_book d).parameters
 unfolding book_of
 book_sound d sealed = sealed.sound.parameters
 
--- nothing is held
-pub held_none : (params : List Parameter) (clock : ℕ) (received : List (Option Received)) (n q : ℕ) → received ≡ replicate n None → IfSome (get_or received q None) (IsHeld params clock q)
-held_none params clock received n q blank = subst (λ o. IfSome o (IsHeld params clock q)) (sym (ap (λ l. get_or l q None) blank ∙ none_replicate n q)) tt
+-- what is held where no source is
+blank : (b : Book) (p : Params) → ParamsFit b p → (q : ℕ) → source_at b.parameters q ≡ None → (received_by p q).end ≡ 0
+blank b p fits q none =
+    let rules = p.routing.rules.items.items in
+    ap (λ (r : Received). r.end) (by_none rules p.held.mailboxes.items.items q
+    (no_rule b.parameters q (get_or rules q None) (rule-is b.parameters (3 * length b.parameters) rules fits.routed.rules (omega arith) q) none))
+
+-- each place's mailbox is there
+pub mailbox_within : (params : List Parameter) (routing : Routing) (mailboxes : List Mailbox) → AreRouted params routing mailboxes → (q : ℕ)
+    → mailbox_at routing.rules.items.items q < length mailboxes
+mailbox_within params routing mailboxes routed q = by (source_at params q) refl where
+  rules : List (Option Rule)
+  rules = routing.rules.items.items
+
+  by : (o : Option Source) → source_at params q ≡ o → mailbox_at rules q < length mailboxes
+  by None none =
+      let rule = no_rule params q (get_or rules q None) (rule-is params (3 * length params) rules routed.rules (omega arith) q) none in
+      omega (arith, ap (λ o. option_map_or (λ (r : Rule). r.mailbox) o 0) rule, routed.count)
+  by (Some s) there =
+      omega (arith, routed.rules.mailbox q s (place_within params q s there) there, number-within params s.bus s.label (slot_of s.sdi) (3 * length params), routed.count)
+
+-- a place holds no fresh word by mailboxes that have none
+pub none_fresh : (rules : List (Option Rule)) (mailboxes : List Mailbox) → ((m : ℕ) → (get_or mailboxes m unused).after ≡ 0) → (q : ℕ) → (received_at rules mailboxes q).end ≡ 0
+none_fresh rules mailboxes none q = by (get_or rules q None) refl where
+  by : (o : Option Rule) → get_or rules q None ≡ o → (received_at rules mailboxes q).end ≡ 0
+  by None is = ap (λ (r : Received). r.end) (by_none rules mailboxes q is)
+  by (Some r) is =
+      ap (λ (x : Received). x.end) (by_rule rules mailboxes q r is)
+      ∙ ap (λ n. cond (n == 0) 0 (n + r.stale)) (none r.mailbox)
+
+pub get_or-emptied : (mailboxes : List Mailbox) (m : ℕ) → get_or (map emptied mailboxes) m unused ≡ emptied (get_or mailboxes m unused)
+get_or-emptied [] m = refl
+get_or-emptied (x ∷ xs) zero = refl
+get_or-emptied (x ∷ xs) (suc m) = get_or-emptied xs m
 
 -- before any word
-pub start : (b : Book) (words : ℕ → List BusWord) (p : Params) (n : ℕ) → ParamsFit b p → words 0 ≡ [] → p.held.received.items.items ≡ replicate n None
+pub start : (b : Book) (words : ℕ → List BusWord) (p : Params) → ParamsFit b p → words 0 ≡ [] → ((m : ℕ) → (get_or p.held.mailboxes.items.items m unused).after ≡ 0)
     → ((j : ℕ) → is_marked p.held.changed j ≡ false) → ParamsStand b words 0 p
-start b words p n fits none blank unmarked = record {
+start b words p fits none empty unmarked = record {
   fits = fits;
-  sources = λ q s there.
-      subst (SourceStands (parameter_with b.parameters q).kind (parameter_with b.parameters q).stale s words 0 p.clock) (sym (empty q))
-      (start_stands (parameter_with b.parameters q).kind (parameter_with b.parameters q).stale s words p.clock none);
-  due = λ q. rw (empty q) tt;
-  unchanged = λ q s there off. ap (given p.clock) (empty q);
+  sources = λ q s there. start_stands (parameter_with b.parameters q).stale s words p.clock (received_by p q) none (over q);
+  due = λ q fresh. absurd (omega (arith, fresh, over q));
+  unchanged = λ q s there off.
+      let past : ltb p.clock (received_by p q).end ≡ false = not_less p.clock (received_by p q).end (over q) in
+      ap (λ t. cond t (reading (parameter_with b.parameters q).kind s (received_by p q).bits) None) past;
   told = λ j on. absurd (false≢true (sym (unmarked j) ∙ on));
 } where
-  empty : (q : ℕ) → get_or p.held.received.items.items q None ≡ None
-  empty q = ap (λ l. get_or l q None) blank ∙ none_replicate n q
+  over : (q : ℕ) → (received_by p q).end ≡ 0
+  over = none_fresh p.routing.rules.items.items p.held.mailboxes.items.items empty
 
-get_or-set_back : (received : List (Option Received)) (q : ℕ) → get_or (map set_back received) q None ≡ set_back (get_or received q None)
-get_or-set_back [] q = refl
-get_or-set_back (r ∷ rs) zero = refl
-get_or-set_back (r ∷ rs) (suc q) = get_or-set_back rs q
+  not_less : (clock end : ℕ) → end ≡ 0 → ltb clock end ≡ false
+  not_less clock end is = grind (arith, nat_tests)
 
-set_back_held : (params : List Parameter) (q : ℕ) (received : Option Received) → IfSome received (IsHeld params (2 ^ 32 - 1) q) → IfSome (set_back received) (IsHeld params (2 ^ 31 - 1) q)
-set_back_held params q None held = tt
-set_back_held params q (Some r) held = record {
-  source = held.source;
-  there = held.there;
-  sdi = held.sdi;
-  value = held.value;
-  stale = held.stale;
-  bound = held.bound;
-  limit = omega (arith, held.limit);
-}
+-- for how many moments a word is fresh
+few_moments : (b : Book) (q : ℕ) (s : Source) → All IsSoundParameter b.parameters → source_at b.parameters q ≡ Some s → (parameter_with b.parameters q).stale ≤ STALE
+few_moments b q s sound there = (All-get_or IsSoundParameter b.parameters (q / 3) no_parameter (let within = place_within b.parameters q s there in omega arith) sound).stale_high
 
--- and when a moment begins
-pub later_held : (params : List Parameter) (clock q : ℕ) (received : Option Received) → IfSome received (IsHeld params clock q) → IfSome received (IsHeld params (clock + 1) q)
-later_held params clock q None held = tt
-later_held params clock q (Some r) held = record {
-  source = held.source;
-  there = held.there;
-  sdi = held.sdi;
-  value = held.value;
-  stale = held.stale;
-  bound = held.bound;
-  limit = omega (arith, held.limit);
-}
-
--- no word is fresh for longer than if it came now
-pub held_limit : (params : List Parameter) (clock q : ℕ) (received : Option Received) → IfSome received (IsHeld params clock q) → IfSome received (λ r. r.end ≤ clock + r.stale + 1)
-held_limit params clock q None held = tt
-held_limit params clock q (Some r) held = held.limit
-
--- the places fit when the clock is set back
-pub set_back_fits : (params : List Parameter) (q : ℕ) (received new : List (Option Received)) → new ≡ map set_back received
-    → IfSome (get_or received q None) (IsHeld params (2 ^ 32 - 1) q) → IfSome (get_or new q None) (IsHeld params (2 ^ 31 - 1) q)
-set_back_fits params q received new same held =
-    subst (λ o. IfSome o (IsHeld params (2 ^ 31 - 1) q)) (sym (ap (λ l. get_or l q None) same ∙ get_or-set_back received q)) (set_back_held params q (get_or received q None) held)
-
-due_soon : (clock : ℕ) (received : Option Received) (key : ℕ) → key ≡ 0 → IfSome received (λ r. clock < r.end → key ≤ r.end)
-due_soon clock None key soon = tt
-due_soon clock (Some r) key soon = λ fresh. omega (arith, soon)
+get_or-set_back : (mailboxes : List Mailbox) (m : ℕ) → get_or (map set_back mailboxes) m unused ≡ set_back (get_or mailboxes m unused)
+get_or-set_back [] m = refl
+get_or-set_back (x ∷ xs) zero = refl
+get_or-set_back (x ∷ xs) (suc m) = get_or-set_back xs m
 
 -- the clock is set back
 pub clock_back : (b : Book) (words : ℕ → List BusWord) (k : ℕ) (old new : Params) → ParamsFit b new → old.clock ≡ 2 ^ 32 - 1
-    → new.clock ≡ 2 ^ 31 - 1 → new.held.received.items.items ≡ map set_back old.held.received.items.items → new.held.changed ≡ old.held.changed
+    → new.clock ≡ 2 ^ 31 - 1 → new.routing ≡ old.routing → new.held.mailboxes.items.items ≡ map set_back old.held.mailboxes.items.items → new.held.changed ≡ old.held.changed
     → ((q : ℕ) → slice_index new.held.dues q ≡ 0) → ParamsStand b words k old → ParamsStand b words k new
-clock_back b words k old new fits full half same marks soon stands = record {
+clock_back b words k old new fits full half routing same marks soon stands = record {
   fits = fits;
   sources = λ q s there. source q s there;
-  due = λ q. due_soon new.clock (get_or new.held.received.items.items q None) (slice_index new.held.dues q) (soon q);
+  due = λ q fresh. omega (arith, soon q);
   unchanged = λ q s there off.
-      given_is (parameter_with b.parameters q).kind (parameter_with b.parameters q).stale s words k new.clock (get_or new.held.received.items.items q None) (source q s there)
-      ∙ sym (given_is (parameter_with b.parameters q).kind (parameter_with b.parameters q).stale s words k old.clock (get_or old.held.received.items.items q None) (stands.sources q s there))
+      given_is (parameter_with b.parameters q).kind (parameter_with b.parameters q).stale s words k new.clock (received_by new q) (source q s there)
+      ∙ sym (given_is (parameter_with b.parameters q).kind (parameter_with b.parameters q).stale s words k old.clock (received_by old q) (stands.sources q s there))
       ∙ stands.unchanged q s there (ap (λ m. is_marked m (q / 3)) (sym marks) ∙ off);
   told = λ j on. stands.told j (ap (λ m. is_marked m j) (sym marks) ∙ on);
 } where
+  rules : List (Option Rule)
+  rules = old.routing.rules.items.items
+
+  boxes : List Mailbox
+  boxes = old.held.mailboxes.items.items
+
   source : (q : ℕ) (s : Source) → source_at b.parameters q ≡ Some s
-      → SourceStands (parameter_with b.parameters q).kind (parameter_with b.parameters q).stale s words k new.clock (get_or new.held.received.items.items q None)
+      → SourceStands (parameter_with b.parameters q).stale s words k new.clock (received_by new q)
   source q s there =
-      rw (half, same, get_or-set_back) (set_back_stands (parameter_with b.parameters q).kind (parameter_with b.parameters q).stale s words k (get_or old.held.received.items.items q None)
-      (subst (λ t. SourceStands (parameter_with b.parameters q).kind (parameter_with b.parameters q).stale s words k t (get_or old.held.received.items.items q None)) full (stands.sources q s there)))
+      let stale = (parameter_with b.parameters q).stale in
+      let rule = some_rule b.parameters q s (get_or rules q None) (rule-is b.parameters (3 * length b.parameters) rules stands.fits.routed.rules (omega arith) q) there in
+      let r = rule.0 in
+      let held : received_by old q ≡ held_for (get_or boxes r.mailbox unused) stale =
+      by_rule rules boxes q r rule.1 ∙ ap (held_for (get_or boxes r.mailbox unused)) rule.2.stale in
+      let held_new : received_by new q ≡ held_for (set_back (get_or boxes r.mailbox unused)) stale =
+      ap (λ (t : Routing). received_at t.rules.items.items new.held.mailboxes.items.items q) routing
+      ∙ by_rule rules new.held.mailboxes.items.items q r rule.1
+      ∙ ap (λ n. held_for (get_or new.held.mailboxes.items.items r.mailbox unused) n) rule.2.stale
+      ∙ ap (λ l. held_for (get_or l r.mailbox unused) stale) same
+      ∙ ap (λ m. held_for m stale) (get_or-set_back boxes r.mailbox) in
+      let small : stale < 2 ^ 31 = omega (arith, (few_moments b q s stands.fits.sound there)) in
+      subst (λ x. SourceStands stale s words k new.clock x) (sym held_new)
+      (subst (λ t. SourceStands stale s words k t (held_for (set_back (get_or boxes r.mailbox unused)) stale)) (sym half)
+      (set_back_stands stale s words k (get_or boxes r.mailbox unused) small
+      (subst (λ t. SourceStands stale s words k t (held_for (get_or boxes r.mailbox unused) stale)) full
+      (subst (λ x. SourceStands stale s words k old.clock x) held (stands.sources q s there)))))
 
 -- one more moment begins: each word is looked at whose freshness ends with it
-pub will_look : (clock : ℕ) (old new : Held) → new.received.items.items ≡ old.received.items.items → new.dues ≡ old.dues → AreDue clock old → WillLook (suc clock) new
-will_look clock old new same dues due = record {
-  due = λ q. rw (same, dues) (look q).0;
-  ending = λ q. rw (same, dues) (look q).1;
-} where
-  look : (q : ℕ) → IfSome (get_or old.received.items.items q None) (λ r. suc clock < r.end → slice_index old.dues q ≤ r.end)
-      × (is_ending (suc clock) (get_or old.received.items.items q None) ≡ true → slice_index old.dues q ≤ suc clock)
-  look q = will_look_at clock (get_or old.received.items.items q None) (slice_index old.dues q) (due q)
-
-pub moment : (b : Book) (words : ℕ → List BusWord) (k : ℕ) (old new : Params) → ParamsFit b new → words (suc k) ≡ []
-    → new.clock ≡ suc old.clock → new.held.received.items.items ≡ old.held.received.items.items → AreDue new.clock new.held
-    → ((q : ℕ) → is_marked new.held.changed (q / 3) ≡ false → is_ending new.clock (get_or old.held.received.items.items q None) ≡ false)
-    → ((p : ℕ) → ((q : ℕ) → q / 3 ≡ p → is_ending new.clock (get_or old.held.received.items.items q None) ≡ false) → is_marked new.held.changed p ≡ false)
-    → ParamsStand b words k old → ParamsStand b words (suc k) new
-moment b words k old new fits none counts same due marks others stands = record {
-  fits = fits;
-  sources = λ q s there.
-      rw (counts, same) (moment_stands (parameter_with b.parameters q).kind (parameter_with b.parameters q).stale s words k old.clock (get_or old.held.received.items.items q None) none (stands.sources q s there));
-  due = due;
-  unchanged = λ q s there off.
-      let received = get_or old.held.received.items.items q None in
-      let still : is_ending (suc old.clock) received ≡ false = ap (λ t. is_ending t received) (sym counts) ∙ marks q off in
-      rw (counts, same) (still_given old.clock received still
-      ∙ given_is (parameter_with b.parameters q).kind (parameter_with b.parameters q).stale s words k old.clock received (stands.sources q s there));
-  told = λ p on.
-      moment_told b words k old.clock p old.held.received.items.items (is_marked new.held.changed p) none
-      (λ calm. others p (λ q row. ap (λ t. is_ending t (get_or old.held.received.items.items q None)) counts ∙ calm q row)) stands.fits.held.each stands.sources on;
+pub will_look : (clock : ℕ) (x : ℕ → Received) (dues : List ℕ) → AreDue clock x dues → WillLook (suc clock) x dues
+will_look clock x dues due = record {
+  due = λ q. (will_look_at clock (x q) (slice_index dues q) (due q)).0;
+  ending = λ q. (will_look_at clock (x q) (slice_index dues q) (due q)).1;
 }
 
--- what a place takes by a word, where its source does
-entry_taken : (params : List Parameter) (q clock : ℕ) (w : BusWord) (s : Source) (rule : Option Rule) (o : Option Received) → IsRule params q rule → source_at params q ≡ Some s
-    → cond (takes s w) (entry clock w.bits rule) o
-    ≡ cond (takes s w) (Some (kept_word (parameter_with params q).kind (parameter_with params q).stale s clock w.bits)) o
-unfolding takes
-entry_taken params q clock w s None o none there = absurd (false≢true (sym (ap is_some none) ∙ ap is_some there))
-entry_taken params q clock w s (Some r) o rule there = elim (cases_Bool (takes s w)) [
-  | inl so ↦
-      let sdi : has_sdi s.sdi w.bits ≡ true = (and_parts _ (has_sdi s.sdi w.bits) so).1 in
-      let same : Some (source_of r.source) ≡ Some s = sym rule.source ∙ there in
-      let is : source_of r.source ≡ s = cc in
-      let has : has_sdi r.source.sdi w.bits ≡ true = ap (λ (t : Source). has_sdi t.sdi w.bits) is ∙ sdi in
-      rw (so, has, rule.kind, rule.stale, is) refl
-  | inr not_so ↦ rw not_so refl
-]
+pub moment : (b : Book) (words : ℕ → List BusWord) (k : ℕ) (old new : Params) → ParamsFit b new → words (suc k) ≡ []
+    → new.clock ≡ suc old.clock → new.routing ≡ old.routing → new.held.mailboxes ≡ old.held.mailboxes → AreDue new.clock (received_by old) new.held.dues
+    → ((q : ℕ) → is_marked new.held.changed (q / 3) ≡ false → is_ending new.clock (received_by old q) ≡ false)
+    → ((p : ℕ) → ((q : ℕ) → q / 3 ≡ p → is_ending new.clock (received_by old q) ≡ false) → is_marked new.held.changed p ≡ false)
+    → ParamsStand b words k old → ParamsStand b words (suc k) new
+moment b words k old new fits none counts routing same due marks others stands = record {
+  fits = fits;
+  sources = λ q s there.
+      rw (counts, routing, same) (moment_stands (parameter_with b.parameters q).stale s words k old.clock (received_by old q) none (stands.sources q s there));
+  due = rw (routing, same) due;
+  unchanged = λ q s there off.
+      let received = received_by old q in
+      let still : is_ending (suc old.clock) received ≡ false = ap (λ t. is_ending t received) (sym counts) ∙ marks q off in
+      rw (counts, routing, same) (still_given old.clock (parameter_with b.parameters q).kind s received still
+      ∙ given_is (parameter_with b.parameters q).kind (parameter_with b.parameters q).stale s words k old.clock received (stands.sources q s there));
+  told = λ p on.
+      moment_told b words k old.clock p (received_by old) (is_marked new.held.changed p) none
+      (λ calm. others p (λ q row. ap (λ t. is_ending t (received_by old q)) counts ∙ calm q row)) (blank b old stands.fits) stands.sources on;
+}
 
 -- a word comes, which is taken where a source takes it
 pub word : (b : Book) (before after : ℕ → List BusWord) (k : ℕ) (w : BusWord) (old new : Params) → ParamsFit b new → OneMore before after k w
-    → new.clock ≡ old.clock
-    → ((q : ℕ) → get_or new.held.received.items.items q None ≡ cond (takes_at b.parameters w q) (entry old.clock w.bits (get_or old.rules.items.items q None)) (get_or old.held.received.items.items q None))
-    → Renews old.clock old.held new.held
+    → new.clock ≡ old.clock → new.routing ≡ old.routing
+    → ((q : ℕ) → received_by new q ≡ cond (takes_at b.parameters w q) (renewed old.clock (parameter_with b.parameters q).stale w.bits) (received_by old q))
+    → Renews b.parameters old.routing.rules.items.items old.clock old.held new.held
     → ((p : ℕ) → ((q : ℕ) → q / 3 ≡ p → takes_at b.parameters w q ≡ false) → is_marked new.held.changed p ≡ is_marked old.held.changed p)
     → ParamsStand b before k old → ParamsStand b after k new
-word b before after k w old new fits on clock places renews others stands = record {
+word b before after k w old new fits on clock routing places renews others stands = record {
   told = λ p on_now. word_told b before after k w p (is_marked old.held.changed p) (is_marked new.held.changed p) on (others p) (stands.told p) on_now;
   fits = fits;
   sources = λ q s there.
-      let kind = (parameter_with b.parameters q).kind in
       let stale = (parameter_with b.parameters q).stale in
-      let was = get_or old.held.received.items.items q None in
-      let rule = get_or old.rules.items.items q None in
-      let taken : get_or new.held.received.items.items q None ≡ cond (takes s w) (Some (kept_word kind stale s old.clock w.bits)) was =
-      places q ∙ ap (λ o. cond (option_map_or (λ t. takes t w) o false) (entry old.clock w.bits rule) was) there
-      ∙ entry_taken b.parameters q old.clock w s rule was (stands.fits.rules.each q) there in
-      rw (clock, taken) (word_stands kind stale s before after k old.clock w was on (stands.sources q s there));
-  due = rw clock (renews.due stands.due);
+      let was = received_by old q in
+      let taken : received_by new q ≡ cond (takes s w) (renewed old.clock stale w.bits) was =
+      places q ∙ ap (λ o. cond (option_map_or (λ t. takes t w) o false) (renewed old.clock stale w.bits) was) there in
+      subst (λ x. SourceStands stale s after k new.clock x) (sym taken)
+      (rw clock (word_stands stale s before after k old.clock w was on (stands.sources q s there)));
+  due = rw (clock, routing) (renews.due stands.due);
   unchanged = λ q s there off.
       let kind = (parameter_with b.parameters q).kind in
       let stale = (parameter_with b.parameters q).stale in
-      let kept = renews.marks q off in
-      ap (λ t. given t (get_or new.held.received.items.items q None)) clock ∙ kept.1 ∙ stands.unchanged q s there kept.0
+      ap (λ t. given t kind s (received_by new q)) clock
+      ∙ ap (λ (t : Routing). given old.clock kind s (received_at t.rules.items.items new.held.mailboxes.items.items q)) routing
+      ∙ renews.gives q s there off ∙ stands.unchanged q s there (renews.marks q off)
       ∙ source_before-below before after k (λ i h. sym (on.before i h)) kind stale s;
 }
 
--- a word of even parity comes, which no source takes
+-- a word comes that no source takes, and leaves the table as it is
+pub word_of_none : (b : Book) (before after : ℕ → List BusWord) (k : ℕ) (w : BusWord) (p : Params) → OneMore before after k w → ((q : ℕ) → takes_at b.parameters w q ≡ false)
+    → ParamsStand b before k p → ParamsStand b after k p
+word_of_none b before after k w p on none stands =
+    word b before after k w p p stands.fits on refl refl
+    (λ q. sym (ap (λ t. cond t (renewed p.clock (parameter_with b.parameters q).stale w.bits) (received_by p q)) (none q)))
+    (renews_none b.parameters p.routing.rules.items.items p.clock p.held) (λ p none. refl) stands
+
+-- one of even parity
 pub even_word : (b : Book) (before after : ℕ → List BusWord) (k : ℕ) (w : BusWord) (p : Params) → OneMore before after k w → is_odd w.bits ≡ false
     → ParamsStand b before k p → ParamsStand b after k p
-even_word b before after k w p on even stands =
-    word b before after k w p p stands.fits on refl (λ q. sym (ap (λ t. cond t (entry p.clock w.bits (get_or p.rules.items.items q None)) (get_or p.held.received.items.items q None)) (none_takes (source_at b.parameters q))))
-    (record { marks = λ q off. (off, refl); due = λ due. due }) (λ p none. refl) stands where
-      none_takes : (o : Option Source) → option_map_or (λ s. takes s w) o false ≡ false
-      none_takes None = refl
-      none_takes (Some s) = not_even s w even
+even_word b before after k w p on even stands = word_of_none b before after k w p on (λ q. none_takes (source_at b.parameters q)) stands where
+  none_takes : (o : Option Source) → option_map_or (λ s. takes s w) o false ≡ false
+  none_takes None = refl
+  none_takes (Some s) = not_even s w even
 
--- a word that no source listens to leaves the table as it is
+-- one to which no source listens
 pub unheard_word : (b : Book) (before after : ℕ → List BusWord) (k : ℕ) (w : BusWord) (p : Params) → OneMore before after k w
     → None ≡ last_below (listens b.parameters w.bus (label w.bits)) (3 * length b.parameters) → ParamsStand b before k p → ParamsStand b after k p
-unheard_word b before after k w p on none stands =
-    word b before after k w p p stands.fits on refl
-    (visited_none b.parameters w (λ q. entry p.clock w.bits (get_or p.rules.items.items q None)) p.held.received.items.items None none).places
-    (record { marks = λ q off. (off, refl); due = λ due. due }) (λ p none. refl) stands
-
--- the places fit after one took a word
-pub entered_fits : (params : List Parameter) (clock place : ℕ) (r : Received) (old new : List (Option Received)) → new ≡ set old place (Some r) → place < length old
-    → IsHeld params clock place r → ((q : ℕ) → IfSome (get_or old q None) (IsHeld params clock q)) → (q : ℕ) → IfSome (get_or new q None) (IsHeld params clock q)
-entered_fits params clock place r old new is within here each q = elim (cases_order q place) [
-  | inl same ↦
-      subst (λ i. IfSome (get_or new i None) (IsHeld params clock i)) (sym same)
-      (subst (λ o. IfSome o (IsHeld params clock place)) (sym (ap (λ l. get_or l place None) is ∙ get_or-set_same old place (Some r) None within)) here)
-  | inr (inl less) ↦ subst (λ o. IfSome o (IsHeld params clock q)) (sym (ap (λ l. get_or l q None) is ∙ get_or-set_other old place q (Some r) None (omega arith))) (each q)
-  | inr (inr more) ↦ subst (λ o. IfSome o (IsHeld params clock q)) (sym (ap (λ l. get_or l q None) is ∙ get_or-set_other old place q (Some r) None (omega arith))) (each q)
-]
-
--- what a place holds by its rule
-pub entry_held : (params : List Parameter) (place clock bits : ℕ) (rule : Option Rule) (r : Received) → IsRule params place rule → entry clock bits rule ≡ Some r
-    → MatchOption rule ⊥ (λ t. IfSome r.value (IsValueOf t.kind)) → IsHeld params clock place r
-entry_held params place clock bits None r is e bound = absurd bound
-entry_held params place clock bits (Some t) r is e bound = elim (cases_Bool (has_sdi t.source.sdi bits)) [
-  | inl so ↦
-      let at : kept_word t.kind t.stale (source_of t.source) clock bits ≡ r =
-      same_Some (kept_word t.kind t.stale (source_of t.source) clock bits) r (sym (ap (λ b. cond b (Some (kept_word t.kind t.stale (source_of t.source) clock bits)) None) so) ∙ e) in
-      subst (IsHeld params clock place) at (record {
-        source = source_of t.source;
-        there = is.source;
-        sdi = so;
-        value = ap (λ kind. reading kind (source_of t.source) bits) is.kind;
-        stale = is.stale;
-        bound = subst (λ kind. IfSome (reading t.kind (source_of t.source) bits) (IsValueOf kind)) is.kind (subst (λ (x : Received). IfSome x.value (IsValueOf t.kind)) (sym at) bound);
-        limit = omega arith;
-      })
-  | inr not_so ↦ absurd (none-some r (sym (ap (λ b. cond b (Some (kept_word t.kind t.stale (source_of t.source) clock bits)) None) not_so) ∙ e))
-]
-
--- a word that repeats the one before makes a place hold what any word does
-pub record IsRepeated (params : List Parameter) (place clock bits : ℕ) (rule : Option Rule) (received : Option Received) : Type 0 where
-  pub new : Received
-  pub here : option_map (repeated clock) received ≡ Some new
-  pub entry : entry clock bits rule ≡ Some new
-  pub held : IsHeld params clock place new
-
-pub repeated_is : (params : List Parameter) (place clock bits : ℕ) (rule : Option Rule) (received : Option Received) → IsRule params place rule
-    → IfSome received (IsHeld params clock place) → is_repeated clock bits received ≡ true → IsRepeated params place clock bits rule received
-repeated_is params place clock bits rule None is held so = absurd (false≢true so)
-repeated_is params place clock bits None (Some r) is held so = absurd (none-some held.source (sym is ∙ held.there))
-repeated_is params place clock bits (Some t) (Some r) is held so =
-    let parts = and_parts (r.bits == bits) (ltb clock r.end) so in
-    let same : r.bits ≡ bits = eqb-true r.bits bits parts.0 in
-    let source : source_of t.source ≡ held.source = same_Some (source_of t.source) held.source (sym is.source ∙ held.there) in
-    let sdi : has_sdi t.source.sdi bits ≡ true = ap (λ (s : Source). has_sdi s.sdi bits) source ∙ ap (has_sdi held.source.sdi) (sym same) ∙ held.sdi in
-    let value : reading t.kind (source_of t.source) bits ≡ r.value =
-    ap (λ kind. reading kind (source_of t.source) bits) is.kind ∙ ap (λ s. reading (parameter_with params place).kind s bits) source
-    ∙ ap (reading (parameter_with params place).kind held.source) (sym same) ∙ sym held.value in
-    let stale : t.stale ≡ r.stale = is.stale ∙ sym held.stale in
-    record {
-      new = repeated clock r;
-      here = refl;
-      entry = rw (sdi, value, stale, same) refl;
-      held = record {
-        source = held.source;
-        there = held.there;
-        sdi = held.sdi;
-        value = held.value;
-        stale = held.stale;
-        bound = held.bound;
-        limit = omega arith;
-      };
-    }
+unheard_word b before after k w p on none stands = word_of_none b before after k w p on (λ q. elim (cases_lt q (3 * length b.parameters)) [
+  | inl within ↦ takes_listens b.parameters w q (past_fails (listens b.parameters w.bus (label w.bits)) (3 * length b.parameters) q within (ap (λ o. is_past o q) (sym none)))
+  | inr past ↦ ap (λ o. option_map_or (λ s. takes s w) o false) (no_source b.parameters q past)
+]) stands
 
 -- the table fits when the clock is set back
-pub back_fits : (b : Book) (old new : Params) → old.clock ≡ 2 ^ 32 - 1 → new.clock ≡ 2 ^ 31 - 1 → new.rules ≡ old.rules → new.held.received.items.items ≡ map set_back old.held.received.items.items
+pub back_fits : (b : Book) (old new : Params) → old.clock ≡ 2 ^ 32 - 1 → new.clock ≡ 2 ^ 31 - 1 → new.routing ≡ old.routing → new.held.mailboxes.items.items ≡ map set_back old.held.mailboxes.items.items
     → new.held.changed ≡ old.held.changed → length new.held.dues ≡ length old.held.dues → ParamsFit b old → ParamsFit b new
-back_fits b old new full half rules same marks dues fits = record {
+back_fits b old new full half routing same marks dues fits = record {
   sound = fits.sound;
-  rules = subst (λ rs. AreRules b.parameters rs.items.items) (sym rules) fits.rules;
+  routed = subst (λ t. AreRouted b.parameters t new.held.mailboxes.items.items) (sym routing)
+      (routed_same b.parameters old.routing old.held.mailboxes.items.items new.held.mailboxes.items.items (ap length same ∙ length-map old.held.mailboxes.items.items set_back)
+      (λ m less. ap (λ l. (get_or l m unused).hearers) same ∙ ap (λ (x : Mailbox). x.hearers) (get_or-set_back old.held.mailboxes.items.items m)) fits.routed);
   held = record {
-    places = ap length same ∙ length-map old.held.received.items.items set_back ∙ fits.held.places;
     room = ap room marks ∙ fits.held.room;
     dues = dues ∙ fits.held.dues;
-    each = λ q.
-        subst (λ t. IfSome (get_or new.held.received.items.items q None) (IsHeld b.parameters t q)) (sym half)
-        (set_back_fits b.parameters q old.held.received.items.items new.held.received.items.items same
-        (subst (λ t. IfSome (get_or old.held.received.items.items q None) (IsHeld b.parameters t q)) full (fits.held.each q)));
+    early = λ m.
+        let now : (get_or new.held.mailboxes.items.items m unused).after ≡ (get_or old.held.mailboxes.items.items m unused).after - 2 ^ 31 =
+        ap (λ l. (get_or l m unused).after) same ∙ ap (λ (x : Mailbox). x.after) (get_or-set_back old.held.mailboxes.items.items m) in
+        omega (arith, now, fits.held.early m);
   };
 }
+
+-- the words and the moments of another table are taken over
+pub copied-fits : (b : Book) (was other new : Params) → ParamsFit b was → ParamsFit b other → new.routing ≡ was.routing → new.clock ≡ other.clock
+    → CopiedWords was.held.mailboxes.items.items other.held.mailboxes.items.items new.held.mailboxes.items.items
+    → new.held.changed ≡ other.held.changed → new.held.dues ≡ other.held.dues → ParamsFit b new
+copied-fits b was other new fits also routing clock words changed dues = record {
+  sound = fits.sound;
+  routed = subst (λ t. AreRouted b.parameters t new.held.mailboxes.items.items) (sym routing)
+      (routed_same b.parameters was.routing was.held.mailboxes.items.items new.held.mailboxes.items.items words.count (λ m less. ap (λ (x : Mailbox). x.hearers) (words.each m less)) fits.routed);
+  held = record {
+    room = ap room changed ∙ also.held.room;
+    dues = ap length dues ∙ also.held.dues;
+    early = λ m. elim (cases_lt m (length was.held.mailboxes.items.items)) [
+      | inl within ↦ omega (arith, ap (λ (x : Mailbox). x.after) (words.each m within), also.held.early m)
+      | inr past ↦ omega (arith, ap (λ (x : Mailbox). x.after) (get_or_past new.held.mailboxes.items.items m unused (omega (arith, past, words.count))))
+    ];
+  };
+}
+
+pub copied : (b : Book) (words : ℕ → List BusWord) (k : ℕ) (was other new : Params) → ParamsFit b was → new.routing ≡ was.routing → new.clock ≡ other.clock
+    → CopiedWords was.held.mailboxes.items.items other.held.mailboxes.items.items new.held.mailboxes.items.items
+    → new.held.changed ≡ other.held.changed → new.held.dues ≡ other.held.dues
+    → ParamsStand b words k other → ParamsStand b words k new
+copied b words k was other new fits routing clock copies changed dues stands = record {
+  fits = copied-fits b was other new fits stands.fits routing clock copies changed dues;
+  sources = λ q s there. subst (λ x. SourceStands (parameter_with b.parameters q).stale s words k new.clock x) (sym (held q)) (rw clock (stands.sources q s there));
+  due = λ q. subst (λ x. IsDue new.clock x (slice_index new.held.dues q)) (sym (held q)) (rw (clock, dues) (stands.due q));
+  unchanged = λ q s there off.
+      ap (λ x. given new.clock (parameter_with b.parameters q).kind s x) (held q) ∙ rw clock (stands.unchanged q s there (ap (λ m. is_marked m (q / 3)) (sym changed) ∙ off));
+  told = λ j on. stands.told j (ap (λ m. is_marked m j) (sym changed) ∙ on);
+} where
+  rules : Params → List (Option Rule)
+  rules p = p.routing.rules.items.items
+
+  each : (p : Params) → ParamsFit b p → (q : ℕ) → IsRule b.parameters q (get_or (rules p) q None)
+  each p fit q = rule-is b.parameters (3 * length b.parameters) (rules p) fit.routed.rules (omega arith) q
+
+  -- a place has the same mailbox in both
+  held : (q : ℕ) → received_by new q ≡ received_by other q
+  held q = ap (λ (t : Routing). received_at t.rules.items.items new.held.mailboxes.items.items q) routing ∙ by (source_at b.parameters q) refl where
+    by : (o : Option Source) → source_at b.parameters q ≡ o → received_at (rules was) new.held.mailboxes.items.items q ≡ received_by other q
+    by None none =
+        by_none (rules was) new.held.mailboxes.items.items q (no_rule b.parameters q (get_or (rules was) q None) (each was fits q) none)
+        ∙ sym (by_none (rules other) other.held.mailboxes.items.items q (no_rule b.parameters q (get_or (rules other) q None) (each other stands.fits q) none))
+    by (Some s) there =
+        let one = some_rule b.parameters q s (get_or (rules was) q None) (each was fits q) there in
+        let two = some_rule b.parameters q s (get_or (rules other) q None) (each other stands.fits q) there in
+        let within = place_within b.parameters q s there in
+        let number = number_of b.parameters s.bus s.label (slot_of s.sdi) (3 * length b.parameters) in
+        let mailbox : one.0.mailbox ≡ number = sym (ap (λ o. option_map_or (λ (x : Rule). x.mailbox) o 0) one.1) ∙ fits.routed.rules.mailbox q s within there in
+        let also : two.0.mailbox ≡ number = sym (ap (λ o. option_map_or (λ (x : Rule). x.mailbox) o 0) two.1) ∙ stands.fits.routed.rules.mailbox q s within there in
+        let few : one.0.mailbox < length was.held.mailboxes.items.items =
+        omega (arith, mailbox, number-within b.parameters s.bus s.label (slot_of s.sdi) (3 * length b.parameters), fits.routed.count) in
+        by_rule (rules was) new.held.mailboxes.items.items q one.0 one.1
+        ∙ ap (λ m. held_for m one.0.stale) (copies.each one.0.mailbox few)
+        ∙ ap (λ i. held_for (get_or other.held.mailboxes.items.items i unused) one.0.stale) (mailbox ∙ sym also)
+        ∙ ap (held_for (get_or other.held.mailboxes.items.items two.0.mailbox unused)) (one.2.stale ∙ sym two.2.stale)
+        ∙ sym (by_rule (rules other) other.held.mailboxes.items.items q two.0 two.1)
 
 -- ---- a moment whose end changes nothing but the clock
 
@@ -304,29 +308,32 @@ passed p = record p { clock = p.clock + 1 }
 pub passed-fits : (b : Book) (p : Params) → ParamsFit b p → ParamsFit b (passed p)
 passed-fits b p fits = record {
   sound = fits.sound;
-  rules = fits.rules;
+  routed = fits.routed;
   held = record {
-    places = fits.held.places;
     room = fits.held.room;
     dues = fits.held.dues;
-    each = λ q. later_held b.parameters p.clock q (get_or p.held.received.items.items q None) (fits.held.each q);
+    early = λ m. omega (arith, fits.held.early m);
   };
 }
 
 module _ (b : Book) (p : Params) (fits : ParamsFit b p) (still : IsStill p) where
-  none-ending : AreDue p.clock p.held → (q : ℕ) → is_ending (p.clock + 1) (get_or p.held.received.items.items q None) ≡ false
-  none-ending due q = elim (cases_lt q (length p.held.received.items.items)) [
-    | inl within ↦ elim (cases_Bool (is_ending (p.clock + 1) (get_or p.held.received.items.items q None))) [
+  never_ends : (clock : ℕ) → is_ending (clock + 1) nothing ≡ false
+  never_ends clock = grind (arith, nat_tests)
+
+  none-ending : AreDue p.clock (received_by p) p.held.dues → (q : ℕ) → is_ending (p.clock + 1) (received_by p q) ≡ false
+  none-ending due q = elim (cases_lt q (length p.routing.rules.items.items)) [
+    | inl within ↦ elim (cases_Bool (is_ending (p.clock + 1) (received_by p q))) [
       | inl on ↦ (
-          let comes : slice_index p.held.dues q ≤ suc p.clock = (will_look p.clock p.held p.held refl refl due).ending q (subst (λ t. is_ending t (get_or p.held.received.items.items q None) ≡ true) (add-one p.clock) on) in
-          absurd (let w : ⊥ = (let later = still.dues q (omega (arith, within, fits.held.places, fits.held.dues)) in omega (arith, later, comes)) in w))
+          let comes : slice_index p.held.dues q ≤ suc p.clock = (will_look p.clock (received_by p) p.held.dues due).ending q (subst (λ t. is_ending t (received_by p q) ≡ true) (add-one p.clock) on) in
+          absurd (let w : ⊥ = (let later = still.dues q (omega (arith, within, fits.routed.rules.count, fits.held.dues)) in omega (arith, later, comes)) in w))
       | inr off ↦ off
     ]
-    | inr past ↦ ap (is_ending (p.clock + 1)) (get_or_past p.held.received.items.items q None past)
+    | inr past ↦
+        ap (is_ending (p.clock + 1)) (by_none p.routing.rules.items.items p.held.mailboxes.items.items q (get_or_past p.routing.rules.items.items q None past)) ∙ never_ends p.clock
   ]
 
   pub passed-stands : (words : ℕ → List BusWord) (k : ℕ) → words (suc k) ≡ [] → ParamsStand b words k p → ParamsStand b words (suc k) (passed p)
   passed-stands words k none stands =
-      let will : WillLook (p.clock + 1) p.held = subst (λ t. WillLook t p.held) (sym (add-one p.clock)) (will_look p.clock p.held p.held refl refl stands.due) in
-      moment b words k p (passed p) (passed-fits b p fits) none (add-one p.clock) refl will.due
+      let will : WillLook (p.clock + 1) (received_by p) p.held.dues = subst (λ t. WillLook t (received_by p) p.held.dues) (sym (add-one p.clock)) (will_look p.clock (received_by p) p.held.dues stands.due) in
+      moment b words k p (passed p) (passed-fits b p fits) none (add-one p.clock) refl refl will.due
       (λ q off. none-ending stands.due q) (λ j calm. still.none j) stands

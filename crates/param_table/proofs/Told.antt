@@ -1,6 +1,6 @@
 -- Which parameters are told: those of which a source took a word, or ended to be fresh.
 use Rattle.std.proofs.Common.{◌≡◌, ℕ, suc, ◌+◌, ◌*◌, ◌/◌, ◌%◌, ◌≤◌, Bool, true, false, ltb, ◌||◌, List, [], get_or, Option, Some, None, refl, sym, ap, ◌∙◌, subst, arith, inl, inr}
-use Rattle.std.specs.Prelude.{IfSome, ◌⊎◌}
+use Rattle.std.specs.Prelude.{◌⊎◌}
 use Rattle.std.specs.List.{list_any}
 use Rattle.std.proofs.lemmas.Bool.{cases_Bool, cases_lt, cases_order, false≢true}
 use Rattle.std.proofs.lemmas.Bool.Decides.{nat_tests}
@@ -14,7 +14,7 @@ use Rattle.param_table.specs.declared.received.Received.{Received}
 use Rattle.book_model.specs.SourcePlaces.{parameter_with, source_at}
 use Rattle.param_table.specs.Taking.{takes_at}
 use Rattle.param_table.specs.HeldValues.{is_ending}
-use Rattle.param_table.specs.TableState.{MayDiffer, SourceStands, IsHeld}
+use Rattle.param_table.specs.TableState.{MayDiffer, SourceStands}
 use Rattle.param_table.proofs.Moments.{arrives-push}
 use Rattle.param_table.proofs.Sources.{source_there}
 use Rattle.param_table.proofs.Said.{moment_stands, fresh_by_clock}
@@ -102,30 +102,29 @@ word_told b old new k w p was now on others told marked = elim (one_of (takes_at
 ]
 
 -- a source whose freshness ends with a moment
-ended : (b : Book) (words : ℕ → List BusWord) (k clock p q : ℕ) (received : Option Received) → words (suc k) ≡ [] → q / 3 ≡ p → is_ending (suc clock) received ≡ true
-    → IfSome received (IsHeld b.parameters clock q)
-    → ((s : Source) → source_at b.parameters q ≡ Some s → SourceStands (parameter_with b.parameters q).kind (parameter_with b.parameters q).stale s words k clock received)
+ended : (b : Book) (words : ℕ → List BusWord) (k clock p q : ℕ) (r : Received) → words (suc k) ≡ [] → q / 3 ≡ p → is_ending (suc clock) r ≡ true
+    → (source_at b.parameters q ≡ None → r.end ≡ 0)
+    → ((s : Source) → source_at b.parameters q ≡ Some s → SourceStands (parameter_with b.parameters q).stale s words k clock r)
     → MayDiffer (parameter_at b p) words (suc k)
 unfolding previous
-ended b words k clock p q None none row ends held stands = absurd (false≢true ends)
-ended b words k clock p q (Some r) none row ends held stands =
-    let s = held.source in
-    let kind = (parameter_with b.parameters q).kind in
-    let stale = (parameter_with b.parameters q).stale in
-    let was = stands s held.there in
-    let now = moment_stands kind stale s words k clock (Some r) none was in
-    let before : ltb clock r.end ≡ true = grind (arith, nat_tests) in
-    let after : ltb (suc clock) r.end ≡ false = grind (arith, nat_tests) in
-    may_differ b words (suc k) p q s row held.there
-    (inr (sym (fresh_by_clock kind stale s words k clock r was) ∙ before, sym (fresh_by_clock kind stale s words (suc k) (suc clock) r now) ∙ after))
+ended b words k clock p q r none row ends blank stands = by (source_at b.parameters q) refl where
+  by : (o : Option Source) → source_at b.parameters q ≡ o → MayDiffer (parameter_at b p) words (suc k)
+  by None is = let over : r.end ≡ 0 = blank is in absurd (grind (arith, nat_tests))
+  by (Some s) is =
+      let stale = (parameter_with b.parameters q).stale in
+      let was = stands s is in
+      let now = moment_stands stale s words k clock r none was in
+      let before : ltb clock r.end ≡ true = grind (arith, nat_tests) in
+      let after : ltb (suc clock) r.end ≡ false = grind (arith, nat_tests) in
+      may_differ b words (suc k) p q s row is
+      (inr (sym (fresh_by_clock stale s words k clock r was) ∙ before, sym (fresh_by_clock stale s words (suc k) (suc clock) r now) ∙ after))
 
-pub moment_told : (b : Book) (words : ℕ → List BusWord) (k clock p : ℕ) (received : List (Option Received)) (now : Bool) → words (suc k) ≡ []
-    → (((q : ℕ) → q / 3 ≡ p → is_ending (suc clock) (get_or received q None) ≡ false) → now ≡ false)
-    → ((q : ℕ) → IfSome (get_or received q None) (IsHeld b.parameters clock q))
-    → ((q : ℕ) (s : Source) → source_at b.parameters q ≡ Some s
-    → SourceStands (parameter_with b.parameters q).kind (parameter_with b.parameters q).stale s words k clock (get_or received q None))
+pub moment_told : (b : Book) (words : ℕ → List BusWord) (k clock p : ℕ) (x : ℕ → Received) (now : Bool) → words (suc k) ≡ []
+    → (((q : ℕ) → q / 3 ≡ p → is_ending (suc clock) (x q) ≡ false) → now ≡ false)
+    → ((q : ℕ) → source_at b.parameters q ≡ None → (x q).end ≡ 0)
+    → ((q : ℕ) (s : Source) → source_at b.parameters q ≡ Some s → SourceStands (parameter_with b.parameters q).stale s words k clock (x q))
     → now ≡ true → MayDiffer (parameter_at b p) words (suc k)
-moment_told b words k clock p received now none others held stands marked = elim (one_of (λ q. is_ending (suc clock) (get_or received q None)) p) [
-  | inl found ↦ ended b words k clock p found.0 (get_or received found.0 None) none found.1 found.2 (held found.0) (stands found.0)
+moment_told b words k clock p x now none others blank stands marked = elim (one_of (λ q. is_ending (suc clock) (x q)) p) [
+  | inl found ↦ ended b words k clock p found.0 (x found.0) none found.1 found.2 (blank found.0) (stands found.0)
   | inr not_ending ↦ absurd (false≢true (sym (others not_ending) ∙ marked))
 ]

@@ -1,22 +1,24 @@
 -- The value of a parameter, by its sources in order, now and in the moment before.
 use Rattle.std.proofs.Common.{◌≡◌, ℕ, zero, suc, ◌+◌, ◌*◌, ◌/◌, ◌%◌, ◌<◌, ◌≤◌, false, List, [], ◌∷◌, length, map, get_or, Option, Some, None, ℤ, All, refl, sym, ap, ◌∙◌, subst, arith, add-zero}
-use Rattle.std.specs.Prelude.{IfSome}
 use Rattle.std.specs.Option.{option_or, option_and_then}
 use Rattle.std.specs.List.{slice_get}
-use Rattle.std.proofs.lemmas.Option.{none-some}
 use Rattle.std.proofs.lemmas.List.Elements.{All-get_or}
 use Rattle.ecam_spec.specs.KeepsLimits.{IsSoundParameter}
 use Rattle.ecam_spec.specs.Book.{Source, Parameter, Book}
 use Rattle.ecam_spec.specs.Situation.{no_parameter, parameter_at}
 use Rattle.ecam_spec.specs.Value.{BusWord, source_value, value}
 use Rattle.ecam_spec.specs.Places.{first_of}
+use Rattle.book_model.specs.View.{source_of}
 use Rattle.wakes.specs.Marks.{is_marked}
 use Rattle.param_table.specs.declared.received.Received.{Received}
+use Rattle.param_table.specs.declared.rules.Rule.{Rule}
 use Rattle.param_table.specs.declared.table.Params.{Params}
-use Rattle.book_model.specs.SourcePlaces.{source_at}
-use Rattle.param_table.specs.TableState.{ParamsStand, IsHeld, source_before, value_before}
-use Rattle.param_table.specs.HeldValues.{given, first_given}
+use Rattle.param_table.specs.Rules.{IsRule}
+use Rattle.book_model.specs.SourcePlaces.{parameter_with, source_at}
+use Rattle.param_table.specs.TableState.{ParamsStand, received_by, source_before, value_before}
+use Rattle.param_table.specs.HeldValues.{given, given_by, first_given}
 use Rattle.param_table.proofs.Said.{given_is}
+use Rattle.param_table.proofs.ByRule.{rule-is}
 
 or-none : (a : Option ℤ) → option_or a None ≡ a
 or-none None = refl
@@ -38,38 +40,50 @@ at_place b p j small =
     let column : (3 * p + j) % 3 ≡ j = omega arith in
     ap (λ r. slice_get (get_or b.parameters r no_parameter).sources ((3 * p + j) % 3)) row ∙ ap (slice_get (parameter_at b p).sources) column
 
--- a place without a source gives nothing
-gives_none : (params : List Parameter) (q clock : ℕ) (received : Option Received) → source_at params q ≡ None → IfSome received (IsHeld params clock q) → given clock received ≡ None
-gives_none params q clock None none held = refl
-gives_none params q clock (Some r) none held = absurd (none-some held.source (sym none ∙ held.there))
+-- what a place gives by its rule, it gives by its source
+rule_gives : (params : List Parameter) (q clock : ℕ) (rule : Option Rule) (r : Received) → IsRule params q rule
+    → given_by clock rule r ≡ option_and_then (λ s. given clock (parameter_with params q).kind s r) (source_at params q)
+rule_gives params q clock None r none = sym (ap (option_and_then (λ s. given clock (parameter_with params q).kind s r)) none)
+rule_gives params q clock (Some t) r is =
+    ap (λ kind. given clock kind (source_of t.source) r) is.kind ∙ sym (ap (option_and_then (λ s. given clock (parameter_with params q).kind s r)) is.source)
 
 module _ (b : Book) (words : ℕ → List BusWord) (k : ℕ) (t : Params) (p : ℕ) (stands : ParamsStand b words k t) where
-  -- what a place gives, by the source that may be there
-  place_gives : (f : Source → Option ℤ)
-      → ((q : ℕ) (s : Source) → q / 3 ≡ p → source_at b.parameters q ≡ Some s → given t.clock (get_or t.held.received.items.items q None) ≡ f s)
-      → (j : ℕ) → j < 3 → given t.clock (get_or t.held.received.items.items (3 * p + j) None) ≡ option_and_then f (slice_get (parameter_at b p).sources j)
-  place_gives f each j small = by (slice_get (parameter_at b p).sources j) refl where
-    by : (o : Option Source) → slice_get (parameter_at b p).sources j ≡ o → given t.clock (get_or t.held.received.items.items (3 * p + j) None) ≡ option_and_then f o
-    by None is = gives_none b.parameters (3 * p + j) t.clock (get_or t.held.received.items.items (3 * p + j) None) (at_place b p j small ∙ is) (stands.fits.held.each (3 * p + j))
-    by (Some s) is = each (3 * p + j) s (omega arith) (at_place b p j small ∙ is)
+  abbrev gives : ℕ → Option ℤ
+  gives q = given_by t.clock (get_or t.routing.rules.items.items q None) (received_by t q)
 
-  gives_first : (f : Source → Option ℤ)
-      → ((q : ℕ) (s : Source) → q / 3 ≡ p → source_at b.parameters q ≡ Some s → given t.clock (get_or t.held.received.items.items q None) ≡ f s)
-      → length (parameter_at b p).sources ≤ 3
-      → first_given t.clock t.held.received.items.items (3 * p) ≡ first_of (map f (parameter_at b p).sources)
+  abbrev Each : (Source → Option ℤ) → Type 0
+  Each f = (q : ℕ) (s : Source) → q / 3 ≡ p → source_at b.parameters q ≡ Some s
+      → given t.clock (parameter_with b.parameters q).kind s (received_by t q) ≡ f s
+
+  -- what a place gives, by the source that may be there
+  place_gives : (f : Source → Option ℤ) → Each f → (j : ℕ) → j < 3 → gives (3 * p + j) ≡ option_and_then f (slice_get (parameter_at b p).sources j)
+  place_gives f each j small =
+      rule_gives b.parameters q t.clock (get_or t.routing.rules.items.items q None) r (rule-is b.parameters (3 * length b.parameters) t.routing.rules.items.items stands.fits.routed.rules (omega arith) q) ∙ by (source_at b.parameters q) refl ∙ ap (option_and_then f) (at_place b p j small) where
+        q : ℕ
+        q = 3 * p + j
+
+        r : Received
+        r = received_by t q
+
+        by : (o : Option Source) → source_at b.parameters q ≡ o → option_and_then (λ s. given t.clock (parameter_with b.parameters q).kind s r) o ≡ option_and_then f o
+        by None is = refl
+        by (Some s) is = each q s (omega arith) is
+
+  gives_first : (f : Source → Option ℤ) → Each f → length (parameter_at b p).sources ≤ 3
+      → first_given t.clock t.routing.rules.items.items (received_by t) (3 * p) ≡ first_of (map f (parameter_at b p).sources)
   gives_first f each few =
-      ap (λ q. option_or (given t.clock (get_or t.held.received.items.items q None)) (option_or (given t.clock (get_or t.held.received.items.items (3 * p + 1) None)) (given t.clock (get_or t.held.received.items.items (3 * p + 2) None)))) (sym (add-zero (3 * p)))
-      ∙ ap (λ o. option_or o (option_or (given t.clock (get_or t.held.received.items.items (3 * p + 1) None)) (given t.clock (get_or t.held.received.items.items (3 * p + 2) None)))) (place_gives f each 0 (omega arith))
-      ∙ ap (λ o. option_or (option_and_then f (slice_get (parameter_at b p).sources 0)) (option_or o (given t.clock (get_or t.held.received.items.items (3 * p + 2) None)))) (place_gives f each 1 (omega arith))
+      ap (λ q. option_or (gives q) (option_or (gives (3 * p + 1)) (gives (3 * p + 2)))) (sym (add-zero (3 * p)))
+      ∙ ap (λ o. option_or o (option_or (gives (3 * p + 1)) (gives (3 * p + 2)))) (place_gives f each 0 (omega arith))
+      ∙ ap (λ o. option_or (option_and_then f (slice_get (parameter_at b p).sources 0)) (option_or o (gives (3 * p + 2)))) (place_gives f each 1 (omega arith))
       ∙ ap (λ o. option_or (option_and_then f (slice_get (parameter_at b p).sources 0)) (option_or (option_and_then f (slice_get (parameter_at b p).sources 1)) o)) (place_gives f each 2 (omega arith))
       ∙ firsts f (parameter_at b p).sources few
 
-  pub value_is : length (parameter_at b p).sources ≤ 3 → first_given t.clock t.held.received.items.items (3 * p) ≡ value (parameter_at b p) words k
+  pub value_is : length (parameter_at b p).sources ≤ 3 → first_given t.clock t.routing.rules.items.items (received_by t) (3 * p) ≡ value (parameter_at b p) words k
   unfolding value
   value_is few = gives_first (λ s. source_value (parameter_at b p).kind (parameter_at b p).stale s words k)
       (λ q s row there.
-      subst (λ r. given t.clock (get_or t.held.received.items.items q None) ≡ source_value (get_or b.parameters r no_parameter).kind (get_or b.parameters r no_parameter).stale s words k) row
-      (given_is _ _ s words k t.clock (get_or t.held.received.items.items q None) (stands.sources q s there)))
+      subst (λ r. given t.clock (parameter_with b.parameters q).kind s (received_by t q) ≡ source_value (get_or b.parameters r no_parameter).kind (get_or b.parameters r no_parameter).stale s words k) row
+      (given_is _ _ s words k t.clock (received_by t q) (stands.sources q s there)))
       few
 
   none_first : (j : ℕ) (ss : List Source) → j ≡ 0 → first_of (map (λ s. source_before (parameter_at b p).kind (parameter_at b p).stale s words j) ss) ≡ None
@@ -89,7 +103,7 @@ module _ (b : Book) (words : ℕ → List BusWord) (k : ℕ) (t : Params) (p : �
       sym (value_is few)
       ∙ gives_first (λ s. source_before (parameter_at b p).kind (parameter_at b p).stale s words k)
       (λ q s row there.
-      subst (λ r. given t.clock (get_or t.held.received.items.items q None) ≡ source_before (get_or b.parameters r no_parameter).kind (get_or b.parameters r no_parameter).stale s words k) row
+      subst (λ r. given t.clock (parameter_with b.parameters q).kind s (received_by t q) ≡ source_before (get_or b.parameters r no_parameter).kind (get_or b.parameters r no_parameter).stale s words k) row
       (stands.unchanged q s there (ap (is_marked t.held.changed) row ∙ unmarked)))
       few
       ∙ before_is k

@@ -1,24 +1,50 @@
--- What the places of a table hold, and when each is looked at.
-use Rattle.std.specs.Prelude.{◌≡◌, ℕ, ◌/◌, ◌<◌, ◌≤◌, true, false, get_or, slice_index, Option, None, IfSome}
+-- When each place of a table is looked at, and what words leave.
+use Rattle.std.specs.Prelude.{◌≡◌, ℕ, ◌+◌, ◌/◌, ◌<◌, ◌≤◌, true, false, List, length, get_or, slice_index, Option, Some, All}
+use Rattle.ecam_spec.specs.Book.{Source, Parameter}
 use Rattle.wakes.specs.Marks.{is_marked}
-use Rattle.param_table.specs.HeldValues.{given, is_ending}
+use Rattle.book_model.specs.SourcePlaces.{parameter_with, source_at}
+use Rattle.param_table.specs.HeldValues.{unused, given, is_ending, received_at, hearers_of}
 use Rattle.param_table.specs.declared.received.Received.{Received}
+use Rattle.param_table.specs.declared.mailbox.Mailbox.{Mailbox}
+use Rattle.param_table.specs.declared.mailbox.Listener.{Listener}
+use Rattle.param_table.specs.declared.rules.Rule.{Rule}
 use Rattle.param_table.specs.declared.held.Held.{Held}
 
--- a fresh word is looked at by the time when it is no longer fresh
-abbrev pub IsDue : ℕ → Option Received → ℕ → Type 0
-IsDue clock received key = IfSome received (λ r. clock < r.end → key ≤ r.end)
+-- no word came later than now
+abbrev pub AreEarly : ℕ → List Mailbox → Type 0
+AreEarly clock mailboxes = (m : ℕ) → (get_or mailboxes m unused).after ≤ clock + 1
 
-abbrev pub AreDue : ℕ → Held → Type 0
-AreDue clock h = (q : ℕ) → IsDue clock (get_or h.received.items.items q None) (slice_index h.dues q)
+-- the listeners of a mailbox stand in the list, and belong to places and parameters of which there are so many
+pub record AreListed (listeners : List Listener) (place_count param_count : ℕ) (m : Mailbox) : Type 0 where
+  pub order : m.hearers.first ≤ m.hearers.end
+  pub within : m.hearers.end ≤ length listeners
+  pub places : All (λ (l : Listener). l.place < place_count) (hearers_of listeners m)
+  pub params : All (λ (l : Listener). l.param < param_count) (hearers_of listeners m)
+  pub soonest : All (λ (l : Listener). m.hearers.soonest ≤ l.stale) (hearers_of listeners m)
+
+-- the words of other mailboxes were taken over
+pub record CopiedWords (old others new : List Mailbox) : Type 0 where
+  pub count : length new ≡ length old
+  pub each : (m : ℕ) → m < length old → get_or new m unused
+      ≡ record { after = (get_or others m unused).after; bits = (get_or others m unused).bits; hearers = (get_or old m unused).hearers }
+
+-- a fresh word is looked at by the time when it is no longer fresh
+abbrev pub IsDue : ℕ → Received → ℕ → Type 0
+IsDue clock r key = clock < r.end → key ≤ r.end
+
+-- those that the places hold
+abbrev pub AreDue : ℕ → (ℕ → Received) → List ℕ → Type 0
+AreDue clock x dues = (q : ℕ) → IsDue clock (x q) (slice_index dues q)
 
 -- Words came in a moment: what isn't marked wasn't, and gives what it gave; and each is looked at in time, if each was.
-pub record Renews (clock : ℕ) (old new : Held) : Type 0 where
-  pub marks : (q : ℕ) → is_marked new.changed (q / 3) ≡ false
-      → (is_marked old.changed (q / 3) ≡ false) × (given clock (get_or new.received.items.items q None) ≡ given clock (get_or old.received.items.items q None))
-  pub due : AreDue clock old → AreDue clock new
+pub record Renews (params : List Parameter) (rules : List (Option Rule)) (clock : ℕ) (old new : Held) : Type 0 where
+  pub marks : (q : ℕ) → is_marked new.changed (q / 3) ≡ false → is_marked old.changed (q / 3) ≡ false
+  pub gives : (q : ℕ) (s : Source) → source_at params q ≡ Some s → is_marked new.changed (q / 3) ≡ false
+      → given clock (parameter_with params q).kind s (received_at rules new.mailboxes.items.items q)
+      ≡ given clock (parameter_with params q).kind s (received_at rules old.mailboxes.items.items q)
+  pub due : AreDue clock (received_at rules old.mailboxes.items.items) old.dues → AreDue clock (received_at rules new.mailboxes.items.items) new.dues
 
 -- A moment begins: each word whose freshness ends with it will be looked at, and the others in time.
-pub record WillLook (clock : ℕ) (h : Held) : Type 0 where
-  pub due : AreDue clock h
-  pub ending : (q : ℕ) → is_ending clock (get_or h.received.items.items q None) ≡ true → slice_index h.dues q ≤ clock
+pub record WillLook (clock : ℕ) (x : ℕ → Received) (dues : List ℕ) : Type 0 where
+  pub due : AreDue clock x dues
+  pub ending : (q : ℕ) → is_ending clock (x q) ≡ true → slice_index dues q ≤ clock

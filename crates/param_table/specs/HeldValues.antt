@@ -1,65 +1,104 @@
 -- What the parts of a table's calls answer, of which its contracts are made.
-use Rattle.std.specs.Prelude.{ℕ, ◌+◌, ◌-◌, ◌^◌, nat_lt, nat_le, Bool, false, ◌&&◌, ◌==◌, ℤ, List, get_or, slice_set, Option, Some, None, if◌then◌else◌}
-use Rattle.std.specs.Option.{option_and_then, option_or}
+use Rattle.std.specs.Prelude.{ℕ, ◌+◌, ◌-◌, ◌^◌, nat_lt, Bool, not, ◌&&◌, ◌||◌, ◌==◌, ℤ, List, [], ◌∷◌, get_or, set, slice_range, bit_and, bit_xor, Option, None, if◌then◌else◌}
+use Rattle.std.specs.Option.{option_and_then, option_or, option_map_or}
 use Rattle.ecam_spec.specs.declared.kinds.Kind.{Kind}
 use Rattle.ecam_spec.specs.Book.{Source}
-use Rattle.ecam_spec.specs.Value.{reading, has_sdi}
+use Rattle.ecam_spec.specs.Value.{reading}
 use Rattle.book_model.specs.View.{source_of}
 use Rattle.wakes.specs.Due.{never}
+use Rattle.param_table.specs.Masks.{may_say}
 use Rattle.param_table.specs.declared.received.Received.{Received}
+use Rattle.param_table.specs.declared.mailbox.Mailbox.{Mailbox}
+use Rattle.param_table.specs.declared.mailbox.Hearers.{Hearers}
+use Rattle.param_table.specs.declared.mailbox.Listener.{Listener}
 use Rattle.param_table.specs.declared.rules.Rule.{Rule}
 
+-- ---- what a source holds
+
+-- what is held where no source is
+abbrev pub nothing : Received
+nothing = record { bits = 0; end = 0 }
+
 -- what a source gives by the word that it took last, where the clock shows this
-abbrev pub given : ℕ → Option Received → Option ℤ
-given clock None = None
-given clock (Some r) = if nat_lt clock r.end then r.value else None
+abbrev pub given : ℕ → Kind → Source → Received → Option ℤ
+given clock kind s r = if nat_lt clock r.end then reading kind s r.bits else None
+
+abbrev pub given_by : ℕ → Option Rule → Received → Option ℤ
+given_by clock rule r = option_and_then (λ t. given clock t.kind (source_of t.source) r) rule
 
 -- what the first of three places gives that gives something
-abbrev pub first_given : ℕ → List (Option Received) → ℕ → Option ℤ
-first_given clock received place =
-    option_or (given clock (get_or received place None)) (option_or (given clock (get_or received (place + 1) None)) (given clock (get_or received (place + 2) None)))
+abbrev pub first_given : ℕ → List (Option Rule) → (ℕ → Received) → ℕ → Option ℤ
+first_given clock rules x place =
+    option_or (given_by clock (get_or rules place None) (x place))
+    (option_or (given_by clock (get_or rules (place + 1) None) (x (place + 1)))
+    (given_by clock (get_or rules (place + 2) None) (x (place + 2))))
 
--- the word is fresh, and no longer than up to a time
-abbrev pub ends_by : ℕ → ℕ → Option Received → Bool
-ends_by clock end None = false
-ends_by clock end (Some r) = nat_lt clock r.end && nat_le r.end end
+-- what a source holds that takes a word now, which is fresh for so many moments
+abbrev pub renewed : ℕ → ℕ → ℕ → Received
+renewed clock stale bits = record { bits = bits; end = clock + 1 + stale }
 
 -- the word was fresh in the moment before, and isn't now
-abbrev pub is_ending : ℕ → Option Received → Bool
-is_ending clock None = false
-is_ending clock (Some r) = r.end == clock
+abbrev pub is_ending : ℕ → Received → Bool
+is_ending clock r = r.end == clock
 
 -- when a place is looked at next: when its word is no longer fresh
-abbrev pub next_look : ℕ → Option Received → ℕ
-next_look clock None = never
-next_look clock (Some r) = if nat_lt clock r.end then r.end else never
+abbrev pub next_look : ℕ → Received → ℕ
+next_look clock r = if nat_lt clock r.end then r.end else never
 
--- what is kept of a word that a source of a parameter takes
-abbrev pub kept_word : Kind → ℕ → Source → ℕ → ℕ → Received
-kept_word kind stale s clock bits = record { bits = bits; stale = stale; value = reading kind s bits; end = clock + stale + 1 }
+-- ---- what a mailbox holds
 
--- what a place holds once this word came, to which its source listens
-abbrev pub entry_of : ℕ → ℕ → Rule → Option Received
-entry_of clock bits r = if has_sdi r.source.sdi bits then Some (kept_word r.kind r.stale (source_of r.source) clock bits) else None
+-- before any word
+abbrev pub empty : Hearers → Mailbox
+empty hearers = record { after = 0; bits = 0; hearers = hearers }
 
-abbrev pub entry : ℕ → ℕ → Option Rule → Option Received
-entry clock bits rule = option_and_then (entry_of clock bits) rule
+-- what stands where no mailbox is
+abbrev pub unused : Mailbox
+unused = empty (record { soonest = 0; first = 0; end = 0 })
 
--- a word repeats the one that a place took last, which is fresh
-abbrev pub is_repeated : ℕ → ℕ → Option Received → Bool
-is_repeated clock bits None = false
-is_repeated clock bits (Some r) = r.bits == bits && nat_lt clock r.end
+-- what a source holds by its mailbox, where words are fresh for so many moments
+abbrev pub held_for : Mailbox → ℕ → Received
+held_for m stale = record { bits = m.bits; end = if m.after == 0 then 0 else m.after + stale }
 
--- it is fresh for longer by the word that repeats it
-abbrev pub repeated : ℕ → Received → Received
-repeated clock r = record r { end = clock + r.stale + 1 }
+-- what the source at a place holds, by its rule
+abbrev pub received_at : List (Option Rule) → List Mailbox → ℕ → Received
+received_at rules mailboxes place =
+    option_map_or (λ (r : Rule). held_for (get_or mailboxes r.mailbox unused) r.stale) (get_or rules place None) nothing
 
--- a place that took a word holds what it says
-abbrev pub entered : Option Received → ℕ → List (Option Received) → List (Option Received)
-entered None place received = received
-entered (Some r) place received = slice_set received place (Some r)
+-- the mailbox of the source at a place, and 0 where there is no source
+abbrev pub mailbox_at : List (Option Rule) → ℕ → ℕ
+mailbox_at rules place = option_map_or (λ (r : Rule). r.mailbox) (get_or rules place None) 0
+
+-- the word is fresh for each listener
+abbrev pub all_fresh : ℕ → Mailbox → Bool
+all_fresh clock m = nat_lt clock (held_for m m.hearers.soonest).end
+
+-- those who listen to it
+abbrev pub hearers_of : List Listener → Mailbox → List Listener
+hearers_of listeners m = slice_range listeners m.hearers.first m.hearers.end
+
+-- a word came to it
+abbrev pub delivered : ℕ → ℕ → Mailbox → Mailbox
+delivered clock bits m = record m { bits = bits; after = clock + 1 }
+
+-- its word is not fresh
+abbrev pub emptied : Mailbox → Mailbox
+emptied m = record m { after = 0 }
 
 -- the clock shows less by half, or 0
-abbrev pub set_back : Option Received → Option Received
-set_back None = None
-set_back (Some r) = Some (record r { end = r.end - 2 ^ 31 })
+abbrev pub set_back : Mailbox → Mailbox
+set_back m = record m { after = m.after - 2 ^ 31 }
+
+-- ---- what words say to listeners
+
+-- two words say the same: they differ in no bit that decides it, or neither says anything
+abbrev pub says_same : Listener → ℕ → ℕ → Bool
+says_same l old new = bit_and (bit_xor old new) l.mask == 0 || not (may_say l.modes old || may_say l.modes new)
+
+-- the last word is fresh for the listener, and another says the same
+abbrev pub keeps_saying : ℕ → ℕ → Mailbox → Listener → Bool
+keeps_saying clock bits m l = nat_lt clock (held_for m l.stale).end && says_same l m.bits bits
+
+-- the places of the listeners are looked at when a word that comes now is no longer fresh for them
+unfoldable pub put_off : ℕ → List Listener → List ℕ → List ℕ
+put_off clock [] dues = dues
+put_off clock (l ∷ ls) dues = put_off clock ls (set dues l.place (clock + 1 + l.stale))

@@ -1,19 +1,20 @@
 -- What a table of parameters says of the words so far.
-use Rattle.std.specs.Prelude.{◌≡◌, ℕ, zero, suc, ◌+◌, ◌-◌, ◌*◌, ◌/◌, ◌^◌, ◌<◌, ◌≤◌, false, ℤ, pos, neg_ℤ, ◌≤ℤ◌, ◌⊎◌, List, length, get_or, slice_index, Option, Some, None, All, IfSome, option_map, true}
+use Rattle.std.specs.Prelude.{◌≡◌, ℕ, zero, suc, ◌+◌, ◌-◌, ◌*◌, ◌/◌, ◌^◌, ◌<◌, false, ℤ, pos, neg_ℤ, ◌≤ℤ◌, ◌⊎◌, List, length, slice_index, Option, Some, None, All, true}
 use Rattle.ecam_spec.specs.declared.limits.TheConstants.{NUMBER}
 use Rattle.ecam_spec.specs.declared.kinds.Kind.{Kind}
 use Rattle.ecam_spec.specs.declared.kinds.Kind.TheVariants.{Disc, Bnr, Bcd}
 use Rattle.std.specs.List.{slice_get}
+use Rattle.std.specs.Option.{option_map_or}
 use Rattle.ecam_spec.specs.Past.{last, previous}
 use Rattle.ecam_spec.specs.Situation.{parameter_at}
 use Rattle.ecam_spec.specs.Book.{Source, Parameter, Book}
 use Rattle.ecam_spec.specs.KeepsLimits.{IsSoundParameter}
-use Rattle.ecam_spec.specs.Value.{BusWord, arrives, word_of, is_fresh, has_sdi, reading, source_value, value}
+use Rattle.ecam_spec.specs.Value.{BusWord, arrives, word_of, is_fresh, source_value, value}
 use Rattle.wakes.specs.Marks.{is_marked, room}
 use Rattle.book_model.specs.SourcePlaces.{parameter_with, source_at}
-use Rattle.param_table.specs.Rules.{AreRules}
-use Rattle.param_table.specs.HeldValues.{given}
-use Rattle.param_table.specs.HeldState.{AreDue}
+use Rattle.param_table.specs.Routes.{AreRouted}
+use Rattle.param_table.specs.HeldValues.{given, received_at}
+use Rattle.param_table.specs.HeldState.{AreDue, AreEarly}
 use Rattle.param_table.specs.declared.received.Received.{Received}
 use Rattle.param_table.specs.declared.held.Held.{Held}
 use Rattle.param_table.specs.declared.table.Params.{Params}
@@ -41,43 +42,36 @@ pub record MayDiffer (p : Parameter) (words : ℕ → List BusWord) (k : ℕ) : 
   pub there : slice_get p.sources place ≡ Some source
   pub why : (arrives source words k ≡ true) ⊎ ((previous (is_fresh p.stale source words) k ≡ true) × (is_fresh p.stale source words k ≡ false))
 
--- What the word says that a source took last is there, and for how many moments more it is fresh.
-pub record SourceStands (kind : Kind) (stale : ℕ) (s : Source) (words : ℕ → List BusWord) (k clock : ℕ) (received : Option Received) : Type 0 where
-  pub says : option_map (λ r. r.value) received ≡ option_map (reading kind s) (word_of s words k)
-  pub left : option_map (λ r. r.end - clock) received ≡ option_map (λ m. m + stale + 1 - k) (last (arrives s words) k)
+-- The word that a source took last is there while it is fresh, and for how many moments more it is.
+pub record SourceStands (stale : ℕ) (s : Source) (words : ℕ → List BusWord) (k clock : ℕ) (r : Received) : Type 0 where
+  pub says : clock < r.end → word_of s words k ≡ Some r.bits
+  pub left : r.end - clock ≡ option_map_or (λ m. m + stale + 1 - k) (last (arrives s words) k) 0
 
--- Only a place with a source holds something: a word of the source's SDI, what it says to the source, which is no more
--- than the parameter can have, and how long it stays fresh, which is no longer than if it came now.
-pub record IsHeld (params : List Parameter) (clock place : ℕ) (r : Received) : Type 0 where
-  pub source : Source
-  pub there : source_at params place ≡ Some source
-  pub sdi : has_sdi source.sdi r.bits ≡ true
-  pub value : r.value ≡ reading (parameter_with params place).kind source r.bits
-  pub stale : r.stale ≡ (parameter_with params place).stale
-  pub bound : IfSome r.value (IsValueOf (parameter_with params place).kind)
-  pub limit : r.end ≤ clock + r.stale + 1
-
--- the places are those of the parameters' sources
+-- There is room for each parameter and each place, and no word came later than now.
 pub record HeldFits (params : List Parameter) (clock : ℕ) (h : Held) : Type 0 where
-  pub places : length h.received.items.items ≡ 3 * length params
   pub room : room h.changed ≡ 64 * (length params / 64 + 1)
   pub dues : length h.dues ≡ 3 * length params
-  pub each : (q : ℕ) → IfSome (get_or h.received.items.items q None) (IsHeld params clock q)
+  pub early : AreEarly clock h.mailboxes.items.items
 
--- the table was made for the book: it has the places of the book's sources, and how each reads its words
+-- what the source at a place of the table holds
+abbrev pub received_by : Params → ℕ → Received
+received_by p = received_at p.routing.rules.items.items p.held.mailboxes.items.items
+
+-- the table was made for the book: it has a mailbox for the sources of each bus, label and SDI, and how each reads its words
 pub record ParamsFit (b : Book) (p : Params) : Type 0 where
   pub sound : All IsSoundParameter b.parameters
-  pub rules : AreRules b.parameters p.rules.items.items
+  pub routed : AreRouted b.parameters p.routing p.held.mailboxes.items.items
   pub held : HeldFits b.parameters p.clock p.held
 
 -- the table stands for the words of the moments up to k, which hasn't ended
 pub record ParamsStand (b : Book) (words : ℕ → List BusWord) (k : ℕ) (p : Params) : Type 0 where
   pub fits : ParamsFit b p
   pub sources : (q : ℕ) (s : Source) → source_at b.parameters q ≡ Some s
-      → SourceStands (parameter_with b.parameters q).kind (parameter_with b.parameters q).stale s words k p.clock (get_or p.held.received.items.items q None)
-  pub due : AreDue p.clock p.held
+      → SourceStands (parameter_with b.parameters q).stale s words k p.clock (received_by p q)
+  pub due : AreDue p.clock (received_by p) p.held.dues
   pub unchanged : (q : ℕ) (s : Source) → source_at b.parameters q ≡ Some s → is_marked p.held.changed (q / 3) ≡ false
-      → given p.clock (get_or p.held.received.items.items q None) ≡ source_before (parameter_with b.parameters q).kind (parameter_with b.parameters q).stale s words k
+      → given p.clock (parameter_with b.parameters q).kind s (received_by p q)
+      ≡ source_before (parameter_with b.parameters q).kind (parameter_with b.parameters q).stale s words k
   pub told : (j : ℕ) → is_marked p.held.changed j ≡ true → MayDiffer (parameter_at b j) words k
 
 -- nothing of the table changes with the end of the moment but its clock: no parameter is marked, and no place is looked at

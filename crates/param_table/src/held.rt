@@ -1,76 +1,100 @@
-// What the sources of a book hold, by place, and which parameters may have another value by it.
-ghost use Rattle.std.specs.Prelude.{◌≡◌, ◌≢◌, ℕ, ◌/◌, ◌+◌, ◌<◌, ◌≤◌, ◌==◌, ◌&&◌, ◌||◌, false, length, slice_index, slice_index_or, slice_set, replicate, None, Some, IfOk, IfSome, option_map, if◌then◌else◌};
-ghost use Rattle.std.specs.Box.{boxed_slice_items};
+// What the mailboxes of a book hold, and which parameters may have another value by it.
+ghost use Rattle.std.specs.Prelude.{◌≡◌, ℕ, ◌/◌, ◌<◌, ◌≤◌, ◌==◌, ◌&&◌, ◌||◌, ◌+◌, ◌^◌, not, false, List, length, map, slice_index, slice_index_or, slice_set, All, if◌then◌else◌};
+ghost use Rattle.std.specs.List.{list_any};
 ghost use Rattle.wakes.specs.Marks.{is_marked, room};
-ghost use Rattle.param_table.specs.HeldValues.{is_ending, is_repeated, next_look, repeated};
-ghost use Rattle.param_table.specs.HeldState.{AreDue, Renews, WillLook};
+ghost use Rattle.param_table.specs.HeldValues.{all_fresh, delivered, emptied, hearers_of, is_ending, keeps_saying, mailbox_at, next_look, put_off, received_at, says_same, unused};
+ghost use Rattle.param_table.specs.HeldState.{AreDue, AreEarly, AreListed, CopiedWords, WillLook};
 
-use crate::received::{Received, ends_by, given, is_ending, next_look, repeat};
-use std::alloc::{AllocError, Global};
+use crate::mailbox::{Listener, Mailbox, all_fresh, held_for, says_same};
+use crate::received::{Received, is_ending, is_fresh, next_look};
+use crate::rules::Rule;
 use std::boxed::BoxedSlice;
 use wakes::{Marked, Wakes};
 
-/// What the words say that the sources took last, and what became of it since the moment before.
+/// The words that came last, and what became of it since the moment before.
 #[derive(Drop)]
 pub struct Held {
-    /// Three places for each parameter, one for each of its sources.
-    pub received: BoxedSlice<Option<Received>>,
+    /// The first has no listener.
+    pub mailboxes: BoxedSlice<Mailbox>,
     /// The parameters of which a source gave something else since the moment before.
     pub changed: Marked,
-    /// By place when it is looked at: no later than when its word is no longer fresh.
+    /// By place of a source when it is looked at: no later than when its word is no longer fresh.
     pub dues: Wakes,
 }
 
 impl Held {
-    /// A place takes a word. It is looked at when it would have been for the word before, where that comes first.
-    pub fn renew(&mut self, clock: u32, place: usize, received: Received)
-        requires place { place < length self.old.received.items.items }
-        requires dues { place < length self.old.dues }
-        requires room { place / 3 < room self.old.changed }
-        requires fresh { clock < received.end }
-        ensures received { self.new.received.items.items
-            ≡ slice_set self.old.received.items.items place (Some received) }
+    /// A word comes to a mailbox. The parameters of its listeners are marked for which the word before isn't fresh or said
+    /// something else. Its cost is one write where the word before is fresh for all and has the same bits, and a look and a
+    /// mark a listener where it has others. Where it isn't fresh for all, each listener is looked at when this one ends to be
+    /// fresh for it.
+    #[inline(always)]
+    pub fn deliver(&mut self, listeners: &[Listener], clock: u32, mailbox: usize, bits: u32)
+        requires mailbox { mailbox < length self.old.mailboxes.items.items }
+        requires early { AreEarly clock self.old.mailboxes.items.items }
+        requires listed { AreListed listeners.now (length self.old.dues) (room self.old.changed)
+            (slice_index_or self.old.mailboxes.items.items mailbox unused) }
+        ensures mailboxes { self.new.mailboxes.items.items
+            ≡ slice_set self.old.mailboxes.items.items mailbox (delivered clock bits
+            (slice_index_or self.old.mailboxes.items.items mailbox unused)) }
         ensures room { room self.new.changed ≡ room self.old.changed }
-        ensures dues { length self.new.dues ≡ length self.old.dues }
-        ensures renews { Renews clock self.old self.new }
-        ensures others { (p : ℕ) → p ≢ place / 3
-            → is_marked self.new.changed p ≡ is_marked self.old.changed p }
+        ensures marks { (p : ℕ) → is_marked self.new.changed p ≡ (list_any (λ l. p == l.param
+            && not (keeps_saying clock bits
+            (slice_index_or self.old.mailboxes.items.items mailbox unused) l))
+            (hearers_of listeners.now
+            (slice_index_or self.old.mailboxes.items.items mailbox unused))
+            || is_marked self.old.changed p) }
+        ensures dues { self.new.dues ≡ (if all_fresh clock
+            (slice_index_or self.old.mailboxes.items.items mailbox unused)
+            then self.old.dues
+            else put_off clock (hearers_of listeners.now
+            (slice_index_or self.old.mailboxes.items.items mailbox unused)) self.old.dues) }
     {
-        let before = self.received[place];
-        self.received[place] = Some(received);
-        if given(before, clock) != received.value {
-            self.changed.mark(place / 3);
-        }
-        if !ends_by(before, clock, received.end) {
-            self.dues.set(place, received.end);
+        let before = self.mailboxes[mailbox];
+        let now = &mut self.mailboxes[mailbox];
+        now.bits = bits;
+        now.after = u64::from(clock) + 1;
+        if !all_fresh(before, clock) {
+            let hearers = &listeners[before.hearers.first..before.hearers.end];
+            mark_begun(&mut self.changed, hearers, before, clock, bits);
+            put_off(&mut self.dues, hearers, clock);
+        } else if before.bits != bits {
+            let hearers = &listeners[before.hearers.first..before.hearers.end];
+            mark_turned(&mut self.changed, hearers, before.bits, bits);
         }
     }
 
-    /// A place takes a word that repeats the one that it took last, while that is fresh. It is looked at when it would
-    /// have been for the word before. `false` where it isn't so, and nothing is taken.
-    #[inline(always)]
-    pub fn repeat(&mut self, clock: u32, place: usize, bits: u32) -> bool
-        requires place { place < length self.old.received.items.items }
-        requires limit { IfSome (slice_index_or self.old.received.items.items place None)
-            (λ r. r.end ≤ clock + r.stale + 1) }
-        ensures result { result
-            ≡ is_repeated clock bits (slice_index_or self.old.received.items.items place None) }
-        ensures received { self.new.received.items.items ≡ (if result
-            then slice_set self.old.received.items.items place (option_map (repeated clock)
-            (slice_index_or self.old.received.items.items place None))
-            else self.old.received.items.items) }
+    /// No word is fresh. Its cost is a write a mailbox.
+    pub fn forget_words(&mut self)
+        ensures mailboxes { self.new.mailboxes.items.items
+            ≡ map emptied self.old.mailboxes.items.items }
         ensures changed { self.new.changed ≡ self.old.changed }
         ensures dues { self.new.dues ≡ self.old.dues }
-        ensures renews { Renews clock self.old self.new }
     {
-        repeat(&mut self.received[place], clock, bits)
+        for mailbox in self.mailboxes.iter_mut() {
+            mailbox.after = 0;
+        }
+    }
+
+    /// Takes over the words of other mailboxes, of which there are as many. Its cost is two writes a mailbox.
+    pub fn copy_words(&mut self, others: &[Mailbox])
+        requires { length self.old.mailboxes.items.items ≡ length others.now }
+        ensures mailboxes { CopiedWords self.old.mailboxes.items.items others.now
+            self.new.mailboxes.items.items }
+        ensures changed { self.new.changed ≡ self.old.changed }
+        ensures dues { self.new.dues ≡ self.old.dues }
+    {
+        for i in 0..others.len() {
+            let mailbox = &mut self.mailboxes[i];
+            mailbox.after = others[i].after;
+            mailbox.bits = others[i].bits;
+        }
     }
 
     /// A moment begins, in which nothing is other than before yet. Its cost is one look where nothing was, else a write for
     /// each 64 parameters.
     #[inline(always)]
     pub fn forget_changes(&mut self)
-        ensures received { self.new.received ≡ self.old.received }
+        ensures mailboxes { self.new.mailboxes ≡ self.old.mailboxes }
         ensures room { room self.new.changed ≡ room self.old.changed }
         ensures dues { self.new.dues ≡ self.old.dues }
         ensures none { (p : ℕ) → is_marked self.new.changed p ≡ false }
@@ -80,45 +104,125 @@ impl Held {
 
     /// Looks at the places whose words may be fresh no more, and marks the parameters where one ends to be.
     #[inline(always)]
-    pub fn look_at_due(&mut self, clock: u32)
-        requires dues { length self.old.dues ≡ length self.old.received.items.items }
+    pub fn look_at_due(&mut self, rules: &[Option<Rule>], clock: u32)
+        requires later { 0 < clock }
+        requires early { AreEarly clock self.old.mailboxes.items.items }
+        requires dues { length self.old.dues ≡ length rules.now }
+        requires mailboxes { (q : ℕ) → mailbox_at rules.now q
+            < length self.old.mailboxes.items.items }
         requires room { (q : ℕ) → q < length self.old.dues → q / 3 < room self.old.changed }
-        ensures received { self.new.received ≡ self.old.received }
+        ensures mailboxes { self.new.mailboxes ≡ self.old.mailboxes }
         ensures room { room self.new.changed ≡ room self.old.changed }
         ensures dues { length self.new.dues ≡ length self.old.dues }
-        ensures due { WillLook clock self.old → AreDue clock self.new }
-        ensures marks { WillLook clock self.old → (q : ℕ)
-            → is_marked self.new.changed (q / 3) ≡ false
-            → is_ending clock (slice_index_or self.old.received.items.items q None) ≡ false }
+        ensures due { WillLook clock (received_at rules.now self.old.mailboxes.items.items)
+            self.old.dues
+            → AreDue clock (received_at rules.now self.old.mailboxes.items.items) self.new.dues }
+        ensures marks { WillLook clock (received_at rules.now self.old.mailboxes.items.items)
+            self.old.dues
+            → (q : ℕ) → is_marked self.new.changed (q / 3) ≡ false
+            → is_ending clock (received_at rules.now self.old.mailboxes.items.items q) ≡ false }
         ensures others { (p : ℕ) → is_marked self.old.changed p ≡ false
             → ((q : ℕ) → q / 3 ≡ p
-            → is_ending clock (slice_index_or self.old.received.items.items q None) ≡ false)
+            → is_ending clock (received_at rules.now self.old.mailboxes.items.items q) ≡ false)
             → is_marked self.new.changed p ≡ false }
     {
         while let Some(place) = self.dues.take(u64::from(clock)) {
-            self.look(clock, place);
+            self.look(rules, clock, place);
         }
     }
 
     // Looks at a place: its word is fresh for longer, or ends to be with this moment, or did before.
-    fn look(&mut self, clock: u32, place: usize)
-        requires place { place < length self.old.received.items.items }
+    fn look(&mut self, rules: &[Option<Rule>], clock: u32, place: usize)
+        requires place { place < length rules.now }
+        requires mailbox { mailbox_at rules.now place < length self.old.mailboxes.items.items }
+        requires early { AreEarly clock self.old.mailboxes.items.items }
         requires dues { place < length self.old.dues }
         requires room { place / 3 < room self.old.changed }
-        ensures received { self.new.received ≡ self.old.received }
+        ensures mailboxes { self.new.mailboxes ≡ self.old.mailboxes }
         ensures room { room self.new.changed ≡ room self.old.changed }
         ensures dues { self.new.dues ≡ slice_set self.old.dues place
-            (next_look clock (slice_index_or self.old.received.items.items place None)) }
-        ensures marks { (p : ℕ) → is_marked self.new.changed p
-            ≡ ((is_ending clock (slice_index_or self.old.received.items.items place None)
-            && p == place / 3) || is_marked self.old.changed p) }
+            (next_look clock (received_at rules.now self.old.mailboxes.items.items place)) }
+        ensures marks { (p : ℕ) → is_marked self.new.changed p ≡ ((is_ending clock
+            (received_at rules.now self.old.mailboxes.items.items place) && p == place / 3)
+            || is_marked self.old.changed p) }
     {
-        let received = self.received[place];
+        let received = received_at(rules, &self.mailboxes, clock, place);
         if is_ending(received, clock) {
             self.changed.mark(place / 3);
         }
         self.dues.set(place, next_look(received, clock));
     }
+}
+
+/// What the source at a place holds. Its cost is a look at its rule and one at its mailbox.
+#[inline(always)]
+pub fn received_at(
+    rules: &[Option<Rule>],
+    mailboxes: &[Mailbox],
+    _clock: u32,
+    place: usize,
+) -> Received
+    requires place { place < length rules.now }
+    requires mailbox { mailbox_at rules.now place < length mailboxes.now }
+    requires early { AreEarly _clock mailboxes.now }
+    ensures { result ≡ received_at rules.now mailboxes.now place }
+{
+    match rules[place] {
+        None => Received { bits: 0, end: 0 },
+        Some(rule) => held_for(mailboxes[usize::from(rule.mailbox)], rule.stale),
+    }
+}
+
+// A word comes that differs from the one before, which is fresh: marks the parameters of those to whom it says something else.
+fn mark_turned(changed: &mut Marked, listeners: &[Listener], old: u32, new: u32)
+    requires { All (λ l. l.param < room changed.old) listeners.now }
+    ensures room { room changed.new ≡ room changed.old }
+    ensures marks { (p : ℕ) → is_marked changed.new p
+        ≡ (list_any (λ l. p == l.param && not (says_same l old new)) listeners.now
+        || is_marked changed.old p) }
+{
+    for i in 0..listeners.len() {
+        let listener = listeners[i];
+        changed.mark_if(usize::from(listener.param), !says_same(listener, old, new));
+    }
+}
+
+// A word comes where the one before isn't fresh for all: marks the parameters of those for whom it isn't, and of those to
+// whom this one says something else.
+#[inline(never)]
+fn mark_begun(changed: &mut Marked, listeners: &[Listener], before: Mailbox, clock: u32, bits: u32)
+    requires early { before.after ≤ 2 ^ 32 }
+    requires params { All (λ l. l.param < room changed.old) listeners.now }
+    ensures room { room changed.new ≡ room changed.old }
+    ensures marks { (p : ℕ) → is_marked changed.new p
+        ≡ (list_any (λ l. p == l.param && not (keeps_saying clock bits before l)) listeners.now
+        || is_marked changed.old p) }
+{
+    for i in 0..listeners.len() {
+        let listener = listeners[i];
+        let fresh = is_fresh(held_for(before, listener.stale), clock);
+        let same = fresh & says_same(listener, before.bits, bits);
+        changed.mark_if(usize::from(listener.param), !same);
+    }
+}
+
+// A word comes: each listener is looked at when that is no longer fresh for it.
+#[inline(never)]
+fn put_off(dues: &mut Wakes, listeners: &[Listener], clock: u32)
+    requires { All (λ l. l.place < length dues.old) listeners.now }
+    ensures { dues.new ≡ put_off clock listeners.now dues.old }
+{
+    for i in 0..listeners.len() {
+        let listener = listeners[i];
+        dues.set(usize::from(listener.place), end_from(clock, listener.stale));
+    }
+}
+
+// The first time at which a word that comes now is no longer fresh.
+fn end_from(clock: u32, stale: u32) -> u64
+    ensures { result ≡ clock + 1 + stale }
+{
+    u64::from(clock) + 1 + u64::from(stale)
 }
 
 /// Each place is looked at in the next moment.
@@ -130,15 +234,4 @@ pub fn look_soon(dues: &mut Wakes, count: usize)
     for place in 0..count {
         dues.set(place, 0);
     }
-}
-
-/// So many places, none of which took a word. An error is want of memory.
-pub fn none_received(
-    alloc: Global,
-    count: usize,
-) -> Result<BoxedSlice<Option<Received>>, AllocError>
-    ensures { IfOk result (λ places. boxed_slice_items places ≡ replicate count None) }
-{
-    let places = vec![in alloc; None; count]?;
-    Ok(places.into_boxed_slice())
 }

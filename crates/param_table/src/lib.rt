@@ -2,7 +2,9 @@
 #![tactic(auto)]
 
 mod held;
+mod mailbox;
 mod received;
+mod routing;
 mod rules;
 mod table;
 mod taking;

@@ -1,21 +1,23 @@
 // The values of parameters.
-ghost use Rattle.std.specs.Prelude.{◌≡◌, ℕ, suc, ◌+◌, ◌-◌, ◌*◌, ◌<◌, ◌≤◌, ◌^◌, true, false, List, [], length, map, slice_index, unwrap_or, IfOk, IfSome};
+ghost use Rattle.std.specs.Prelude.{◌≡◌, ℕ, suc, ◌+◌, ◌-◌, ◌*◌, ◌<◌, ◌≤◌, ◌^◌, true, false, List, [], length, map, slice_index, slice_index_or, unwrap_or, None, IfOk, IfSome};
 ghost use Rattle.ecam_spec.specs.Value.{BusWord, value};
 ghost use Rattle.ecam_spec.specs.Book as plain;
 ghost use Rattle.ecam_spec.specs.Situation.{parameter_at};
 ghost use Rattle.ecam_spec.specs.History.{OneMore};
 ghost use Rattle.book_model.specs.Sealed.{the_book};
-ghost use Rattle.param_table.specs.TableState.{ParamsFit, ParamsStand, IsValueOf, MayDiffer, IsStill, value_before};
-ghost use Rattle.param_table.specs.HeldValues.{first_given, set_back};
+ghost use Rattle.book_model.specs.SourcePlaces.{parameter_with};
+ghost use Rattle.param_table.specs.TableState.{ParamsFit, ParamsStand, IsValueOf, MayDiffer, IsStill, received_by, value_before};
+ghost use Rattle.param_table.specs.HeldValues.{first_given, given_by, set_back};
 
-use crate::held::{Held, look_soon, none_received};
-use crate::received::{HALF, given, set_back};
-use crate::rules::{Rule, rules_of};
+use crate::held::{Held, look_soon, received_at};
+use crate::mailbox::set_back;
+use crate::received::{HALF, is_fresh};
+use crate::routing::{Routing, routing_of};
 use crate::taking::receive;
+use crate::words::reading;
 use arinc_words::Word;
 use book_model::Book;
 use std::alloc::{AllocError, Global};
-use std::boxed::BoxedSlice;
 use wakes::{Marked, Wakes};
 
 /// What the words say that the sources of a book's parameters took last, how long they are fresh, and which parameters
@@ -25,8 +27,7 @@ pub struct Params {
     // Counts Ticks. At its end it is set back.
     clock: u32,
     held: Held,
-    // How the words of each source are read, by place.
-    rules: BoxedSlice<Option<Rule>>,
+    routing: Routing,
 }
 
 impl Params {
@@ -36,23 +37,23 @@ impl Params {
         ensures stands { IfOk result (λ p. (words : ℕ → List BusWord) → words 0 ≡ []
             → ParamsStand (the_book book.now) words 0 p) }
     {
+        let (routing, mailboxes) = routing_of(alloc, book)?;
         let params = book.params();
-        let rules = rules_of(alloc, params)?;
-        let received = none_received(alloc, 3 * params.len())?;
         let changed = Marked::new(alloc, params.len())?;
         let dues = Wakes::new(alloc, 3 * params.len())?;
         Ok(Params {
             clock: 0,
             held: Held {
-                received,
+                mailboxes,
                 changed,
                 dues,
             },
-            rules,
+            routing,
         })
     }
 
-    /// Forgets all words and moments. Its cost is a few writes a source.
+    /// Forgets all words and moments. Its cost is a write a mailbox, of which there is one for all sources of a bus, a label and
+    /// an SDI, and a few a source.
     pub fn clear(&mut self)
         ensures fits { (b : plain.Book) → ParamsFit b self.old → ParamsFit b self.new }
         ensures stands { (b : plain.Book) (words : ℕ → List BusWord) → ParamsFit b self.old
@@ -60,12 +61,13 @@ impl Params {
             → ParamsStand b words 0 self.new }
     {
         self.clock = 0;
-        self.held.received.as_mut_slice().fill(None);
+        self.held.forget_words();
         self.held.changed.clear();
         self.held.dues.clear();
     }
 
-    /// Takes over the words and the moments of another table of the same book. Its cost is a few writes a source.
+    /// Takes over the words and the moments of another table of the same book. Its cost is two writes a mailbox, of which there
+    /// is one for all sources of a bus, a label and an SDI, and a few a source.
     pub fn copy_from(&mut self, other: &Params)
         requires { (b : plain.Book) × ParamsFit b self.old × ParamsFit b other.now }
         ensures fits { (b : plain.Book) → ParamsFit b self.old → ParamsFit b other.now
@@ -74,14 +76,15 @@ impl Params {
             → ParamsStand b words k other.now → ParamsStand b words k self.new }
     {
         self.clock = other.clock;
-        self.held.received.copy_from_slice(&other.held.received);
+        self.held.copy_words(&other.held.mailboxes);
         self.held.changed.copy_from(&other.held.changed);
         self.held.dues.copy_from(&other.held.dues);
     }
 
     /// A word comes on a bus in the moment that hasn't ended. Its cost is one look-up by bus and label, and, where the
-    /// parity is odd, a visit of each source that listens to them: two comparisons and a write, where the word repeats
-    /// the one that the source took last, while that is fresh.
+    /// parity is odd, a look and two writes at each of two mailboxes: that of the sources which name no SDI, and that of those
+    /// which name the word's. Where the bits are those of the last word, and words come often enough to keep it fresh, that is
+    /// all, however many sources listen; where they are others, also a look and a mark at each source that takes it.
     // (It stands in its caller, so that a word that no source listens to costs no call. The look-up comes before the
     // parity, since which words a book listens to is easier to foresee.)
     #[inline(always)]
@@ -93,21 +96,12 @@ impl Params {
             → ParamsStand (the_book book.now) old k self.old
             → ParamsStand (the_book book.now) new k self.new }
     {
-        let last = book.last_listener(bus, bits);
-        if last.is_none() {
+        let Some(last) = book.last_listener(bus, bits) else {
             return;
-        }
-        let word = Word::new(bits);
-        if word.odd() {
-            receive(
-                &mut self.held,
-                &self.rules,
-                book,
-                self.clock,
-                bus,
-                &word,
-                last,
-            );
+        };
+        if Word::new(bits).odd() {
+            let clock = self.clock;
+            receive(&mut self.held, &self.routing, book, clock, bus, bits, last);
         }
     }
 
@@ -139,7 +133,7 @@ impl Params {
         }
         self.clock += 1;
         self.held.forget_changes();
-        self.held.look_at_due(self.clock);
+        self.held.look_at_due(&self.routing.rules, self.clock);
     }
 
     /// Whether it is known that the end of the moment changes nothing but the clock: no parameter may have another value than
@@ -185,8 +179,7 @@ impl Params {
             → result ≡ value (parameter_at (the_book book.now) param) words k }
         ensures bound { IfSome result (IsValueOf (parameter_at (the_book book.now) param).kind) }
     {
-        let _ = book;
-        self.first_value(3 * param)
+        self.first_value(book, 3 * param)
     }
 
     /// The first parameter from `from` on that may have another value than in the moment before, before which none had
@@ -213,39 +206,62 @@ impl Params {
     }
 
     // What the first of the sources from this place on gives that gives something.
-    fn first_value(&self, place: usize) -> Option<i64>
-        requires { place + 3 ≤ length self.now.held.received.items.items }
-        ensures { result ≡ first_given self.now.clock self.now.held.received.items.items place }
+    fn first_value(&self, _book: &Book, place: usize) -> Option<i64>
+        requires fits { ParamsFit (the_book _book.now) self.now }
+        requires place { place + 3 ≤ length self.now.routing.rules.items.items }
+        ensures value { result ≡ first_given self.now.clock self.now.routing.rules.items.items
+            (received_by self.now) place }
+        ensures bound { IfSome result (λ v. (q : ℕ) × (place ≤ q) × (q ≤ place + 2)
+            × IsValueOf (parameter_with (the_book _book.now).parameters q).kind v) }
     {
-        let first = given(self.held.received[place], self.clock);
+        let first = self.given(_book, place);
         if first.is_some() {
             return first;
         }
-        let second = given(self.held.received[place + 1], self.clock);
+        let second = self.given(_book, place + 1);
         if second.is_some() {
             return second;
         }
-        given(self.held.received[place + 2], self.clock)
+        self.given(_book, place + 2)
+    }
+
+    // What the source at a place gives.
+    fn given(&self, _book: &Book, place: usize) -> Option<i64>
+        requires fits { ParamsFit (the_book _book.now) self.now }
+        requires place { place < length self.now.routing.rules.items.items }
+        ensures value { result
+            ≡ given_by self.now.clock (slice_index_or self.now.routing.rules.items.items place None)
+            (received_by self.now place) }
+        ensures bound { IfSome result
+            (IsValueOf (parameter_with (the_book _book.now).parameters place).kind) }
+    {
+        let rules = &self.routing.rules;
+        let received = received_at(rules, &self.held.mailboxes, self.clock, place);
+        if !is_fresh(received, self.clock) {
+            return None;
+        }
+        let rule = self.routing.rules[place]?;
+        reading(rule.kind, &rule.source, &Word::new(received.bits))
     }
 
     // Sets the clock back by half of what it can show, with the times of the words. Each place is looked at soon.
     #[inline(never)]
     fn set_clock_back(&mut self)
         requires clock { self.old.clock ≡ 2 ^ 32 - 1 }
-        requires count { length self.old.held.dues ≡ length self.old.held.received.items.items }
+        requires count { length self.old.held.dues ≡ length self.old.routing.rules.items.items }
         ensures clock { self.new.clock ≡ 2 ^ 31 - 1 }
-        ensures rules { self.new.rules ≡ self.old.rules }
+        ensures routing { self.new.routing ≡ self.old.routing }
         ensures changed { self.new.held.changed ≡ self.old.held.changed }
-        ensures received { self.new.held.received.items.items
-            ≡ map set_back self.old.held.received.items.items }
+        ensures mailboxes { self.new.held.mailboxes.items.items
+            ≡ map set_back self.old.held.mailboxes.items.items }
         ensures count { length self.new.held.dues ≡ length self.old.held.dues }
         ensures soon { (q : ℕ) → slice_index self.new.held.dues q ≡ 0 }
     {
         self.clock -= HALF;
-        for received in self.held.received.iter_mut() {
-            *received = set_back(*received);
+        for mailbox in self.held.mailboxes.iter_mut() {
+            *mailbox = set_back(*mailbox);
         }
-        let count = self.held.received.len();
+        let count = self.routing.rules.len();
         look_soon(&mut self.held.dues, count);
     }
 }

@@ -1,72 +1,173 @@
-use Rattle.std.proofs.Common.{◌≡◌, ◌/◌, refl, ◌<◌, true, length, get_or, Some, None, sym, ap, ◌∙◌, subst, arith}
-use Rattle.std.specs.Prelude.{IfSome, is_some}
-use Rattle.ecam_spec.specs.Book.{Source}
-use Rattle.ecam_spec.specs.Word.{label}
+use Rattle.std.proofs.Common.{◌≡◌, ℕ, ◌+◌, ◌*◌, ◌<◌, ◌==◌, ◌&&◌, ◌||◌, not, cond, length, get_or, List, Option, sym, ap, subst, ◌∙◌, arith}
+use Rattle.std.specs.List.{list_any}
+use Rattle.std.proofs.lemmas.Bool.{false≢true}
+use Rattle.std.proofs.lemmas.List.{length-set}
+use Rattle.ecam_spec.specs.Book.{Parameter}
+use Rattle.ecam_spec.specs.Word.{sdi}
 use Rattle.ecam_spec.specs.Value.{BusWord}
+use Rattle.wakes.specs.Marks.{is_marked, room}
 use Rattle.book_model.specs.Sealed.{the_book}
-use Rattle.book_model.specs.SourcePlaces.{source_at, listens, last_below}
-use Rattle.param_table.specs.HeldValues.{entry, entered}
-use Rattle.param_table.proofs.Steps.{renews_none, renews_both}
-use Rattle.param_table.proofs.Visiting.{IsVisited, IsNext, visited_none, heard_within, next_listens, visited_next, not_entered, next_below}
+use Rattle.param_table.specs.declared.held.Held.{Held}
+use Rattle.param_table.specs.declared.mailbox.Mailbox.{Mailbox}
+use Rattle.param_table.specs.declared.mailbox.Listener.{Listener}
+use Rattle.param_table.specs.declared.rules.Rule.{Rule}
+use Rattle.param_table.specs.HeldValues.{all_fresh, delivered, hearers_of, keeps_saying, put_off, received_at, unused}
+use Rattle.param_table.specs.HeldState.{AreListed, Renews}
+use Rattle.param_table.specs.Routes.{AreRouted}
+use Rattle.param_table.specs.TableState.{HeldFits}
+use Rattle.param_table.proofs.Steps.{renews_both}
+use Rattle.param_table.proofs.Delivery.{are_listed, delivered_routed, delivered_fits, delivered_renews, delivered_others, held-other, held-own, held-none}
+use Rattle.param_table.proofs.Receiving.{any_read, named_read, any_within, named_within, any_takes, named_takes, routes_there, received_twice, sdi-few}
 use Rattle.param_table.proofs.taking.receive.Goals as goal
-use Rattle.param_table.proofs.taking.receive.Goals.{After-listener_before-next}
+use Rattle.param_table.proofs.taking.receive.Goals.{After-deref, After-deliver, After-deref-2, After-deliver-2}
 
-pub loop-next-init : goal.loop-next-init
-loop-next-init c =
-    let params = (the_book c.args.book.now).parameters in
-    let word : BusWord = record { bus = c.args._bus; bits = c.args.word.now } in
-    record {
-      visited = visited_none params word (λ q. entry c.args.clock c.args.word.now (get_or c.args.rules.now q None)) c.args.held.now.received.items.items c.args.last c.requires.last;
-      fits = c.requires.fits;
-      renews = renews_none c.args.clock c.args.held.now;
-      others = λ p none. refl;
-    }
+pub index-requires : goal.index-requires
+index-requires c =
+    let there = routes_there (the_book c.args._book.now).parameters c.args.routing.now c.args.held.now.mailboxes.items.items c.requires.routed (record { bus = c.args._bus; bits = c.args.bits }) c.requires.odd c.args.last c.requires.last in
+    omega (arith, there, c.from-slots.ensures)
 
-pub listener_before-next-requires : goal.listener_before-next-requires
-listener_before-next-requires c =
-    let params = (the_book c.args.book.now).parameters in
-    let hears : listens params c.args._bus (label c.args.word.now) c.in-Some.place ≡ true =
-    subst (λ o. IfSome o (λ h. listens params c.args._bus (label c.args.word.now) h ≡ true)) c.in-Some.is c.loop-next.invariant.visited.listening in
-    omega (arith, heard_within params (record { bus = c.args._bus; bits = c.args.word.now }) c.in-Some.place hears, c.from-place.ensures)
+pub index-requires-2 : goal.index-requires-2
+index-requires-2 c =
+    let there = routes_there (the_book c.args._book.now).parameters c.args.routing.now c.args.held.now.mailboxes.items.items c.requires.routed (record { bus = c.args._bus; bits = c.args.bits }) c.requires.odd c.args.last c.requires.last in
+    omega (arith, there, c.from-slots.ensures, sdi-few c.args.bits, c.from.ensures, c.sdi.ensures, ap sdi c.new.ensures)
 
--- the place that is visited
-visited : (c : After-listener_before-next)
-    → IsVisited (the_book c.args.book.now).parameters (record { bus = c.args._bus; bits = c.args.word.now }) (λ q. entry c.args.clock c.args.word.now (get_or c.args.rules.now q None)) (Some c.in-Some.place) c.args.held.now.received.items.items c.loop-next.held.received.items.items
-visited c =
-    subst (λ o. IsVisited (the_book c.args.book.now).parameters (record { bus = c.args._bus; bits = c.args.word.now }) (λ q. entry c.args.clock c.args.word.now (get_or c.args.rules.now q None)) o c.args.held.now.received.items.items c.loop-next.held.received.items.items)
-    c.in-Some.is c.loop-next.invariant.visited
+abbrev params : After-deref → List Parameter
+params c = (the_book c.args._book.now).parameters
 
-found : (c : After-listener_before-next) → IsNext (the_book c.args.book.now).parameters (record { bus = c.args._bus; bits = c.args.word.now }) c.in-Some.place c.listener_before-next.result
-found c =
-    let params = (the_book c.args.book.now).parameters in
-    let link = subst (λ i. (s : Source) → source_at params i ≡ Some s → c.listener_before-next.result ≡ last_below (listens params s.bus s.label) i) c.from-place.ensures c.listener_before-next.ensures.value in
-    next_listens params (record { bus = c.args._bus; bits = c.args.word.now }) c.in-Some.place c.listener_before-next.result link (visited c).listening
+abbrev boxes : After-deref → List Mailbox
+boxes c = c.args.held.now.mailboxes.items.items
 
-pub loop-next-smaller : goal.loop-next-smaller
-loop-next-smaller c =
-    let params = (the_book c.args.book.now).parameters in
-    let word : BusWord = record { bus = c.args._bus; bits = c.args.word.now } in
-    let below = next_below params word (λ q. entry c.args.clock c.args.word.now (get_or c.args.rules.now q None)) c.in-Some.place c.listener_before-next.result c.args.held.now.received.items.items c.loop-next.held.received.items.items (visited c) (found c) in
-    rw c.in-Some.is (omega (arith, below))
+abbrev word : After-deref → BusWord
+word c = record { bus = c.args._bus; bits = c.args.bits }
 
-pub loop-next-preserved : goal.loop-next-preserved
-loop-next-preserved c =
-    let params = (the_book c.args.book.now).parameters in
-    let word : BusWord = record { bus = c.args._bus; bits = c.args.word.now } in
-    let items = c.loop-next.held.received.items.items in
-    let h = c.in-Some.place in
-    let before = c.listener_before-next.result in
-    let within : h < length items = omega (arith, heard_within params word h (visited c).listening, c.loop-next.invariant.fits.places) in
-    let written : c.visit.new.held.received.items.items ≡ entered (entry c.args.clock c.args.word.now (get_or c.args.rules.now h None)) h items =
-    c.visit.ensures.received ∙ ap (λ i. entered (entry c.args.clock c.args.word.now (get_or c.args.rules.now i None)) i items) c.from-place.ensures in
-    record {
-      visited = rw written (visited_next params word c.args.clock c.args.rules.now h before c.args.held.now.received.items.items items c.requires.rules c.requires.odd (found c) (visited c) within);
-      fits = c.visit.ensures.fits;
-      renews = renews_both c.args.clock c.args.held.now c.loop-next.held c.visit.new.held c.loop-next.invariant.renews c.visit.ensures.renews;
-      others = λ p none.
-          c.visit.ensures.others p
-          (λ row. ap (λ i. is_some (entry c.args.clock c.args.word.now (get_or c.args.rules.now i None))) c.from-place.ensures
-          ∙ not_entered params word c.args.clock c.args.rules.now h before c.args.held.now.received.items.items items c.requires.rules c.requires.odd (found c) (visited c) within
-          (none h (sym (row ∙ ap (λ i. i / 3) c.from-place.ensures))))
-          ∙ c.loop-next.invariant.others p none;
-    }
+-- the two mailboxes
+any-is : (c : After-deref) → c.from-any.result ≡ get_or c.args.routing.now.routes.items.items (5 * c.args.last + 0) 0
+any-is c = c.from-any.ensures ∙ any_read (params c) c.args.routing.now (boxes c) c.requires.routed (word c) c.requires.odd c.args.last c.requires.last c.from-slots.result c.index.result.now c.from-slots.ensures c.index.ensures
+
+named-is : (c : After-deref) → c.from-named.result ≡ get_or c.args.routing.now.routes.items.items (5 * c.args.last + (1 + sdi c.args.bits)) 0
+named-is c =
+    c.from-named.ensures
+    ∙ named_read (params c) c.args.routing.now (boxes c) c.requires.routed (word c) c.requires.odd c.args.last c.requires.last c.from-slots.result c.from.result c.index-2.result.now c.from-slots.ensures
+    (c.from.ensures ∙ c.sdi.ensures ∙ ap sdi c.new.ensures) c.index-2.ensures
+
+any-there : (c : After-deref) → c.from-any.result < length (boxes c)
+any-there c = subst (λ m. m < length (boxes c)) (sym (any-is c)) (any_within (params c) c.args.routing.now (boxes c) c.requires.routed (word c) c.requires.odd c.args.last c.requires.last)
+
+named-there : (c : After-deref) → c.from-named.result < length (boxes c)
+named-there c = subst (λ m. m < length (boxes c)) (sym (named-is c)) (named_within (params c) c.args.routing.now (boxes c) c.requires.routed (word c) c.requires.odd c.args.last c.requires.last)
+
+pub deliver-requires-clause-mailbox : goal.deliver-requires-clause-mailbox
+deliver-requires-clause-mailbox c = any-there c
+
+pub deliver-requires-clause-listed : goal.deliver-requires-clause-listed
+deliver-requires-clause-listed c =
+    subst (λ ls. AreListed ls (length c.args.held.now.dues) (room c.args.held.now.changed) (get_or (boxes c) c.from-any.result unused)) (sym c.deref.ensures.value)
+    (are_listed (params c) c.args.routing.now c.args.clock c.from-any.result c.args.bits c.args.held.now c.args.held.now c.requires.sound c.requires.routed c.requires.fits (any-there c))
+
+-- the first delivery
+module _ (c : After-deliver) where
+  abbrev b : After-deref
+  b = c.before
+
+  abbrev one : ℕ
+  one = c.from-any.result
+
+  abbrev was : Held
+  was = c.args.held.now
+
+  abbrev mid : Held
+  mid = c.deliver.new.self
+
+  marks-mid : (p : ℕ) → is_marked mid.changed p
+      ≡ (list_any (λ (l : Listener). p == l.param && not (keeps_saying c.args.clock c.args.bits (get_or (boxes b) one unused) l)) (hearers_of c.args.routing.now.listeners.items.items (get_or (boxes b) one unused)) || is_marked was.changed p)
+  marks-mid p = subst (λ ls. is_marked mid.changed p
+      ≡ (list_any (λ (l : Listener). p == l.param && not (keeps_saying c.args.clock c.args.bits (get_or (boxes b) one unused) l)) (hearers_of ls (get_or (boxes b) one unused)) || is_marked was.changed p))
+      c.deref.ensures.value (c.deliver.ensures.marks p)
+
+  dues-mid : mid.dues ≡ cond (all_fresh c.args.clock (get_or (boxes b) one unused)) was.dues (put_off c.args.clock (hearers_of c.args.routing.now.listeners.items.items (get_or (boxes b) one unused)) was.dues)
+  dues-mid = subst (λ ls. mid.dues ≡ cond (all_fresh c.args.clock (get_or (boxes b) one unused)) was.dues (put_off c.args.clock (hearers_of ls (get_or (boxes b) one unused)) was.dues)) c.deref.ensures.value c.deliver.ensures.dues
+
+  routed-mid : AreRouted (params b) c.args.routing.now mid.mailboxes.items.items
+  routed-mid = delivered_routed (params b) c.args.routing.now c.args.clock one c.args.bits was mid c.requires.sound c.requires.routed c.requires.fits (any-there b) c.deliver.ensures.mailboxes c.deliver.ensures.room marks-mid dues-mid
+
+  fits-mid : HeldFits (params b) c.args.clock mid
+  fits-mid = delivered_fits (params b) c.args.routing.now c.args.clock one c.args.bits was mid c.requires.sound c.requires.routed c.requires.fits (any-there b) c.deliver.ensures.mailboxes c.deliver.ensures.room marks-mid dues-mid
+
+  renews-mid : Renews (params b) c.args.routing.now.rules.items.items c.args.clock was mid
+  renews-mid = delivered_renews (params b) c.args.routing.now c.args.clock one c.args.bits was mid c.requires.sound c.requires.routed c.requires.fits (any-there b) c.deliver.ensures.mailboxes c.deliver.ensures.room marks-mid dues-mid
+
+  named-mid : c.from-named.result < length mid.mailboxes.items.items
+  named-mid = omega (arith, named-there b, ap length c.deliver.ensures.mailboxes, length-set (boxes b) one (delivered c.args.clock c.args.bits (get_or (boxes b) one unused)))
+
+pub deliver-requires-2-clause-mailbox : goal.deliver-requires-2-clause-mailbox
+deliver-requires-2-clause-mailbox c = named-mid c.before.before
+
+pub deliver-requires-2-clause-listed : goal.deliver-requires-2-clause-listed
+deliver-requires-2-clause-listed c =
+    let d : After-deliver = c.before.before in
+    subst (λ ls. AreListed ls (length (mid d).dues) (room (mid d).changed) (get_or (mid d).mailboxes.items.items c.from-named.result unused)) (sym c.deref-2.ensures.value)
+    (are_listed (params (b d)) c.args.routing.now c.args.clock c.from-named.result c.args.bits (mid d) (mid d) c.requires.sound (routed-mid d) (fits-mid d) (named-mid d))
+
+-- the second
+module _ (c : After-deliver-2) where
+  abbrev d : After-deliver
+  d = c.before.before.before
+
+  abbrev e : After-deref
+  e = d.before
+
+  abbrev two : ℕ
+  two = c.from-named.result
+
+  abbrev middle : Held
+  middle = c.deliver.new.self
+
+  abbrev box : Mailbox
+  box = get_or middle.mailboxes.items.items two unused
+
+  abbrev new : Held
+  new = c.deliver-2.new.self
+
+  marks-new : (p : ℕ) → is_marked new.changed p
+      ≡ (list_any (λ (l : Listener). p == l.param && not (keeps_saying c.args.clock c.args.bits box l)) (hearers_of c.args.routing.now.listeners.items.items box) || is_marked middle.changed p)
+  marks-new p = subst (λ ls. is_marked new.changed p
+      ≡ (list_any (λ (l : Listener). p == l.param && not (keeps_saying c.args.clock c.args.bits box l)) (hearers_of ls box) || is_marked middle.changed p))
+      c.deref-2.ensures.value (c.deliver-2.ensures.marks p)
+
+  dues-new : new.dues ≡ cond (all_fresh c.args.clock box) middle.dues (put_off c.args.clock (hearers_of c.args.routing.now.listeners.items.items box) middle.dues)
+  dues-new = subst (λ ls. new.dues ≡ cond (all_fresh c.args.clock box) middle.dues (put_off c.args.clock (hearers_of ls box) middle.dues)) c.deref-2.ensures.value c.deliver-2.ensures.dues
+
+  abbrev rules : List (Option Rule)
+  rules = c.args.routing.now.rules.items.items
+
+pub returns-clause-routed : goal.returns-clause-routed
+returns-clause-routed c =
+    delivered_routed (params (e c)) c.args.routing.now c.args.clock (two c) c.args.bits (middle c) (new c) c.requires.sound (routed-mid (d c)) (fits-mid (d c)) (named-mid (d c)) c.deliver-2.ensures.mailboxes c.deliver-2.ensures.room (marks-new c) (dues-new c)
+
+pub returns-clause-fits : goal.returns-clause-fits
+returns-clause-fits c =
+    delivered_fits (params (e c)) c.args.routing.now c.args.clock (two c) c.args.bits (middle c) (new c) c.requires.sound (routed-mid (d c)) (fits-mid (d c)) (named-mid (d c)) c.deliver-2.ensures.mailboxes c.deliver-2.ensures.room (marks-new c) (dues-new c)
+
+pub returns-clause-renews : goal.returns-clause-renews
+returns-clause-renews c =
+    renews_both (params (e c)) (rules c) c.args.clock c.args.held.now (middle c) (new c) (renews-mid (d c))
+    (delivered_renews (params (e c)) c.args.routing.now c.args.clock (two c) c.args.bits (middle c) (new c) c.requires.sound (routed-mid (d c)) (fits-mid (d c)) (named-mid (d c)) c.deliver-2.ensures.mailboxes c.deliver-2.ensures.room (marks-new c) (dues-new c))
+
+pub returns-clause-others : goal.returns-clause-others
+returns-clause-others c = λ p none.
+    let w = word (e c) in
+    let x = boxes (e c) in
+    delivered_others (params (e c)) c.args.routing.now c.args.clock (two c) c.args.bits (middle c) (new c) c.requires.sound (routed-mid (d c)) (fits-mid (d c)) (named-mid (d c)) c.deliver-2.ensures.mailboxes c.deliver-2.ensures.room (marks-new c) (dues-new c) p
+    (λ q r row is own. false≢true (sym (none q row) ∙ named_takes (params (e c)) c.args.routing.now x c.requires.routed w c.requires.odd c.args.last c.requires.last q r is (own ∙ named-is (e c))))
+    ∙ delivered_others (params (e c)) c.args.routing.now c.args.clock (one (d c)) c.args.bits c.args.held.now (middle c) c.requires.sound c.requires.routed c.requires.fits (any-there (e c)) c.deliver.ensures.mailboxes c.deliver.ensures.room (marks-mid (d c)) (dues-mid (d c)) p
+    (λ q r row is own. false≢true (sym (none q row) ∙ any_takes (params (e c)) c.args.routing.now x c.requires.routed w c.requires.odd c.args.last c.requires.last q r is (own ∙ any-is (e c))))
+
+pub returns-clause-received : goal.returns-clause-received
+returns-clause-received c = received_twice (params (e c)) c.args.routing.now (boxes (e c)) c.requires.routed (word (e c)) c.requires.odd c.args.last c.requires.last c.args.clock
+    (received_at (rules c) (boxes (e c))) (received_at (rules c) (middle c).mailboxes.items.items) (received_at (rules c) (new c).mailboxes.items.items)
+    (λ q r is ne. held-other (params (e c)) c.args.routing.now c.args.clock (one (d c)) c.args.bits c.args.held.now (middle c) c.requires.sound c.requires.routed c.requires.fits (any-there (e c)) c.deliver.ensures.mailboxes c.deliver.ensures.room (marks-mid (d c)) (dues-mid (d c)) q r is (λ own. ne (own ∙ any-is (e c))))
+    (λ q r is own. held-own (params (e c)) c.args.routing.now c.args.clock (one (d c)) c.args.bits c.args.held.now (middle c) c.requires.sound c.requires.routed c.requires.fits (any-there (e c)) c.deliver.ensures.mailboxes c.deliver.ensures.room (marks-mid (d c)) (dues-mid (d c)) q r is (own ∙ sym (any-is (e c))))
+    (λ q is. held-none (params (e c)) c.args.routing.now c.args.clock (one (d c)) c.args.bits c.args.held.now (middle c) c.requires.sound c.requires.routed c.requires.fits (any-there (e c)) c.deliver.ensures.mailboxes c.deliver.ensures.room (marks-mid (d c)) (dues-mid (d c)) q is)
+    (λ q r is ne. held-other (params (e c)) c.args.routing.now c.args.clock (two c) c.args.bits (middle c) (new c) c.requires.sound (routed-mid (d c)) (fits-mid (d c)) (named-mid (d c)) c.deliver-2.ensures.mailboxes c.deliver-2.ensures.room (marks-new c) (dues-new c) q r is (λ own. ne (own ∙ named-is (e c))))
+    (λ q r is own. held-own (params (e c)) c.args.routing.now c.args.clock (two c) c.args.bits (middle c) (new c) c.requires.sound (routed-mid (d c)) (fits-mid (d c)) (named-mid (d c)) c.deliver-2.ensures.mailboxes c.deliver-2.ensures.room (marks-new c) (dues-new c) q r is (own ∙ sym (named-is (e c))))
+    (λ q is. held-none (params (e c)) c.args.routing.now c.args.clock (two c) c.args.bits (middle c) (new c) c.requires.sound (routed-mid (d c)) (fits-mid (d c)) (named-mid (d c)) c.deliver-2.ensures.mailboxes c.deliver-2.ensures.room (marks-new c) (dues-new c) q is)

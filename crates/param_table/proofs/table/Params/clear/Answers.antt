@@ -1,27 +1,42 @@
-use Rattle.std.proofs.Common.{◌≡◌, length, replicate, None, sym, ap, ◌∙◌, rules}
-use Rattle.std.specs.Box.{boxed_slice_with_items}
-use Rattle.std.proofs.lemmas.List.{length-replicate, with_items_is}
+use Rattle.std.proofs.Common.{◌≡◌, ℕ, length, get_or, ap, ◌∙◌, arith}
+use Rattle.std.proofs.lemmas.List.{length-replicate, length-map}
+use Rattle.ecam_spec.specs.Book.{Book}
+use Rattle.wakes.specs.Marks.{room}
+use Rattle.param_table.specs.declared.mailbox.Mailbox.{Mailbox}
 use Rattle.param_table.specs.declared.table.Params.{Params}
+use Rattle.param_table.specs.HeldValues.{emptied, unused}
 use Rattle.param_table.specs.TableState.{ParamsFit}
-use Rattle.param_table.proofs.Tables.{start, held_none}
+use Rattle.param_table.proofs.Delivery.{routed_same}
+use Rattle.param_table.proofs.Tables.{start, get_or-emptied}
 use Rattle.param_table.proofs.table.Params.clear.Goals as goal
+use Rattle.param_table.proofs.table.Params.clear.Goals.{After-clear-2}
+
+abbrev cleared : After-clear-2 → Params
+cleared c = record {
+  clock = 0;
+  held = record { mailboxes = c.forget_words.new.self.mailboxes; changed = c.clear.new.self; dues = c.clear-2.new.self };
+  routing = c.args.self.now.routing;
+}
+
+empty : (c : After-clear-2) (m : ℕ) → get_or (cleared c).held.mailboxes.items.items m unused ≡ emptied (get_or c.args.self.now.held.mailboxes.items.items m unused)
+empty c m = ap (λ l. get_or l m unused) c.forget_words.ensures.mailboxes ∙ get_or-emptied c.args.self.now.held.mailboxes.items.items m
+
+kept : (c : After-clear-2) (b : Book) → ParamsFit b c.args.self.now → ParamsFit b (cleared c)
+kept c b fits = record {
+  sound = fits.sound;
+  routed = routed_same b.parameters c.args.self.now.routing c.args.self.now.held.mailboxes.items.items (cleared c).held.mailboxes.items.items
+      (ap length c.forget_words.ensures.mailboxes ∙ length-map c.args.self.now.held.mailboxes.items.items emptied)
+      (λ m less. ap (λ (x : Mailbox). x.hearers) (empty c m)) fits.routed;
+  held = record {
+    room = c.clear.ensures.room ∙ ap room c.forget_words.ensures.changed ∙ fits.held.room;
+    dues = ap length c.clear-2.ensures ∙ length-replicate _ _ ∙ ap length c.forget_words.ensures.dues ∙ fits.held.dues;
+    early = λ m. omega (arith, ap (λ (x : Mailbox). x.after) (empty c m));
+  };
+}
+
+pub returns-clause-fits : goal.returns-clause-fits
+returns-clause-fits c = λ b fits. kept c b fits
 
 pub returns-clause-stands : goal.returns-clause-stands
 returns-clause-stands c = λ b words fits none.
-    let was = c.args.self.now in
-    let held = was.held.received in
-    let new : Params = record { clock = 0; held = record { received = boxed_slice_with_items held c.fill.new.self; changed = c.clear.new.self; dues = c.clear-2.new.self }; rules = was.rules } in
-    let wiped : new.held.received.items.items ≡ replicate (length held.items.items) None =
-    with_items_is held.items c.fill.new.self (c.fill.ensures.len ∙ ap length c.as_mut_slice.ensures.value ∙ sym held.items.ok.0)
-    ∙ c.fill.ensures.after (λ y same. search rules) ∙ ap (λ l. replicate (length l) None) c.as_mut_slice.ensures.value in
-    let kept : ParamsFit b new = record {
-      sound = fits.sound;
-      rules = fits.rules;
-      held = record {
-        places = ap length wiped ∙ length-replicate (length held.items.items) None ∙ fits.held.places;
-        room = c.clear.ensures.room ∙ fits.held.room;
-        dues = ap length c.clear-2.ensures ∙ length-replicate _ _ ∙ fits.held.dues;
-        each = λ q. held_none b.parameters 0 new.held.received.items.items (length held.items.items) q wiped;
-      };
-    } in
-    start b words new (length held.items.items) kept none wiped c.clear.ensures.none
+    start b words (cleared c) (kept c b fits) none (λ m. ap (λ (x : Mailbox). x.after) (empty c m)) c.clear.ensures.none

@@ -1,14 +1,14 @@
-use Rattle.std.proofs.Common.{◌<◌, length, get_or, None, arith}
+use Rattle.std.proofs.Common.{◌<◌, length, get_or, arith}
 use Rattle.std.proofs.lemmas.List.{get_or_default}
 use Rattle.std.proofs.lemmas.List.Edits.{map_over_more}
-use Rattle.param_table.specs.HeldValues.{set_back}
+use Rattle.param_table.specs.HeldValues.{set_back, unused}
 use Rattle.param_table.proofs.table.Params.set_clock_back.Goals as goal
 
-pub loop-received-preserved : goal.loop-received-preserved
-loop-received-preserved c =
-    let ys = c.loop-received.received-items in
-    let i = c.loop-received.received-index in
-    let here = get_or ys i None in
-    let within : i < length c.deref_mut-received-items.result.now = omega arith in
+pub loop-mailbox-preserved : goal.loop-mailbox-preserved
+loop-mailbox-preserved c =
+    let ys = c.loop-mailbox.mailbox-items in
+    let i = c.loop-mailbox.mailbox-index in
+    let here = get_or ys i unused in
+    let within : i < length c.deref_mut-mailbox-items.result.now = omega arith in
     let inside : i < length ys = omega arith in
-    rw c.set_back.ensures (map_over_more set_back c.deref_mut-received-items.result.now ys i here within c.loop-received.invariant (get_or_default ys i None here inside))
+    rw c.set_back.ensures (map_over_more set_back c.deref_mut-mailbox-items.result.now ys i here within c.loop-mailbox.invariant (get_or_default ys i unused here inside))

@@ -1,5 +1,4 @@
-use Rattle.std.proofs.Common.{◌≡◌, ℕ, false, Option, Some, None, refl, sym, ap, ◌∙◌}
-use Rattle.std.specs.Prelude.{is_some}
+use Rattle.std.proofs.Common.{◌≡◌, false, refl, sym, ap, ◌∙◌}
 use Rattle.ecam_spec.specs.Word.{is_odd}
 use Rattle.ecam_spec.specs.Value.{BusWord}
 use Rattle.book_model.specs.Sealed.{the_book}
@@ -8,25 +7,20 @@ use Rattle.param_table.specs.TableState.{ParamsFit}
 use Rattle.param_table.proofs.Tables.{word, even_word, unheard_word}
 use Rattle.param_table.proofs.table.Params.take.Goals as goal
 
-nothing : (o : Option ℕ) → is_some o ≡ false → None ≡ o
-nothing None none = refl
-nothing (Some n) none = absurd (let w : ⊥ = cc in w)
-
-pub returns-then-is_none-clause-stands : goal.returns-then-is_none-clause-stands
-returns-then-is_none-clause-stands c = λ old new k on stands.
-    let w : BusWord = record { bus = c.args.bus; bits = c.args.bits } in
-    unheard_word (the_book c.args.book.now) old new k w c.args.self.now on (nothing c.last_listener-last.result c.if-is_none.ensures ∙ c.last_listener-last.ensures.value) stands
+pub returns-in_default-clause-stands : goal.returns-in_default-clause-stands
+returns-in_default-clause-stands c = λ old new k on stands.
+    unheard_word (the_book c.args.book.now) old new k (record { bus = c.args.bus; bits = c.args.bits }) c.args.self.now on c.in_default.ensures.value stands
 
 pub returns-then-odd-clause-stands : goal.returns-then-odd-clause-stands
 returns-then-odd-clause-stands c = λ old new k on stands.
     let b = the_book c.args.book.now in
     let w : BusWord = record { bus = c.args.bus; bits = c.args.bits } in
     let before = c.args.self.now in
-    let after : Params = record { clock = before.clock; held = c.receive.new.held; rules = before.rules } in
-    let fits : ParamsFit b after = record { sound = stands.fits.sound; rules = stands.fits.rules; held = c.receive.ensures.fits } in
-    word b old new k w before after fits on refl (rw (sym c.new-word.ensures, sym c.deref.ensures.value) c.receive.ensures.received) c.receive.ensures.renews (rw (sym c.new-word.ensures) c.receive.ensures.others) stands
+    let after : Params = record { clock = before.clock; held = c.receive.new.held; routing = before.routing } in
+    let fits : ParamsFit b after = record { sound = stands.fits.sound; routed = c.receive.ensures.routed; held = c.receive.ensures.fits } in
+    word b old new k w before after fits on refl refl c.receive.ensures.received c.receive.ensures.renews c.receive.ensures.others stands
 
 pub returns-else-odd-clause-stands : goal.returns-else-odd-clause-stands
 returns-else-odd-clause-stands c = λ old new k on stands.
-    let even : is_odd c.args.bits ≡ false = ap is_odd (sym c.new-word.ensures) ∙ sym c.odd.ensures ∙ c.if-odd.false in
+    let even : is_odd c.args.bits ≡ false = ap is_odd (sym c.new.ensures) ∙ sym c.odd.ensures ∙ c.if-odd.false in
     even_word (the_book c.args.book.now) old new k (record { bus = c.args.bus; bits = c.args.bits }) c.args.self.now on even stands

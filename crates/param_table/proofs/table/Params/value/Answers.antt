@@ -5,13 +5,13 @@ use Rattle.param_table.proofs.Values.{value_is, few_sources}
 use Rattle.param_table.proofs.table.Params.value.Goals as goal
 
 pub overflow_mul-param : goal.overflow_mul-param
-overflow_mul-param c = omega (arith, c.requires.fits.held.places, many-parameters c.args.book.now, c.requires.param, c.args.self.now.held.received.items.ok.0)
+overflow_mul-param c = omega (arith, c.requires.fits.routed.rules.count, many-parameters c.args.book.now, c.requires.param, c.args.self.now.routing.rules.items.ok.0)
 
-pub first_value-requires : goal.first_value-requires
-first_value-requires c = omega (arith, c.requires.fits.held.places, many-parameters c.args.book.now, c.requires.param)
+pub first_value-requires-clause-place : goal.first_value-requires-clause-place
+first_value-requires-clause-place c = omega (arith, c.requires.fits.routed.rules.count, many-parameters c.args.book.now, c.requires.param)
 
 pub returns-clause-value : goal.returns-clause-value
 returns-clause-value c = λ words k stands.
     let b = the_book c.args.book.now in
     let few = few_sources b c.args.param c.requires.fits.sound (omega (arith, many-parameters c.args.book.now, c.requires.param)) in
-    c.first_value.ensures ∙ value_is b words k c.args.self.now c.args.param stands few
+    c.first_value.ensures.value ∙ value_is b words k c.args.self.now c.args.param stands few

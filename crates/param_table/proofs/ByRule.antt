@@ -1,0 +1,43 @@
+-- The rules of all places, and what a source holds by its rule.
+use Rattle.std.proofs.Common.{◌≡◌, ℕ, ◌*◌, ◌≤◌, List, length, get_or, Option, Some, None, refl, sym, ap, ◌∙◌, subst, arith, inl, inr}
+use Rattle.std.specs.Option.{option_map_or}
+use Rattle.std.proofs.lemmas.Bool.{cases_lt}
+use Rattle.std.proofs.lemmas.Option.{same_Some, none-some}
+use Rattle.std.proofs.lemmas.List.{get_or_past}
+use Rattle.ecam_spec.specs.Book.{Source, Parameter}
+use Rattle.book_model.specs.View.{source_of}
+use Rattle.book_model.specs.SourcePlaces.{source_at}
+use Rattle.book_model.proofs.SourcePlaces.{no_source}
+use Rattle.param_table.specs.declared.rules.Rule.{Rule}
+use Rattle.param_table.specs.declared.mailbox.Mailbox.{Mailbox}
+use Rattle.param_table.specs.HeldValues.{nothing, unused, held_for, received_at}
+use Rattle.param_table.specs.Rules.{IsRule, RuleIs, AreRules}
+
+-- past the end there is neither a rule nor a source
+pub rule-is : (params : List Parameter) (n : ℕ) (rules : List (Option Rule)) → AreRules params n rules → 3 * length params ≤ n → (q : ℕ) → IsRule params q (get_or rules q None)
+rule-is params n rules are many q = elim (cases_lt q n) [
+  | inl within ↦ are.each q within
+  | inr past ↦ subst (IsRule params q) (sym (get_or_past rules q None (omega (arith, past, are.count)))) (no_source params q (omega arith))
+]
+
+-- the rule of a source
+pub some_rule : (params : List Parameter) (q : ℕ) (s : Source) (o : Option Rule) → IsRule params q o → source_at params q ≡ Some s → (r : Rule) × (o ≡ Some r) × RuleIs params q r
+some_rule params q s None none there = absurd (none-some s (sym none ∙ there))
+some_rule params q s (Some r) rule there = (r, refl, rule)
+
+-- the source of a rule
+pub rule_source : (params : List Parameter) (q : ℕ) (r : Rule) (o : Option Rule) → IsRule params q o → o ≡ Some r → RuleIs params q r
+rule_source params q r None rule is = absurd (none-some r is)
+rule_source params q r (Some t) rule is = subst (RuleIs params q) (same_Some t r is) rule
+
+pub no_rule : (params : List Parameter) (q : ℕ) (o : Option Rule) → IsRule params q o → source_at params q ≡ None → o ≡ None
+no_rule params q None rule none = refl
+no_rule params q (Some r) rule none = absurd (none-some (source_of r.source) (sym none ∙ rule.source))
+
+-- what is held where no rule is, and by a rule
+pub by_none : (rules : List (Option Rule)) (mailboxes : List Mailbox) (q : ℕ) → get_or rules q None ≡ None → received_at rules mailboxes q ≡ nothing
+by_none rules mailboxes q is = ap (λ o. option_map_or (λ (r : Rule). held_for (get_or mailboxes r.mailbox unused) r.stale) o nothing) is
+
+pub by_rule : (rules : List (Option Rule)) (mailboxes : List Mailbox) (q : ℕ) (r : Rule) → get_or rules q None ≡ Some r
+    → received_at rules mailboxes q ≡ held_for (get_or mailboxes r.mailbox unused) r.stale
+by_rule rules mailboxes q r is = ap (λ o. option_map_or (λ (r : Rule). held_for (get_or mailboxes r.mailbox unused) r.stale) o nothing) is
