@@ -1,4 +1,5 @@
 pub mod Passing
+pub mod Places
 pub mod Adding
 pub mod Blocks
 pub mod Titles

@@ -7,11 +7,12 @@ ghost use Rattle.book_model.specs.View.{memo_of};
 ghost use Rattle.book_model.specs.Sealed.{the_book};
 ghost use Rattle.zone_rows.specs.Tracked.{TrackedRows, tracked, IsWhole};
 ghost use Rattle.zone_rows.specs.Mended.{Appends, IsFilled};
-ghost use Rattle.std.specs.Prelude.{filter, map, take, true};
+ghost use Rattle.std.specs.Prelude.{filter, map, take, true, IfSome};
 ghost use Rattle.ecam_spec.specs.declared.limits.TheConstants.{MEMOS};
 ghost use Rattle.ecam_spec.specs.Screen.{order};
 ghost use Rattle.book_model.specs.Told.{TellsOf, flagged, TellsBelow};
 ghost use Rattle.warning_display.specs.Memos.{memo_rows};
+ghost use Rattle.warning_display.specs.ShownPlaces.{HasPlaces};
 ghost use Rattle.warning_display.specs.LeftRows.{alert_block, in_order, rows_in, blocks, left_of, FillsLeft};
 
 use crate::counted::ZONE;
@@ -20,6 +21,7 @@ use crate::procedure::{part, put_alert};
 use crate::search::{count_shown, next_shown};
 use book_model::{Book, Memo};
 use ecam_kinds::{Colour, Picture, ROWS, Row};
+use wakes::Marked;
 use zone_rows::{LEFT, blank_rest, put_next};
 
 /// What doesn't fit into the seven rows of the left zone: how many titles stand beyond them, and whether any row
@@ -60,10 +62,13 @@ fn put_first(
     changed: &mut [bool],
     book: &Book,
     shown: &[bool],
+    ranked: Option<&Marked>,
     lines: &[bool],
 ) -> (usize, usize)
     requires whole { IsWhole (tracked rows.old changed.old) }
     requires shown { length shown.now ≡ length book.now.alerts.items }
+    requires ranked { IfSome ranked
+        (λ set. HasPlaces (order (the_book book.now)) shown.now set.now) }
     requires lines { length lines.now ≡ length (lines_of (the_book book.now).alerts) }
     ensures whole { IsWhole (tracked rows.new changed.new) }
     ensures next { result.1 ≤ length (order (the_book book.now)) }
@@ -80,13 +85,13 @@ fn put_first(
 {
     let order = book.order();
     let mut count = 0;
-    let mut next = next_shown(order, shown, 0);
+    let mut next = next_shown(order, shown, ranked, 0);
     while next < order.len() {
         if count >= ZONE {
             return (count, next);
         }
         count = put_block(rows, changed, count, book, order[next] as usize, lines);
-        next = next_shown(order, shown, next + 1);
+        next = next_shown(order, shown, ranked, next + 1);
     }
     (count, next)
 }
@@ -98,10 +103,13 @@ fn put_alerts(
     changed: &mut [bool],
     book: &Book,
     shown: &[bool],
+    ranked: Option<&Marked>,
     lines: &[bool],
 ) -> (usize, u32)
     requires whole { IsWhole (tracked rows.old changed.old) }
     requires shown { length shown.now ≡ length book.now.alerts.items }
+    requires ranked { IfSome ranked
+        (λ set. HasPlaces (order (the_book book.now)) shown.now set.now) }
     requires lines { length lines.now ≡ length (lines_of (the_book book.now).alerts) }
     ensures whole { IsWhole (tracked rows.new changed.new) }
     ensures rows { (stands : plain.Line → Bool)
@@ -114,8 +122,8 @@ fn put_alerts(
         → result.1 ≡ overflow (blocks (the_book book.now) stands
         (in_order (the_book book.now) (flagged shown.now))) }
 {
-    let (count, next) = put_first(rows, changed, book, shown, lines);
-    let beyond = count_shown(book.order(), shown, next);
+    let (count, next) = put_first(rows, changed, book, shown, ranked, lines);
+    let beyond = count_shown(book.order(), shown, ranked, next);
     if beyond > 0 {
         return (ZONE + 1, beyond);
     }
@@ -156,12 +164,15 @@ fn fill_zone(
     changed: &mut [bool],
     book: &Book,
     shown: &[bool],
+    ranked: Option<&Marked>,
     lines: &[bool],
     memos: &[bool],
     normal: bool,
 ) -> LeftCount
     requires whole { IsWhole (tracked rows.old changed.old) }
     requires shown { length shown.now ≡ length book.now.alerts.items }
+    requires ranked { IfSome ranked
+        (λ set. HasPlaces (order (the_book book.now)) shown.now set.now) }
     requires lines { length lines.now ≡ length (lines_of (the_book book.now).alerts) }
     requires memos { length memos.now ≡ length book.now.memos.items }
     ensures whole { IsWhole (tracked rows.new changed.new) }
@@ -172,7 +183,7 @@ fn fill_zone(
         FillsLeft (left_of (the_book book.now) stands holds alerts normal) result
         (tracked rows.old changed.old) (tracked rows.new changed.new) }
 {
-    let (titled, beyond) = put_alerts(rows, changed, book, shown, lines);
+    let (titled, beyond) = put_alerts(rows, changed, book, shown, ranked, lines);
     let count = put_calm(rows, changed, titled, book.memos(), memos, normal);
     blank_rest(rows, changed, LEFT, ZONE, count);
     LeftCount {
@@ -211,6 +222,44 @@ pub fn fill_left(
         changed,
         book,
         shown,
+        None,
+        lines,
+        memos,
+        normal,
+    )
+}
+
+/// The same, where `ranked` has the places of the shown alerts in the book's order. Costs a look for each 64 alerts, and at
+/// the lines of those that are drawn.
+pub fn fill_left_ranked(
+    book: &Book,
+    shown: &[bool],
+    ranked: &Marked,
+    lines: &[bool],
+    memos: &[bool],
+    normal: bool,
+    picture: &mut Picture,
+    changed: &mut [bool; ROWS],
+) -> LeftCount
+    requires shown { length shown.now ≡ length book.now.alerts.items }
+    requires ranked { HasPlaces (order (the_book book.now)) shown.now ranked.now }
+    requires lines { length lines.now ≡ length (lines_of (the_book book.now).alerts) }
+    requires memos { length memos.now ≡ length book.now.memos.items }
+    ensures whole { IsWhole (tracked picture.new.rows changed.new) }
+    ensures rows { (is_shown : ℕ → Bool) (stands : plain.Line → Bool) (holds : plain.Memo → Bool)
+        → TellsBelow (length book.now.alerts.items) shown.now is_shown
+        → TellsOf lines.now (lines_of (the_book book.now).alerts) stands
+        → TellsOf memos.now (the_book book.now).memos holds
+        → let alerts = in_order (the_book book.now) is_shown in
+        FillsLeft (left_of (the_book book.now) stands holds alerts normal) result
+        (tracked picture.old.rows changed.old) (tracked picture.new.rows changed.new) }
+{
+    fill_zone(
+        &mut picture.rows,
+        changed,
+        book,
+        shown,
+        Some(ranked),
         lines,
         memos,
         normal,

@@ -16,5 +16,5 @@ mod search;
 
 pub use flags::fill_flags;
 pub use lamps::fill_lamps;
-pub use left::{LeftCount, fill_left};
+pub use left::{LeftCount, fill_left, fill_left_ranked};
 pub use right::fill_right;

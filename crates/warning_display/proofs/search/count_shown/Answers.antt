@@ -1,16 +1,15 @@
-use Rattle.std.proofs.Common.{length, drop, take, ap, arith}
-use Rattle.std.specs.Prelude.{filter}
-use Rattle.std.proofs.lemmas.List.{take_all, length-append}
-use Rattle.book_model.specs.Told.{flagged}
-use Rattle.warning_display.proofs.Passing.{filter-parts}
+use Rattle.std.proofs.Common.{length, subst, arith}
+use Rattle.std.specs.Prelude.{IfSome}
+use Rattle.warning_display.specs.ShownPlaces.{HasPlaces}
+use Rattle.warning_display.proofs.Places.{few-below, counts-behind}
 use Rattle.warning_display.proofs.search.count_shown.Goals as goal
 
-pub returns : goal.returns
-returns c =
-    let shown = flagged c.args.shown.now in
+pub overflow_cast-result : goal.overflow_cast-result
+overflow_cast-result c = omega (arith, c.count_from.ensures, few-below c.in-Some.ranked.now (length c.args.order.now), c.requires.few)
+
+pub returns-in-Some : goal.returns-in-Some
+returns-in-Some c =
     let order = c.args.order.now in
-    let before = filter shown (take c.args.from order) in
-    let all = ap (λ xs. length (filter shown xs)) (take_all c.loop-i.i order c.loop-i-test.false) in
-    let parts = ap length (filter-parts shown c.args.from order) in
-    let sum = length-append before (filter shown (drop c.args.from order)) in
-    omega (arith, all, parts, sum, c.loop-i.invariant.counted)
+    let shown = c.args.shown.now in
+    let places = subst (λ o. IfSome o (λ set. HasPlaces order shown set.now)) c.in-Some.is c.requires.ranked in
+    counts-behind order shown c.in-Some.ranked.now places c.args.from c.count_from.result c.requires.from c.count_from.ensures

@@ -1,6 +1,6 @@
 use Rattle.std.proofs.Common.{◌≡◌, ◌≤◌, ◌+◌, take, filter, length}
 use Rattle.book_model.specs.Told.{flagged}
-use Rattle.warning_display.proofs.search.count_shown.Given as goal
+use Rattle.warning_display.proofs.search.count_flags.Given as goal
 
 abbrev pub invariant-loop-i : goal.invariant-loop-i
 invariant-loop-i l = record {
