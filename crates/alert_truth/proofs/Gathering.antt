@@ -19,20 +19,22 @@ use Rattle.alert_truth.proofs.Staying.{stays-same, waits-on}
 use Rattle.alert_truth.proofs.Stepping.{rests-by, moment-begins}
 
 -- those that are due are put into a set, and have no key as long as they aren't stepped
-pub record Gathers (turned : Bool) (old : Truths) (dues : Wakes) (due : Marked) : Type 0 where
+pub record Gathers (turned : Bool) (old : Truths) (dues : Wakes) (due others : Marked) : Type 0 where
   pub places : room due ≡ room old.due
+  pub emptied : room others ≡ room old.turned
   pub len : length dues ≡ length old.dues
   pub marks : (a : ℕ) → a < length old.dues → is_marked due a ≡ (leb (slice_index old.dues a) old.moments || (turned && is_marked old.restless a))
   pub keys : (a : ℕ) → a < length old.dues → slice_index dues a ≡ cond (leb (slice_index old.dues a) old.moments) never (slice_index old.dues a)
 
-pub gathered-fits : (b : Book) (turned : Bool) (old : Truths) (dues : Wakes) (due : Marked) → Gathers turned old dues due → TruthsFit b old → TruthsFit b (record old { dues = dues; due = due })
-gathered-fits b turned old dues due gathers fits = record {
+pub gathered-fits : (b : Book) (turned : Bool) (old : Truths) (dues : Wakes) (due others : Marked) → Gathers turned old dues due others → TruthsFit b old → TruthsFit b (record old { dues = dues; due = due; turned = others })
+gathered-fits b turned old dues due others gathers fits = record {
   since = fits.since;
   present = fits.present;
   active = fits.active;
   waiting = fits.waiting;
   near_room = fits.near_room;
   due_room = gathers.places ∙ fits.due_room;
+  turned_room = gathers.emptied ∙ fits.turned_room;
   room = fits.room;
   dues = gathers.len ∙ fits.dues;
   restless = fits.restless;
@@ -44,15 +46,15 @@ cond-both : (c : Bool) (x y : ℕ) → x ≡ y → cond c x y ≡ x
 cond-both true x y e = refl
 cond-both false x y e = sym e
 
-module _ (b : Book) (conditions : ℕ → Signal) (phases : ℕ → ℕ) (turned : Bool) (old : Truths) (dues : Wakes) (due : Marked) (gathers : Gathers turned old dues due) where
+module _ (b : Book) (conditions : ℕ → Signal) (phases : ℕ → ℕ) (turned : Bool) (old : Truths) (dues : Wakes) (due others : Marked) (gathers : Gathers turned old dues due others) where
   new : Truths
-  new = record old { dues = dues; due = due }
+  new = record old { dues = dues; due = due; turned = others }
 
-  pub gathered-half : (k : ℕ) → TruthsStand b conditions phases k old → HalfStand b conditions phases k 0 (record old { dues = dues; due = due })
+  pub gathered-half : (k : ℕ) → TruthsStand b conditions phases k old → HalfStand b conditions phases k 0 (record old { dues = dues; due = due; turned = others })
   gathered-half k stands =
       let half = moment-begins b conditions phases k old stands in
       record {
-        fits = gathered-fits b turned old dues due gathers stands.fits;
+        fits = gathered-fits b turned old dues due others gathers stands.fits;
         moments = half.moments;
         stepped = λ a below. absurd (omega arith);
         left = λ a from within. let was = stands.each a within in record { since = was.since; present = was.present; active = was.active; waiting = was.waiting };
@@ -68,6 +70,7 @@ module _ (b : Book) (conditions : ℕ → Signal) (phases : ℕ → ℕ) (turned
             };
         stars = half.stars;
         changing = half.changing;
+        turned = λ a below. absurd (omega (arith, below));
         changed = half.changed;
         stars_turned = half.stars_turned;
       }

@@ -1,7 +1,8 @@
+pub mod Blank
 pub mod Moments
 pub mod Staying
 pub mod Listings
-pub mod Secondaries
+pub mod Linking
 pub mod Starring
 pub mod Nearing
 pub mod Keys

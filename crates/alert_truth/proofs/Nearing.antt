@@ -1,11 +1,10 @@
--- Going over the near alerts alone, while some become near and others no longer are.
-use Rattle.std.proofs.Common.{◌≡◌, ℕ, suc, ◌<◌, ◌≤◌, Bool, true, false, not, ◌&&◌, ◌||◌, ◌==◌, List, get_or, Option, Some, None, cond, inl, inr, refl, sym, ap, ◌∙◌, subst, arith}
+-- Which alerts are near while some are settled.
+use Rattle.std.proofs.Common.{◌≡◌, ℕ, suc, ◌<◌, ◌≤◌, Bool, true, false, not, ◌&&◌, ◌==◌, List, get_or, Option, Some, None, inl, inr, refl, sym, ap, ◌∙◌, subst, arith}
 use Rattle.std.specs.Prelude.{is_some, ◌↔◌}
-use Rattle.std.specs.List.{list_any}
-use Rattle.std.specs.Option.{option_or}
-use Rattle.std.proofs.lemmas.Bool.{cases_lt, cases_eq, ne_eqb, or_parts}
+use Rattle.std.proofs.lemmas.Bool.{cases_lt, cases_eq, ne_eqb}
 use Rattle.std.proofs.lemmas.List.{get_or-set_same, get_or-set_other}
 use Rattle.wakes.specs.Marks.{is_marked}
+use Rattle.wakes.specs.declared.marked.Marked.{Marked}
 use Rattle.ecam_spec.specs.Book.{Book}
 use Rattle.alert_truth.specs.Stars.{StarsFit, HasPlace, Takes, IsAway}
 use Rattle.alert_truth.specs.TruthsState.{AreNear}
@@ -51,9 +50,8 @@ none-unless None m marks off = refl
 none-unless (Some x) m marks off = absurd (let w : true ≡ false = sym (marks refl) ∙ off in cc)
 
 -- nothing is told of an alert that isn't near
-pub near-away : (b : Book) (t : Truths) → AreNear t → StarsFit b t.stars → (a : ℕ) → is_marked t.near a ≡ false → IsAway a t.stars
-near-away b t near fits a off = record {
-  found = fits.settled a;
+pub near-away : (t : Truths) → AreNear t → (a : ℕ) → is_marked t.near a ≡ false → IsAway a t.stars
+near-away t near a off = record {
   primaries = none-unless (get_or t.stars.primaries.items a None) (is_marked t.near a) (near.primaries a) off;
   starred = off-unless (get_or t.stars.starred.items a false) (is_marked t.near a) (near.starred a) off;
   up = off-unless (get_or t.stars.up.items a false) (is_marked t.near a) (near.up a) off;
@@ -72,11 +70,11 @@ pub record IsNearing (acts shows waits : List Bool) (initial now : Stars) (near 
 -- the turn is told anew
 pub quiet-fits : (b : Book) (s : Stars) → StarsFit b s → StarsFit b (record s { turned = false })
 quiet-fits b s fits = record {
-  found = fits.found;
+  listers = fits.listers;
+  asked = fits.asked;
   primaries = fits.primaries;
   starred = fits.starred;
   up = fits.up;
-  settled = fits.settled;
 }
 
 pub quiet-near : (t : Truths) → AreNear t → AreNear (record t { stars = record t.stars { turned = false } })
@@ -90,14 +88,14 @@ quiet-near t near = record {
 }
 
 module _ (on present waiting : List Bool) (initial : Stars) where
-  pub nearing-begins : (near : List ℕ) → ((a : ℕ) → get_or on a false ≡ true → is_marked near a ≡ true) → ((a : ℕ) → get_or present a false ≡ true → is_marked near a ≡ true)
+  pub nearing-begins : (asked : Marked) (near : List ℕ) → ((a : ℕ) → get_or on a false ≡ true → is_marked near a ≡ true) → ((a : ℕ) → get_or present a false ≡ true → is_marked near a ≡ true)
       → ((a : ℕ) → get_or waiting a false ≡ true → is_marked near a ≡ true) → ((a : ℕ) → is_marked near a ≡ false → IsAway a initial)
-      → IsNearing on present waiting initial (record initial { turned = false }) near 0
-  nearing-begins near acts shows waits away = record {
+      → IsNearing on present waiting initial (record initial { asked = asked; turned = false }) near 0
+  nearing-begins asked near acts shows waits away = record {
     active = acts;
     present = shows;
     waiting = waits;
-    away = λ a off. let was = away a off in record { found = was.found; primaries = was.primaries; starred = was.starred; up = was.up };
+    away = λ a off. let was = away a off in record { primaries = was.primaries; starred = was.starred; up = was.up };
     turned = (λ e a below. absurd (omega (arith, below)), λ same. refl);
     left = λ a from. refl;
   }
@@ -119,41 +117,35 @@ module _ (on present waiting : List Bool) (initial : Stars) where
     left = λ a from. is.left a (omega (arith, from, order));
   }
 
-  -- so they are passed over
-  pub nearing-away : (now : Stars) (near : List ℕ) (i : ℕ) → IsNearing on present waiting initial now near i → (a : ℕ) → is_marked near a ≡ false
-      → (get_or on a false ≡ false) × IsAway a now
-  nearing-away now near i is a off = (off-unless (get_or on a false) (is_marked near a) (is.active a) off, is.away a off)
-
-  -- one alert is settled
-  module _ (now next : Stars) (near : List ℕ) (i : ℕ) (has : HasPlace i now) (takes : Takes i (get_or on i false) now next) (is : IsNearing on present waiting initial now near i) where
+  -- one alert is settled, and has no primary where it isn't active
+  module _ (now next : Stars) (near : List ℕ) (i : ℕ) (primary : Option ℕ) (has : HasPlace i now) (takes : Takes i (get_or on i false) primary now next)
+      (none : get_or on i false ≡ false → primary ≡ None) (is : IsNearing on present waiting initial now near i) where
     starred-other : (a : ℕ) → (a ≡ i → ⊥) → get_or next.starred.items a false ≡ get_or now.starred.items a false
-    starred-other a apart = ap (λ xs. get_or xs a false) takes.starred ∙ get_or-set_other now.starred.items i a _ false apart
+    starred-other a apart = ap (λ xs. get_or xs a false) takes.starred ∙ get_or-set_other now.starred.items i a (is_some primary) false apart
 
     away-other : (a : ℕ) → (a ≡ i → ⊥) → IsAway a now → IsAway a next
     away-other a apart was = record {
-      found = ap (λ xs. get_or xs a None) takes.found ∙ get_or-set_other now.found.items i a None None apart ∙ was.found;
-      primaries = ap (λ xs. get_or xs a None) takes.primaries ∙ get_or-set_other now.primaries.items i a _ None apart ∙ was.primaries;
+      primaries = ap (λ xs. get_or xs a None) takes.primaries ∙ get_or-set_other now.primaries.items i a primary None apart ∙ was.primaries;
       starred = starred-other a apart ∙ was.starred;
-      up = ap (λ xs. get_or xs a false) takes.up ∙ get_or-set_other now.up.items i a _ false apart ∙ was.up;
+      up = ap (λ xs. get_or xs a false) takes.up ∙ get_or-set_other now.up.items i a (get_or on i false && not (is_some primary)) false apart ∙ was.up;
     }
 
-    -- which is away then, where it isn't active
+    -- so it is away then
     away-own : get_or on i false ≡ false → IsAway i next
-    away-own off =
-        let none : cond (get_or on i false) (get_or now.found.items i None) None ≡ None = ap (λ f. cond f (get_or now.found.items i None) None) off in
-        record {
-          found = ap (λ xs. get_or xs i None) takes.found ∙ get_or-set_same now.found.items i None None has.found;
-          primaries = ap (λ xs. get_or xs i None) takes.primaries ∙ get_or-set_same now.primaries.items i _ None has.primaries ∙ none;
-          starred = ap (λ xs. get_or xs i false) takes.starred ∙ get_or-set_same now.starred.items i _ false has.starred ∙ ap is_some none;
-          up =
-              ap (λ xs. get_or xs i false) takes.up ∙ get_or-set_same now.up.items i _ false has.up
-              ∙ ap (λ f. f && not (is_some (cond (get_or on i false) (get_or now.found.items i None) None))) off;
-        }
+    away-own off = record {
+      primaries = ap (λ xs. get_or xs i None) takes.primaries ∙ get_or-set_same now.primaries.items i primary None has.primaries ∙ none off;
+      starred = ap (λ xs. get_or xs i false) takes.starred ∙ get_or-set_same now.starred.items i (is_some primary) false has.starred ∙ ap is_some (none off);
+      up =
+          ap (λ xs. get_or xs i false) takes.up ∙ get_or-set_same now.up.items i (get_or on i false && not (is_some primary)) false has.up
+          ∙ ap (λ f. f && not (is_some primary)) off;
+    }
 
-    away-next : get_or on i false ≡ false → (a : ℕ) → is_marked near a ≡ false → IsAway a next
-    away-next off a none = elim (cases_eq a i) [
-      | inl same ↦ subst (λ n. IsAway n next) (sym same) (away-own off)
-      | inr apart ↦ away-other a apart (is.away a none)
+    away-next : (a : ℕ) → is_marked near a ≡ false → IsAway a next
+    away-next a far = elim (cases_eq a i) [
+      | inl same ↦
+          subst (λ n. IsAway n next) (sym same)
+          (away-own (off-unless (get_or on i false) (is_marked near i) (is.active i) (ap (is_marked near) (sym same) ∙ far)))
+      | inr apart ↦ away-other a apart (is.away a far)
     ]
 
     turned-next : (next.turned ≡ false) ↔ ((a : ℕ) → a < suc i → get_or next.starred.items a false ≡ get_or initial.starred.items a false)
@@ -177,12 +169,12 @@ module _ (on present waiting : List Bool) (initial : Stars) where
     left-next a from = starred-other a (λ same. omega (arith, same, from)) ∙ is.left a (omega arith)
 
     -- it stays near
-    pub nearing-kept : get_or on i false ≡ false → IsNearing on present waiting initial next near (suc i)
-    nearing-kept off = record {
+    pub nearing-kept : IsNearing on present waiting initial next near (suc i)
+    nearing-kept = record {
       active = is.active;
       present = is.present;
       waiting = is.waiting;
-      away = away-next off;
+      away = away-next;
       turned = turned-next;
       left = left-next;
     }
@@ -208,41 +200,4 @@ module _ (on present waiting : List Bool) (initial : Stars) where
         ];
         turned = turned-next;
         left = left-next;
-      }
-
-    -- or is active, and what it lists is near too
-    module _ (noted : Stars) (own : List ℕ) (more : List ℕ) (active : get_or on i false ≡ true) (primaries : noted.primaries ≡ next.primaries) (starred : noted.starred ≡ next.starred)
-        (up : noted.up ≡ next.up) (turned : noted.turned ≡ next.turned)
-        (notes : (a : ℕ) → get_or noted.found.items a None ≡ option_or (get_or next.found.items a None) (cond (list_any (λ s. s == a) own) (Some i) None))
-        (marks : (a : ℕ) → is_marked more a ≡ (list_any (λ s. s == a) own || is_marked near a)) where
-      or-true : (x : Bool) → (x || true) ≡ true
-      or-true true = refl
-      or-true false = refl
-
-      near-more : (a : ℕ) → is_marked near a ≡ true → is_marked more a ≡ true
-      near-more a is_near = marks a ∙ ap (λ m. list_any (λ s. s == a) own || m) is_near ∙ or-true (list_any (λ s. s == a) own)
-
-      away-noted : (a : ℕ) → is_marked more a ≡ false → IsAway a noted
-      away-noted a off =
-          let parts = or_parts (list_any (λ s. s == a) own) (is_marked near a) (sym (marks a) ∙ off) in
-          let apart : a ≡ i → ⊥ = λ same. (let w : true ≡ false = sym (is.active i active) ∙ ap (is_marked near) (sym same) ∙ parts.1 in cc) in
-          let was = away-other a apart (is.away a parts.1) in
-          record {
-            found = notes a ∙ ap (λ o. option_or o (cond (list_any (λ s. s == a) own) (Some i) None)) was.found ∙ ap (λ l. cond l (Some i) None) parts.0;
-            primaries = ap (λ v. get_or v.items a None) primaries ∙ was.primaries;
-            starred = ap (λ v. get_or v.items a false) starred ∙ was.starred;
-            up = ap (λ v. get_or v.items a false) up ∙ was.up;
-          }
-
-      pub nearing-more : IsNearing on present waiting initial noted more (suc i)
-      nearing-more = record {
-        active = λ a flag. near-more a (is.active a flag);
-        present = λ a flag. near-more a (is.present a flag);
-        waiting = λ a flag. near-more a (is.waiting a flag);
-        away = away-noted;
-        turned = (
-          λ e a below. ap (λ v. get_or v.items a false) starred ∙ turned-next.0 (sym turned ∙ e) a below,
-          λ all. turned ∙ turned-next.1 (λ a below. sym (ap (λ v. get_or v.items a false) starred) ∙ all a below),
-        );
-        left = λ a from. ap (λ v. get_or v.items a false) starred ∙ left-next a from;
       }

@@ -1,167 +1,110 @@
 -- The stars of a book's alerts, one alert after another.
-use Rattle.std.proofs.Common.{◌≡◌, ℕ, zero, suc, ◌+◌, ◌-◌, ◌<◌, ◌≤◌, Bool, true, false, not, ◌&&◌, eqb, All, List, length, get_or, set, replicate, Option, Some, None, cond, inl, inr, refl, sym, ap, ◌∙◌, subst, add-one, arith}
-use Rattle.std.specs.Prelude.{find, is_some, slice_get}
+use Rattle.std.proofs.Common.{◌≡◌, ℕ, zero, suc, ◌<◌, ◌≤◌, Bool, true, false, not, ◌&&◌, ◌==◌, List, [], length, get_or, replicate, Option, Some, None, cond, inl, inr, refl, sym, ap, ◌∙◌, subst, arith}
+use Rattle.std.specs.Prelude.{find, is_some}
 use Rattle.std.specs.List.{list_any}
-use Rattle.std.specs.Option.{option_or}
-use Rattle.std.proofs.lemmas.Bool.{cases_lt}
-use Rattle.std.proofs.lemmas.List.{set-get_or, length-set, get_or-set_same, get_or-set_other, get_or_past, get_or-replicate, length-replicate}
+use Rattle.std.proofs.lemmas.Bool.{cases_Bool, cases_lt}
+use Rattle.std.proofs.lemmas.List.{length-set, get_or-set_same, get_or-set_other, get_or-replicate}
 use Rattle.ecam_spec.specs.Past.{Signal, previous, previously}
 use Rattle.ecam_spec.specs.Book.{Book}
 use Rattle.ecam_spec.specs.Alert as alert
 use Rattle.ecam_spec.specs.Situation.{primaries}
-use Rattle.alert_truth.specs.Alerts.{Tells, starred_by_where}
-use Rattle.alert_truth.specs.Stars.{StarsFit, StarsStand, HasPlace, Takes, IsAway}
+use Rattle.wakes.specs.Marks.{is_marked, room}
+use Rattle.wakes.specs.declared.marked.Marked.{Marked}
+use Rattle.alert_truth.specs.Alerts.{Tells, starred_where, starred_by_where, up_where}
+use Rattle.alert_truth.specs.Listed.{ListersFit, primary_of}
+use Rattle.alert_truth.specs.Stars.{StarsFit, StarsStand, HasPlace, Takes, IsAway, IsUnasked}
 use Rattle.alert_truth.specs.declared.stars.Stars.{Stars}
-use Rattle.alert_truth.proofs.Listings.{listing, secondaries_of, find-none, find-is_some, same-primary, found-step, left-step, primaries-listing, listing-done, lists-none}
-
--- the alert's first primary, by the flags of the active alerts
-abbrev pub primary_of : Book → List Bool → ℕ → Option ℕ
-primary_of b flags a = cond (get_or flags a false) (find (λ p. get_or flags p false) (primaries b a)) None
-
--- a list in which that stands already
-set-same : {X : Type 0} (xs : List X) (i : ℕ) (d v : X) → get_or xs i d ≡ v → xs ≡ set xs i v
-set-same xs i d v is = sym (ap (set xs i) (sym is) ∙ set-get_or xs i d)
+use Rattle.alert_truth.proofs.Blank.{blank-at}
+use Rattle.alert_truth.proofs.Listings.{secondaries_of, find-is_some, same-primary}
 
 -- alert a is settled
 pub record IsTaken (b : Book) (flags : List Bool) (now : Stars) (a : ℕ) : Type 0 where
-  pub found : get_or now.found.items a None ≡ None
   pub primaries : get_or now.primaries.items a None ≡ primary_of b flags a
   pub starred : get_or now.starred.items a false ≡ is_some (primary_of b flags a)
   pub up : get_or now.up.items a false ≡ (get_or flags a false && not (is_some (primary_of b flags a)))
 
--- the alerts below i are settled, and in the others those below n have noted themselves
-pub record IsHalfTaken (b : Book) (flags : List Bool) (now : Stars) (i n : ℕ) : Type 0 where
-  pub found_places : length now.found.items ≡ length b.alerts
-  pub primary_places : length now.primaries.items ≡ length b.alerts
-  pub starred_places : length now.starred.items ≡ length b.alerts
-  pub up_places : length now.up.items ≡ length b.alerts
-  pub taken : (a : ℕ) → a < i → IsTaken b flags now a
-  pub found : (a : ℕ) → i ≤ a → get_or now.found.items a None ≡ find (λ p. get_or flags p false) (listing (secondaries_of b) a n)
+-- or is as it was
+pub record IsLeft (initial now : Stars) (a : ℕ) : Type 0 where
+  pub primaries : get_or now.primaries.items a None ≡ get_or initial.primaries.items a None
+  pub starred : get_or now.starred.items a false ≡ get_or initial.starred.items a false
+  pub up : get_or now.up.items a false ≡ get_or initial.up.items a false
 
-pub nothing-taken : (b : Book) (flags : List Bool) (s : Stars) → StarsFit b s → IsHalfTaken b flags s 0 0
-nothing-taken b flags s fits = record {
-  found_places = fits.found;
-  primary_places = fits.primaries;
-  starred_places = fits.starred;
-  up_places = fits.up;
-  taken = λ a below. absurd (omega arith);
-  found = λ a from. fits.settled a ∙ sym (find-none (λ p. get_or flags p false) (secondaries_of b) a);
-}
+-- of the alerts that are asked those below i are settled, and the others are as they were
+pub record IsHalfTaken (b : Book) (flags : List Bool) (initial now : Stars) (asked : Marked) (i : ℕ) : Type 0 where
+  pub fits : StarsFit b now
+  pub keeps : now.asked ≡ asked
+  pub taken : (a : ℕ) → a < i → is_marked asked a ≡ true → IsTaken b flags now a
+  pub unasked : (a : ℕ) → is_marked asked a ≡ false → IsLeft initial now a
+  pub left : (a : ℕ) → i ≤ a → IsLeft initial now a
 
-pub place-of-alert : (b : Book) (flags : List Bool) (now : Stars) (i n : ℕ) → i < length b.alerts → IsHalfTaken b flags now i n → HasPlace i now
-place-of-alert b flags now i n within half = record {
-  found = omega (arith, half.found_places);
-  primaries = omega (arith, half.primary_places);
-  starred = omega (arith, half.starred_places);
-  up = omega (arith, half.up_places);
-}
-
-module _ (b : Book) (flags : List Bool) (later : (n : ℕ) (own : List ℕ) → slice_get (secondaries_of b) n ≡ Some own → All (λ s. n < s) own) where
-  -- all that lists an alert has noted itself by then
-  found-all : (i : ℕ) → i < length b.alerts → find (λ p. get_or flags p false) (listing (secondaries_of b) i i) ≡ find (λ p. get_or flags p false) (primaries b i)
-  found-all i within =
-      sym (listing-done (secondaries_of b) later (λ p. get_or flags p false) i (length b.alerts) (omega arith))
-      ∙ ap (find (λ p. get_or flags p false)) (sym (primaries-listing b i))
+module _ (b : Book) (flags : List Bool) (initial : Stars) (asked : Marked) where
+  pub place-of-alert : (now : Stars) (i : ℕ) → i < length b.alerts → IsHalfTaken b flags initial now asked i → HasPlace i now
+  place-of-alert now i within half = record {
+    primaries = omega (arith, within, half.fits.primaries);
+    starred = omega (arith, within, half.fits.starred);
+    up = omega (arith, within, half.fits.up);
+  }
 
   -- one more is settled
-  pub one-taken : (now next : Stars) (i : ℕ) → i < length b.alerts → Takes i (get_or flags i false) now next
-      → IsHalfTaken b flags now i i → IsHalfTaken b flags next (suc i) i
-  one-taken now next i within takes half =
-      let has = place-of-alert b flags now i i within half in
-      let other_found : (a : ℕ) → (a ≡ i → ⊥) → get_or next.found.items a None ≡ get_or now.found.items a None
-      = λ a apart. ap (λ xs. get_or xs a None) takes.found ∙ get_or-set_other now.found.items i a None None apart in
-      let left : cond (get_or flags i false) (get_or now.found.items i None) None ≡ primary_of b flags i
-      = ap (λ o. cond (get_or flags i false) o None) (half.found i (omega arith) ∙ found-all i within) in
+  pub one-taken : (now next : Stars) (i : ℕ) → i < length b.alerts → is_marked asked i ≡ true → Takes i (get_or flags i false) (primary_of b flags i) now next
+      → IsHalfTaken b flags initial now asked i → IsHalfTaken b flags initial next asked (suc i)
+  one-taken now next i within is_asked takes half =
+      let has = place-of-alert now i within half in
+      let primary = primary_of b flags i in
+      let other : (a : ℕ) → (a ≡ i → ⊥) → IsLeft now next a = λ a apart. record {
+        primaries = ap (λ xs. get_or xs a None) takes.primaries ∙ get_or-set_other now.primaries.items i a primary None apart;
+        starred = ap (λ xs. get_or xs a false) takes.starred ∙ get_or-set_other now.starred.items i a (is_some primary) false apart;
+        up = ap (λ xs. get_or xs a false) takes.up ∙ get_or-set_other now.up.items i a (get_or flags i false && not (is_some primary)) false apart;
+      } in
+      let stays : (a : ℕ) → (a ≡ i → ⊥) → IsLeft initial now a → IsLeft initial next a = λ a apart was.
+      let same = other a apart in
+      record {
+        primaries = same.primaries ∙ was.primaries;
+        starred = same.starred ∙ was.starred;
+        up = same.up ∙ was.up;
+      } in
       let own : IsTaken b flags next i = record {
-        found = ap (λ xs. get_or xs i None) takes.found ∙ get_or-set_same now.found.items i None None has.found;
-        primaries = ap (λ xs. get_or xs i None) takes.primaries ∙ get_or-set_same now.primaries.items i _ None has.primaries ∙ left;
-        starred = ap (λ xs. get_or xs i false) takes.starred ∙ get_or-set_same now.starred.items i _ false has.starred ∙ ap is_some left;
-        up = ap (λ xs. get_or xs i false) takes.up ∙ get_or-set_same now.up.items i _ false has.up ∙ ap (λ o. get_or flags i false && not (is_some o)) left;
+        primaries = ap (λ xs. get_or xs i None) takes.primaries ∙ get_or-set_same now.primaries.items i primary None has.primaries;
+        starred = ap (λ xs. get_or xs i false) takes.starred ∙ get_or-set_same now.starred.items i (is_some primary) false has.starred;
+        up = ap (λ xs. get_or xs i false) takes.up ∙ get_or-set_same now.up.items i (get_or flags i false && not (is_some primary)) false has.up;
       } in
       record {
-        found_places = ap length takes.found ∙ length-set now.found.items i _ ∙ half.found_places;
-        primary_places = ap length takes.primaries ∙ length-set now.primaries.items i _ ∙ half.primary_places;
-        starred_places = ap length takes.starred ∙ length-set now.starred.items i _ ∙ half.starred_places;
-        up_places = ap length takes.up ∙ length-set now.up.items i _ ∙ half.up_places;
-        taken = λ a below. elim (cases_lt a i) [
-          | inl earlier ↦
-              let apart : a ≡ i → ⊥ = λ e. omega arith in
-              let was = half.taken a earlier in
-              record {
-                found = other_found a apart ∙ was.found;
-                primaries = ap (λ xs. get_or xs a None) takes.primaries ∙ get_or-set_other now.primaries.items i a _ None apart ∙ was.primaries;
-                starred = ap (λ xs. get_or xs a false) takes.starred ∙ get_or-set_other now.starred.items i a _ false apart ∙ was.starred;
-                up = ap (λ xs. get_or xs a false) takes.up ∙ get_or-set_other now.up.items i a _ false apart ∙ was.up;
-              }
-          | inr reached ↦ let same : i ≡ a = omega arith in subst (IsTaken b flags next) same own
-        ];
-        found = λ a from. other_found a (λ e. omega arith) ∙ half.found a (omega arith);
-      }
-
-  or-none : (o : Option ℕ) (lists_it : Bool) (i : ℕ) → o ≡ None → lists_it ≡ false → option_or o (cond lists_it (Some i) None) ≡ None
-  or-none o lists_it i is none = ap (λ x. option_or x (cond lists_it (Some i) None)) is ∙ ap (λ b. cond b (Some i) None) none
-
-  -- and notes itself, where it is active
-  pub one-noted : (now next : Stars) (own : List ℕ) (i : ℕ) → slice_get (secondaries_of b) i ≡ Some own → get_or flags i false ≡ true
-      → next.primaries ≡ now.primaries → next.starred ≡ now.starred → next.up ≡ now.up → length next.found.items ≡ length now.found.items
-      → ((a : ℕ) → get_or next.found.items a None ≡ option_or (get_or now.found.items a None) (cond (list_any (λ s. eqb s a) own) (Some i) None))
-      → IsHalfTaken b flags now (suc i) i → IsHalfTaken b flags next (suc i) (i + 1)
-  one-noted now next own i at active primaries starred up places notes half = record {
-    found_places = places ∙ half.found_places;
-    primary_places = ap (λ v. length v.items) primaries ∙ half.primary_places;
-    starred_places = ap (λ v. length v.items) starred ∙ half.starred_places;
-    up_places = ap (λ v. length v.items) up ∙ half.up_places;
-    taken = λ a below.
-        let was = half.taken a below in
-        record {
-          found = notes a ∙ or-none (get_or now.found.items a None) (list_any (λ s. eqb s a) own) i was.found (lists-none own i a (later i own at) (omega arith));
-          primaries = ap (λ v. get_or v.items a None) primaries ∙ was.primaries;
-          starred = ap (λ v. get_or v.items a false) starred ∙ was.starred;
-          up = ap (λ v. get_or v.items a false) up ∙ was.up;
+        fits = record {
+          listers = subst (ListersFit b) (sym takes.listers) half.fits.listers;
+          asked = ap (λ (m : Marked). room m) takes.asked ∙ half.fits.asked;
+          primaries = ap length takes.primaries ∙ length-set now.primaries.items i primary ∙ half.fits.primaries;
+          starred = ap length takes.starred ∙ length-set now.starred.items i (is_some primary) ∙ half.fits.starred;
+          up = ap length takes.up ∙ length-set now.up.items i (get_or flags i false && not (is_some primary)) ∙ half.fits.up;
         };
-    found = λ a from.
-        found-step (λ p. get_or flags p false) (secondaries_of b) a i (get_or now.found.items a None) (get_or next.found.items a None) own at active (half.found a from) (notes a);
-  }
-
-  -- else it is passed over
-  pub one-left : (now : Stars) (i : ℕ) → get_or flags i false ≡ false → IsHalfTaken b flags now (suc i) i → IsHalfTaken b flags now (suc i) (i + 1)
-  one-left now i quiet half = record {
-    found_places = half.found_places;
-    primary_places = half.primary_places;
-    starred_places = half.starred_places;
-    up_places = half.up_places;
-    taken = half.taken;
-    found = λ a from. left-step (λ p. get_or flags p false) (secondaries_of b) a i (get_or now.found.items a None) quiet (half.found a from);
-  }
-
-  -- one that is away takes over nothing
-  away-takes : (now : Stars) (i : ℕ) → get_or flags i false ≡ false → IsAway i now → Takes i (get_or flags i false) now now
-  away-takes now i off away =
-      let none : cond (get_or flags i false) (get_or now.found.items i None) None ≡ None =
-      ap (λ f. cond f (get_or now.found.items i None) None) off in
-      record {
-        found = set-same now.found.items i None None away.found;
-        primaries = set-same now.primaries.items i None _ (away.primaries ∙ sym none);
-        starred = set-same now.starred.items i false _ (away.starred ∙ sym (ap is_some none));
-        up = set-same now.up.items i false _ (away.up ∙ sym (ap (λ f. f && not (is_some (cond (get_or flags i false) (get_or now.found.items i None) None))) off));
-        turned = (λ e. (e, refl), λ both. both.0);
+        keeps = takes.asked ∙ half.keeps;
+        taken = λ a below is. elim (cases_lt a i) [
+          | inl earlier ↦
+              let was = half.taken a earlier is in
+              let same = other a (λ e. omega (arith, e, earlier)) in
+              record {
+                primaries = same.primaries ∙ was.primaries;
+                starred = same.starred ∙ was.starred;
+                up = same.up ∙ was.up;
+              }
+          | inr reached ↦ let same : i ≡ a = omega (arith, reached, below) in subst (IsTaken b flags next) same own
+        ];
+        unasked = λ a off. stays a (λ e. (let w : true ≡ false = sym is_asked ∙ ap (is_marked asked) (sym e) ∙ off in cc)) (half.unasked a off);
+        left = λ a from. stays a (λ e. omega (arith, e, from)) (half.left a (omega (arith, from)));
       }
 
-  -- those that are away need no look
-  pub half-skip : (now : Stars) (i d : ℕ) → i + d ≤ length b.alerts → ((a : ℕ) → i ≤ a → a < i + d → (get_or flags a false ≡ false) × IsAway a now)
-      → IsHalfTaken b flags now i i → IsHalfTaken b flags now (i + d) (i + d)
-  half-skip now i zero within away half = let e : i ≡ i + 0 = omega arith in subst (λ n. IsHalfTaken b flags now n n) e half
-  half-skip now i (suc d) within away half =
-      let here = away i (omega arith) (omega arith) in
-      let e : suc i + d ≡ i + suc d = omega arith in
-      let on = subst (λ n. IsHalfTaken b flags now (suc i) n) (add-one i) (one-left now i here.0 (one-taken now now i (omega arith) (away-takes now i here.0 here.1) half)) in
-      subst (λ n. IsHalfTaken b flags now n n) e (half-skip now (suc i) d (omega arith) (λ a from below. away a (omega arith) (omega arith)) on)
-
-  pub half-on : (now : Stars) (i j : ℕ) → i ≤ j → j ≤ length b.alerts → ((a : ℕ) → i ≤ a → a < j → (get_or flags a false ≡ false) × IsAway a now)
-      → IsHalfTaken b flags now i i → IsHalfTaken b flags now j j
-  half-on now i j order within away half =
-      let e : i + (j - i) ≡ j = omega arith in
-      subst (λ n. IsHalfTaken b flags now n n) e (half-skip now i (j - i) (omega arith) (λ a from below. away a from (omega arith)) half)
+  -- those that aren't asked are passed over
+  pub half-on : (now : Stars) (i j : ℕ) → i ≤ j → ((a : ℕ) → i ≤ a → a < j → is_marked asked a ≡ false)
+      → IsHalfTaken b flags initial now asked i → IsHalfTaken b flags initial now asked j
+  half-on now i j order none half = record {
+    fits = half.fits;
+    keeps = half.keeps;
+    taken = λ a below is. elim (cases_lt a i) [
+      | inl earlier ↦ half.taken a earlier is
+      | inr past ↦ absurd (let w : true ≡ false = sym is ∙ none a past below in cc)
+    ];
+    unasked = half.unasked;
+    left = λ a from. half.left a (omega (arith, from, order));
+  }
 
 first-of : (x : Bool) (q : ℕ → Bool) (ps : List ℕ) → cond x (find q ps) None ≡ cond (x && list_any q ps) (find q ps) None
 first-of false q ps = refl
@@ -177,54 +120,105 @@ some-of : (x : Bool) (q : ℕ → Bool) (ps : List ℕ) → is_some (cond x (fin
 some-of false q ps = refl
 some-of true q ps = find-is_some q ps
 
--- all of them
-module _ (b : Book) (flags : List Bool) (now : Stars) (n : ℕ) (count : n ≡ length b.alerts) where
-  pub taken-fits : IsHalfTaken b flags now n n → StarsFit b now
-  taken-fits half = record {
-    found = half.found_places;
-    primaries = half.primary_places;
-    starred = half.starred_places;
-    up = half.up_places;
-    settled = λ a. elim (cases_lt a (length b.alerts)) [
-      | inl within ↦ (half.taken a (omega arith)).found
-      | inr past ↦ get_or_past now.found.items a None (omega (arith, half.found_places))
-    ];
-  }
-
-  -- the stars stand for one moment more
-  pub taken-stands : IsHalfTaken b flags now n n → (active : ℕ → Signal) (k : ℕ) → Tells (length b.alerts) flags active (suc k) → StarsStand b active (suc k) now
-  unfolding previous alert.starred alert.starred_by alert.up
-  taken-stands half active k tells =
-      let first_one : (a : ℕ) → a < length b.alerts → primary_of b flags a ≡ cond (active a k) (find (λ p. active p k) (primaries b a)) None
-      = λ a within.
-      ap (λ x. cond x (find (λ p. get_or flags p false) (primaries b a)) None) (tells a within)
-      ∙ ap (λ o. cond (active a k) o None) (same-primary b a (λ p. get_or flags p false) (λ p. active p k) tells) in
-      let is_starred : (a : ℕ) → a < length b.alerts → is_some (primary_of b flags a) ≡ (active a k && list_any (λ p. active p k) (primaries b a))
-      = λ a within. ap is_some (first_one a within) ∙ some-of (active a k) (λ p. active p k) (primaries b a) in
-      record {
-        primaries = λ a within. (half.taken a (omega arith)).primaries ∙ first_one a within ∙ first-of (active a k) (λ p. active p k) (primaries b a);
-        starred = λ a within. (half.taken a (omega arith)).starred ∙ is_starred a within;
-        up = λ a within.
-            (half.taken a (omega arith)).up
-            ∙ ap (λ x. x && not (is_some (primary_of b flags a))) (tells a within)
-            ∙ ap (λ x. active a k && not x) (is_starred a within);
-      }
-
--- where each alert is as active as before, each is starred by whom it was before
 module _ (b : Book) (active : ℕ → Signal) where
   by-first : (a k : ℕ) → cond (active a k) (find (λ p. active p k) (primaries b a)) None ≡ starred_by_where b active a k
   unfolding alert.starred alert.starred_by
   by-first a k = first-of (active a k) (λ p. active p k) (primaries b a)
 
-  pub still-by : (k : ℕ) → ((a : ℕ) → a < length b.alerts → active a k ≡ previous (active a) k) → (a : ℕ) → a < length b.alerts
+  pub starred-some : (a k : ℕ) → is_some (starred_by_where b active a k) ≡ starred_where b active a k
+  unfolding alert.starred
+  starred-some a k = ap is_some (sym (by-first a k)) ∙ some-of (active a k) (λ p. active p k) (primaries b a)
+
+  starred-before : (a k : ℕ) → is_some (previously (starred_by_where b active a) k) ≡ previous (starred_where b active a) k
+  unfolding previous
+  starred-before a zero = refl
+  starred-before a (suc k) = starred-some a k
+
+  up-before : (a k : ℕ) → (previous (active a) k && not (previous (starred_where b active a) k)) ≡ previous (up_where b active a) k
+  unfolding previous alert.up
+  up-before a zero = refl
+  up-before a (suc k) = refl
+
+  -- an alert whose primary stays stays starred, or not
+  pub still-star : (a k : ℕ) → starred_by_where b active a k ≡ previously (starred_by_where b active a) k → starred_where b active a k ≡ previous (starred_where b active a) k
+  still-star a k same = sym (starred-some a k) ∙ ap is_some same ∙ starred-before a k
+
+  -- and up, where it stays active or not
+  pub still-up : (a k : ℕ) → active a k ≡ previous (active a) k → starred_by_where b active a k ≡ previously (starred_by_where b active a) k → up_where b active a k ≡ previous (up_where b active a) k
+  unfolding alert.up
+  still-up a k still same =
+      ap (λ x. x && not (starred_where b active a k)) still
+      ∙ ap (λ x. previous (active a) k && not x) (still-star a k same) ∙ up-before a k
+
+  -- where an alert is as active as before, and so is each that lists it, it is starred by whom it was before
+  pub still-one : (a k : ℕ) → active a k ≡ previous (active a) k
+      → ((p : ℕ) → p < length b.alerts → list_any (λ s. s == a) (get_or (secondaries_of b) p []) ≡ true → active p k ≡ previous (active p) k)
       → starred_by_where b active a k ≡ previously (starred_by_where b active a) k
   unfolding previous
-  still-by zero still a within = sym (by-first a 0) ∙ ap (λ x. cond x (find (λ p. active p 0) (primaries b a)) None) (still a within)
-  still-by (suc k) still a within =
+  still-one a zero own still = sym (by-first a 0) ∙ ap (λ x. cond x (find (λ p. active p 0) (primaries b a)) None) own
+  still-one a (suc k) own still =
       sym (by-first a (suc k))
-      ∙ ap (λ x. cond x (find (λ p. active p (suc k)) (primaries b a)) None) (still a within)
+      ∙ ap (λ x. cond x (find (λ p. active p (suc k)) (primaries b a)) None) own
       ∙ ap (λ o. cond (active a k) o None) (same-primary b a (λ p. active p (suc k)) (λ p. active p k) still)
       ∙ by-first a k
+
+  -- the stars stand for one moment more, where those that aren't asked stay
+  module _ (flags : List Bool) (initial now : Stars) (asked : Marked) (turned : List ℕ) (k : ℕ) (was : StarsStand b active k initial) (tells : Tells (length b.alerts) flags active (suc k))
+      (still : (a : ℕ) → a < length b.alerts → is_marked turned a ≡ false → active a k ≡ previous (active a) k)
+      (others : (a : ℕ) → is_marked asked a ≡ false → IsUnasked (secondaries_of b) turned (length b.alerts) a)
+      (half : IsHalfTaken b flags initial now asked (length b.alerts)) where
+    first-one : (a : ℕ) → a < length b.alerts → primary_of b flags a ≡ cond (active a k) (find (λ p. active p k) (primaries b a)) None
+    unfolding previous
+    first-one a within =
+        ap (λ x. cond x (find (λ p. get_or flags p false) (primaries b a)) None) (tells a within)
+        ∙ ap (λ o. cond (active a k) o None) (same-primary b a (λ p. get_or flags p false) (λ p. active p k) (λ p inside lists_it. tells p inside))
+
+    is-starred : (a : ℕ) → a < length b.alerts → is_some (primary_of b flags a) ≡ starred_where b active a k
+    is-starred a within = ap is_some (first-one a within ∙ by-first a k) ∙ starred-some a k
+
+    still-listed : (a : ℕ) → is_marked asked a ≡ false → (p : ℕ) → p < length b.alerts → list_any (λ s. s == a) (get_or (secondaries_of b) p []) ≡ true → active p k ≡ previous (active p) k
+    still-listed a off p inside lists_it = elim (cases_Bool (is_marked turned p)) [
+      | inl on ↦ absurd (let w : true ≡ false = sym lists_it ∙ (others a off).listers p inside on in cc)
+      | inr away ↦ still p inside away
+    ]
+
+    same-primary-of : (a : ℕ) → a < length b.alerts → is_marked asked a ≡ false → starred_by_where b active a k ≡ previously (starred_by_where b active a) k
+    same-primary-of a within off = still-one a k (still a within (others a off).own) (still-listed a off)
+
+    taken-one : (a : ℕ) → a < length b.alerts → is_marked asked a ≡ true
+        → (get_or now.primaries.items a None ≡ starred_by_where b active a k) × (get_or now.starred.items a false ≡ starred_where b active a k) × (get_or now.up.items a false ≡ up_where b active a k)
+    unfolding previous alert.up
+    taken-one a within on =
+        let one = half.taken a within on in (
+          one.primaries ∙ first-one a within ∙ by-first a k,
+          one.starred ∙ is-starred a within,
+          one.up ∙ ap (λ x. x && not (is_some (primary_of b flags a))) (tells a within) ∙ ap (λ x. active a k && not x) (is-starred a within),
+        )
+
+    left-one : (a : ℕ) → a < length b.alerts → is_marked asked a ≡ false
+        → (get_or now.primaries.items a None ≡ starred_by_where b active a k) × (get_or now.starred.items a false ≡ starred_where b active a k) × (get_or now.up.items a false ≡ up_where b active a k)
+    left-one a within off =
+        let one = half.unasked a off in
+        let same = same-primary-of a within off in (
+          one.primaries ∙ was.primaries a within ∙ sym same,
+          one.starred ∙ was.starred a within ∙ sym (still-star a k same),
+          one.up ∙ was.up a within ∙ sym (still-up a k (still a within (others a off).own) same),
+        )
+
+    each-one : (a : ℕ) → a < length b.alerts
+        → (get_or now.primaries.items a None ≡ starred_by_where b active a k) × (get_or now.starred.items a false ≡ starred_where b active a k) × (get_or now.up.items a false ≡ up_where b active a k)
+    each-one a within = elim (cases_Bool (is_marked asked a)) [
+      | inl on ↦ taken-one a within on
+      | inr off ↦ left-one a within off
+    ]
+
+    pub taken-stands : StarsStand b active (suc k) now
+    unfolding previous
+    taken-stands = record {
+      primaries = λ a within. (each-one a within).0;
+      starred = λ a within. (each-one a within).1;
+      up = λ a within. (each-one a within).2;
+    }
 
 -- no alert is starred or up before the first moment
 pub blank-stands : (b : Book) (active : ℕ → Signal) (s : Stars) (n : ℕ) → n ≡ length b.alerts
@@ -236,17 +230,9 @@ blank-stands b active s n count primary starred up = record {
   up = λ a within. ap (λ xs. get_or xs a false) up ∙ get_or-replicate n a false false (omega arith);
 }
 
-pub blank-at : {X : Type 0} (n a : ℕ) (d : X) → get_or (replicate n d) a d ≡ d
-blank-at n a d = elim (cases_lt a n) [
-  | inl within ↦ get_or-replicate n a d d within
-  | inr past ↦ get_or_past (replicate n d) a d (omega (arith, past, length-replicate n d))
-]
-
 -- and nothing is told of one
-pub blank-away : (s : Stars) (n : ℕ) → ((a : ℕ) → get_or s.found.items a None ≡ None) → s.primaries.items ≡ replicate n None → s.starred.items ≡ replicate n false
-    → s.up.items ≡ replicate n false → (a : ℕ) → IsAway a s
-blank-away s n settled primary starred up a = record {
-  found = settled a;
+pub blank-away : (s : Stars) (n : ℕ) → s.primaries.items ≡ replicate n None → s.starred.items ≡ replicate n false → s.up.items ≡ replicate n false → (a : ℕ) → IsAway a s
+blank-away s n primary starred up a = record {
   primaries = ap (λ xs. get_or xs a None) primary ∙ blank-at n a None;
   starred = ap (λ xs. get_or xs a false) starred ∙ blank-at n a false;
   up = ap (λ xs. get_or xs a false) up ∙ blank-at n a false;

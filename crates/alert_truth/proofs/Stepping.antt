@@ -1,7 +1,6 @@
 -- One alert more is stepped, and the moment ends.
 use Rattle.std.proofs.Common.{◌≡◌, ℕ, zero, suc, ◌<◌, Bool, true, false, not, ◌&&◌, ◌||◌, eqb, List, length, get_or, set, replicate, Option, Some, None, cond, inl, inr, refl, sym, ap, ◌∙◌, subst, arith}
-use Rattle.std.specs.Prelude.{is_some, is_none, find, slice_index, ◌↔◌}
-use Rattle.std.specs.List.{list_any}
+use Rattle.std.specs.Prelude.{is_some, is_none, slice_index, ◌↔◌}
 use Rattle.std.proofs.lemmas.Bool.{cases_lt, cases_eq, eq-eqb, ne_eqb}
 use Rattle.std.proofs.lemmas.List.{length-set, get_or-set_same, get_or-set_other, get_or-replicate}
 use Rattle.ecam_spec.specs.Past.{Signal, previous, running_since, start_of, previously}
@@ -10,18 +9,17 @@ use Rattle.wakes.specs.Marks.{is_marked, room}
 use Rattle.wakes.specs.Due.{never}
 use Rattle.ecam_spec.specs.Book.{Book}
 use Rattle.ecam_spec.specs.Alert as alert
-use Rattle.ecam_spec.specs.Situation.{alert_at, primaries}
-use Rattle.alert_truth.specs.Alerts.{Tells, inhibited, present, active, waiting, starred, starred_by, up}
+use Rattle.ecam_spec.specs.Situation.{alert_at}
+use Rattle.alert_truth.specs.Alerts.{Tells, inhibited, present, active, waiting, starred_by}
 use Rattle.alert_truth.specs.Stars.{StarsFit, StarsStand}
-use Rattle.alert_truth.specs.TruthsState.{TruthsFit, TruthsStand, HalfStand, IsStepped, IsStill, Unchanged, StarsStay, AreNear, OthersStay, IsKeyed, completes, is_restless}
-use Rattle.alert_truth.specs.Noting.{Notes}
+use Rattle.alert_truth.specs.TruthsState.{TruthsFit, TruthsStand, HalfStand, IsStepped, IsStill, Unchanged, StarsStay, StaysAt, AreNear, OthersStay, IsKeyed, completes, is_restless}
+use Rattle.alert_truth.specs.Noting.{Notes, Turns}
 use Rattle.alert_truth.specs.Confirming.{confirmed_at}
 use Rattle.alert_truth.specs.declared.stars.Stars.{Stars}
 use Rattle.alert_truth.specs.declared.truths.Truths.{Truths}
-use Rattle.alert_truth.proofs.Listings.{find-is_some}
 use Rattle.alert_truth.proofs.Staying.{stays-same, since-same, was-present}
 use Rattle.alert_truth.proofs.Keys.{none-confirms, was-keyed, same-completes, own-keyed, other-keyed, other-was}
-use Rattle.alert_truth.proofs.Starring.{still-by}
+use Rattle.alert_truth.proofs.Starring.{still-one, still-star, still-up}
 
 -- a note of one alert leaves the others, and its own place tells whether it is restless now
 notes-restless : (b : Book) (i a : ℕ) (start : Option ℕ) (is_present is_active : Bool) (key : ℕ) (old new : Truths) → Notes i start is_present is_active key old new → TruthsFit b old → a < length b.alerts
@@ -96,6 +94,7 @@ notes-fits b i start is_present is_active key old new within notes fits = record
   active = ap length notes.active ∙ length-set old.active.items i is_active ∙ fits.active;
   waiting = ap length notes.waiting ∙ length-set old.waiting.items i _ ∙ fits.waiting;
   due_room = ap (λ ws. room ws) notes.due ∙ fits.due_room;
+  turned_room = notes.turned_room ∙ fits.turned_room;
   dues = ap length notes.dues ∙ length-set old.dues i key ∙ fits.dues;
   room = notes.room ∙ fits.room;
   restless = λ a within. notes-restless b i a start is_present is_active key old new notes fits within;
@@ -137,8 +136,9 @@ module _ (b : Book) (conditions : ℕ → Signal) (phases : ℕ → ℕ) where
   -- one alert more is stepped
   pub half-step : (k i : ℕ) (start : Option ℕ) (is_present is_active : Bool) (key : ℕ) (old new : Truths) → Notes i start is_present is_active key old new → i < length b.alerts
       → start ≡ running_since (conditions i) (suc k) → is_present ≡ present b conditions phases i k → is_active ≡ active b conditions phases i k
-      → key ≡ confirmed_at (alert_at b i).confirm start is_present → HalfStand b conditions phases k i old → HalfStand b conditions phases k (suc i) new
-  half-step k i start is_present is_active key old new notes within since now here due half =
+      → key ≡ confirmed_at (alert_at b i).confirm start is_present → Turns i is_present is_active old new
+      → HalfStand b conditions phases k i old → HalfStand b conditions phases k (suc i) new
+  half-step k i start is_present is_active key old new notes within since now here due turns half =
       let left = half.left i (omega arith) within in
       record {
         fits = notes-fits b i start is_present is_active key old new within notes half.fits;
@@ -179,6 +179,18 @@ module _ (b : Book) (conditions : ℕ → Signal) (phases : ℕ → ℕ) where
                 here ∙ own.active ∙ sym left.active,
               ),
         );
+        turned = λ a below off.
+            let parts = turns a off in
+            elim (cases_lt a i) [
+              | inl earlier ↦ half.turned a earlier parts.0
+              | inr reached ↦
+                  let same : i ≡ a = omega arith in
+                  let own = parts.1 (sym same) in
+                  subst (λ j. IsStill b conditions phases k j) same (record {
+                    present = sym now ∙ own.0 ∙ left.present;
+                    active = sym here ∙ own.1 ∙ left.active;
+                  })
+            ];
         changed = λ j e. let was = half.changed j e in (λ w. was.0 (sym notes.changed ∙ w), λ w. notes.changed ∙ was.1 w);
         stars_turned = λ j e. let was = half.stars_turned j e in let same = ap (λ (s : Stars). s.turned) notes.stars in (λ w. was.0 (sym same ∙ w), λ w. same ∙ was.1 w);
       }
@@ -237,6 +249,10 @@ module _ (b : Book) (conditions : ℕ → Signal) (phases : ℕ → ℕ) where
           ],
           λ still. half.changing.1 (λ a below. still a (omega arith)),
         );
+        turned = λ a below off. elim (cases_lt a i) [
+          | inl earlier ↦ half.turned a earlier off
+          | inr reached ↦ let here : i ≡ a = omega arith in subst (λ j. IsStill b conditions phases k j) here same
+        ];
         changed = half.changed;
         stars_turned = half.stars_turned;
       }
@@ -274,44 +290,33 @@ module _ (b : Book) (conditions : ℕ → Signal) (phases : ℕ → ℕ) where
       half-stays (suc h) i t within (since-same (inhibited b conditions phases i) (conditions i) (alert_at b i).confirm h same) (others h i refl within off same)
       ((half.left_keys i (omega arith) within).key off) half
 
-  star-some : (x : Bool) (q : ℕ → Bool) (ps : List ℕ) → is_some (cond (x && list_any q ps) (find q ps) None) ≡ (x && list_any q ps)
-  star-some false q ps = refl
-  star-some true q ps = elim (list_any q ps) as (λ y. list_any q ps ≡ y → is_some (cond y (find q ps) None) ≡ y) [ true ↦ λ e. find-is_some q ps ∙ e | false ↦ λ e. refl ] refl
+  -- all the rest follows from whether an alert is present and active, and from its first active primary
+  pub stays-at : (k a : ℕ) → IsStill b conditions phases k a → starred_by b conditions phases a k ≡ previously (starred_by b conditions phases a) k → StaysAt b conditions phases k a
+  unfolding alert.waiting
+  stays-at k a still same = record {
+    present = still.present;
+    active = still.active;
+    waiting =
+        ap (λ x. x && not (active b conditions phases a k)) still.present
+        ∙ ap (λ x. previous (present b conditions phases a) k && not x) still.active ∙ waiting-before a k;
+    starred = still-star b (active b conditions phases) a k same;
+    starred_by = same;
+    up = still-up b (active b conditions phases) a k still.active same;
+  }
 
-  starred-some : (a k : ℕ) → is_some (starred_by b conditions phases a k) ≡ starred b conditions phases a k
-  unfolding alert.starred alert.starred_by
-  starred-some a k = star-some (active b conditions phases a k) (λ p. active b conditions phases p k) (primaries b a)
+  -- which follow from which alerts are active
+  pub still-at : (k : ℕ) → ((a : ℕ) → a < length b.alerts → IsStill b conditions phases k a) → (a : ℕ) → a < length b.alerts → StaysAt b conditions phases k a
+  still-at k still a within = stays-at k a (still a within) (still-one b (active b conditions phases) a k (still a within).active (λ p inside lists_it. (still p inside).active))
 
-  starred-before : (a k : ℕ) → is_some (previously (starred_by b conditions phases a) k) ≡ previous (starred b conditions phases a) k
-  unfolding previous
-  starred-before a zero = refl
-  starred-before a (suc k) = starred-some a k
-
-  up-before : (a k : ℕ) → (previous (active b conditions phases a) k && not (previous (starred b conditions phases a) k)) ≡ previous (up b conditions phases a) k
-  unfolding previous alert.up
-  up-before a zero = refl
-  up-before a (suc k) = refl
-
-  -- all the rest follows from which alerts are present and active
   unchanged : (k : ℕ) → ((a : ℕ) → a < length b.alerts → IsStill b conditions phases k a) → Unchanged b conditions phases k
-  unfolding alert.waiting alert.up
-  unchanged k still =
-      let same : (a : ℕ) → a < length b.alerts → starred_by b conditions phases a k ≡ previously (starred_by b conditions phases a) k
-      = still-by b (active b conditions phases) k (λ a within. (still a within).active) in
-      let stars : (a : ℕ) → a < length b.alerts → starred b conditions phases a k ≡ previous (starred b conditions phases a) k
-      = λ a within. sym (starred-some a k) ∙ ap is_some (same a within) ∙ starred-before a k in
-      record {
-        present = λ a within. (still a within).present;
-        active = λ a within. (still a within).active;
-        waiting = λ a within.
-            ap (λ x. x && not (active b conditions phases a k)) (still a within).present
-            ∙ ap (λ x. previous (present b conditions phases a) k && not x) (still a within).active ∙ waiting-before a k;
-        starred = stars;
-        starred_by = same;
-        up = λ a within.
-            ap (λ x. x && not (starred b conditions phases a k)) (still a within).active
-            ∙ ap (λ x. previous (active b conditions phases a) k && not x) (stars a within) ∙ up-before a k;
-      }
+  unchanged k still = record {
+    present = λ a within. (still-at k still a within).present;
+    active = λ a within. (still-at k still a within).active;
+    waiting = λ a within. (still-at k still a within).waiting;
+    starred = λ a within. (still-at k still a within).starred;
+    starred_by = λ a within. (still-at k still a within).starred_by;
+    up = λ a within. (still-at k still a within).up;
+  }
 
   pub still-starred : (k : ℕ) → ((a : ℕ) → a < length b.alerts → IsStill b conditions phases k a) → StarsStay b conditions phases k
   still-starred k still = let same = unchanged k still in record { starred = same.starred }
@@ -325,6 +330,12 @@ module _ (b : Book) (conditions : ℕ → Signal) (phases : ℕ → ℕ) where
     λ e. record { starred = λ a within. sym (now.starred a within) ∙ tells.0 e a within ∙ was.starred a within },
     λ same. tells.1 (λ a within. now.starred a within ∙ same.starred a within ∙ sym (was.starred a within)),
   )
+
+  -- and an alert stays as it is whose primary stays, where it is as present and as active
+  pub settled-at : (k a : ℕ) (old new : Stars) → StarsStand b (active b conditions phases) k old → StarsStand b (active b conditions phases) (suc k) new → a < length b.alerts
+      → IsStill b conditions phases k a → get_or new.primaries.items a None ≡ get_or old.primaries.items a None → StaysAt b conditions phases k a
+  unfolding previous
+  settled-at k a old new was now within still same = stays-at k a still (sym (now.primaries a within) ∙ same ∙ was.primaries a within)
 
   -- so the stars that stand for the moments before stand for this one too, in which none turned
   pub still-stars : (k : ℕ) (s : Stars) → ((a : ℕ) → a < length b.alerts → IsStill b conditions phases k a)
@@ -343,8 +354,9 @@ module _ (b : Book) (conditions : ℕ → Signal) (phases : ℕ → ℕ) where
       → new.moments ≡ suc old.moments → new.dues ≡ old.dues → new.since ≡ old.since → new.present ≡ old.present → new.active ≡ old.active → new.waiting ≡ old.waiting
       → new.changing ≡ false → new.changed ≡ old.changing → StarsStand b (active b conditions phases) (suc k) new.stars
       → (new.stars.turned ≡ false) ↔ StarsStay b conditions phases k
+      → ((a : ℕ) → a < length b.alerts → is_marked new.turned a ≡ false → StaysAt b conditions phases k a)
       → TruthsStand b conditions phases (suc k) new
-  moment-ends k old new half fits moments dues since now here waits quiet told stars turned =
+  moment-ends k old new half fits moments dues since now here waits quiet told stars turned others =
       let each : (a : ℕ) → a < length b.alerts → IsStepped b conditions phases (suc k) a new = λ a within.
       let was = half.stepped a within in
       record {
@@ -365,6 +377,7 @@ module _ (b : Book) (conditions : ℕ → Signal) (phases : ℕ → ℕ) where
             ∙ sym (same-completes b old new a (ap (λ v. get_or v.items a None) since) (ap (λ v. get_or v.items a false) now));
         stars = stars;
         changing = quiet;
+        turned = λ j a e within off. let same : k ≡ j = cc in subst (λ i. StaysAt b conditions phases i a) same (others a within off);
         changed = λ j e. let same : k ≡ j = cc in subst (λ i. (new.changed ≡ false) ↔ Unchanged b conditions phases i) same says;
         stars_turned = λ j e. let same : k ≡ j = cc in subst (λ i. (new.stars.turned ≡ false) ↔ StarsStay b conditions phases i) same turned;
       }
@@ -380,6 +393,7 @@ module _ (b : Book) (conditions : ℕ → Signal) (phases : ℕ → ℕ) where
     left_keys = λ a from within. was-keyed b t a (stands.keys a within);
     stars = stands.stars;
     changing = (λ e a below. absurd (omega arith), λ h. stands.changing);
+    turned = λ a below. absurd (omega (arith, below));
     changed = stands.changed;
     stars_turned = stands.stars_turned;
   }
@@ -407,6 +421,7 @@ module _ (b : Book) (conditions : ℕ → Signal) (phases : ℕ → ℕ) where
         ∙ none-confirms (alert_at b a).confirm (get_or t.present.items a false));
     stars = stars;
     changing = quiet;
+    turned = λ j a e. absurd (omega arith);
     changed = λ j e. absurd (omega arith);
     stars_turned = λ j e. absurd (omega arith);
   }
@@ -414,8 +429,8 @@ module _ (b : Book) (conditions : ℕ → Signal) (phases : ℕ → ℕ) where
   -- truths that hold the same stand for the same moments
   pub same-stands : (k : ℕ) (old new : Truths) → TruthsFit b new → new.moments ≡ old.moments → new.dues ≡ old.dues → new.since.items ≡ old.since.items → new.present.items ≡ old.present.items
       → new.active.items ≡ old.active.items → new.waiting.items ≡ old.waiting.items → StarsStand b (active b conditions phases) k new.stars → new.changing ≡ old.changing
-      → new.changed ≡ old.changed → new.stars.turned ≡ old.stars.turned → TruthsStand b conditions phases k old → TruthsStand b conditions phases k new
-  same-stands k old new fits moments dues since now here waits stars quiet told turned stands = record {
+      → new.turned ≡ old.turned → new.changed ≡ old.changed → new.stars.turned ≡ old.stars.turned → TruthsStand b conditions phases k old → TruthsStand b conditions phases k new
+  same-stands k old new fits moments dues since now here waits stars quiet others told turned stands = record {
     fits = fits;
     moments = moments ∙ stands.moments;
     each = λ a within.
@@ -430,6 +445,7 @@ module _ (b : Book) (conditions : ℕ → Signal) (phases : ℕ → ℕ) where
         ∙ sym (same-completes b old new a (ap (λ xs. get_or xs a None) since) (ap (λ xs. get_or xs a false) now));
     stars = stars;
     changing = quiet ∙ stands.changing;
+    turned = λ j a e within off. stands.turned j a e within (sym (ap (λ ws. is_marked ws a) others) ∙ off);
     changed = λ j e. let was = stands.changed j e in (λ w. was.0 (sym told ∙ w), λ w. told ∙ was.1 w);
     stars_turned = λ j e. let was = stands.stars_turned j e in (λ w. was.0 (sym turned ∙ w), λ w. turned ∙ was.1 w);
   }

@@ -1,4 +1,5 @@
 pub mod Alerts
+pub mod Listed
 pub mod Stars
 pub mod Confirming
 pub mod TruthsState

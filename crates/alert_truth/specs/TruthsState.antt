@@ -35,6 +35,7 @@ pub record TruthsFit (b : Book) (t : Truths) : Type 0 where
   pub waiting : length t.waiting.items ≡ length b.alerts
   pub near_room : room t.near ≡ 64 * (length b.alerts / 64 + 1)
   pub due_room : room t.due ≡ 64 * (length b.alerts / 64 + 1)
+  pub turned_room : room t.turned ≡ 64 * (length b.alerts / 64 + 1)
   pub room : room t.restless ≡ 64 * (length b.alerts / 64 + 1)
   pub dues : length t.dues ≡ length b.alerts
   pub restless : (a : ℕ) → a < length b.alerts → is_marked t.restless a ≡ is_restless t a
@@ -59,6 +60,15 @@ module _ (b : Book) (conditions : ℕ → Signal) (phases : ℕ → ℕ) where
   pub record IsStill (k a : ℕ) : Type 0 where
     pub present : present b conditions phases a k ≡ previous (present b conditions phases a) k
     pub active : active b conditions phases a k ≡ previous (active b conditions phases a) k
+
+  -- in moment k all that is told of an alert is as in the moment before; before moment 0 no alert is present
+  pub record StaysAt (k a : ℕ) : Type 0 where
+    pub present : present b conditions phases a k ≡ previous (present b conditions phases a) k
+    pub active : active b conditions phases a k ≡ previous (active b conditions phases a) k
+    pub waiting : waiting b conditions phases a k ≡ previous (waiting b conditions phases a) k
+    pub starred : starred b conditions phases a k ≡ previous (starred b conditions phases a) k
+    pub starred_by : starred_by b conditions phases a k ≡ previously (starred_by b conditions phases a) k
+    pub up : up b conditions phases a k ≡ previous (up b conditions phases a) k
 
   -- in moment k an alert that isn't in the set is as it was, where its condition holds where it held
   abbrev pub OthersStay : ℕ → List ℕ → Type 0
@@ -95,6 +105,7 @@ module _ (b : Book) (conditions : ℕ → Signal) (phases : ℕ → ℕ) where
     pub left_keys : (a : ℕ) → i ≤ a → a < length b.alerts → WasKeyed b t a
     pub stars : StarsStand b (active b conditions phases) k t.stars
     pub changing : (t.changing ≡ false) ↔ ((a : ℕ) → a < i → IsStill k a)
+    pub turned : (a : ℕ) → a < i → is_marked t.turned a ≡ false → IsStill k a
     pub changed : (j : ℕ) → k ≡ suc j → (t.changed ≡ false) ↔ Unchanged j
     pub stars_turned : (j : ℕ) → k ≡ suc j → (t.stars.turned ≡ false) ↔ StarsStay j
 
@@ -106,5 +117,6 @@ module _ (b : Book) (conditions : ℕ → Signal) (phases : ℕ → ℕ) where
     pub keys : (a : ℕ) → a < length b.alerts → IsKeyed b t a
     pub stars : StarsStand b (active b conditions phases) k t.stars
     pub changing : t.changing ≡ false
+    pub turned : (j a : ℕ) → k ≡ suc j → a < length b.alerts → is_marked t.turned a ≡ false → StaysAt j a
     pub changed : (j : ℕ) → k ≡ suc j → (t.changed ≡ false) ↔ Unchanged j
     pub stars_turned : (j : ℕ) → k ≡ suc j → (t.stars.turned ≡ false) ↔ StarsStay j

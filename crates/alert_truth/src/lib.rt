@@ -2,6 +2,7 @@
 //! which something began in place of a count, and answers what the definitions over the whole history say.
 #![tactic(auto)]
 
+mod listers;
 mod run;
 mod stars;
 mod truths;

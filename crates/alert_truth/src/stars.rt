@@ -1,15 +1,14 @@
 // Which active alerts a primary failure explains, and which are up.
-ghost use Rattle.std.specs.Prelude.{◌≡◌, ◌↔◌, ℕ, suc, ◌+◌, ◌*◌, ◌/◌, ◌<◌, ◌≤◌, ◌||◌, ◌&&◌, true, false, length, get_or, All, None, Some, IfOk, if◌then◌else◌};
-ghost use Rattle.std.specs.Option.{option_or};
+ghost use Rattle.std.specs.Prelude.{◌≡◌, ◌↔◌, ℕ, suc, ◌+◌, ◌*◌, ◌/◌, ◌<◌, ◌==◌, ◌||◌, true, false, length, get_or, All, map, None, IfOk};
 ghost use Rattle.std.specs.List.{list_any};
-ghost use Rattle.std.specs.Prelude.{◌==◌};
-ghost use Rattle.ecam_spec.specs.Past.{Signal};
+ghost use Rattle.ecam_spec.specs.Past.{Signal, previous};
 ghost use Rattle.ecam_spec.specs.Book as plain;
 ghost use Rattle.book_model.specs.Sealed.{the_book};
 ghost use Rattle.alert_truth.specs.Alerts.{Tells};
-ghost use Rattle.alert_truth.specs.Stars.{StarsFit, StarsStand, HasPlace, Takes, IsAway};
+ghost use Rattle.alert_truth.specs.Stars.{StarsFit, StarsStand, HasPlace, Takes, IsAway, IsUnasked};
 ghost use Rattle.wakes.specs.Marks.{is_marked, room};
 
+use crate::listers::Listers;
 use book_model::Book;
 use std::alloc::{AllocError, Global};
 use wakes::Marked;
@@ -17,8 +16,9 @@ use wakes::Marked;
 /// Per alert its first active primary, and whether it is starred and up.
 #[derive(Drop)]
 pub struct Stars {
-    // While the stars are settled: per alert the first active alert so far that lists it. Else each is `None`.
-    found: Vec<Option<u32>>,
+    listers: Listers,
+    // The alerts whose primary may be another in the moment that was settled last.
+    asked: Marked,
     pub primaries: Vec<Option<u32>>,
     pub starred: Vec<bool>,
     pub up: Vec<bool>,
@@ -27,18 +27,18 @@ pub struct Stars {
 }
 
 impl Stars {
-    /// For so many alerts, none of them starred or up. An error is want of memory.
-    pub fn new(alloc: Global, alerts: usize) -> Result<Stars, AllocError>
-        ensures fits { IfOk result (λ s. (b : plain.Book) → length b.alerts ≡ alerts
-            → StarsFit b s) }
-        ensures stands { IfOk result (λ s. (b : plain.Book) (active : ℕ → Signal)
-            → length b.alerts ≡ alerts
-            → StarsStand b active 0 s) }
+    /// For the alerts of a book, none of them starred or up. An error is want of memory.
+    pub fn new(alloc: Global, book: &Book) -> Result<Stars, AllocError>
+        ensures fits { IfOk result (StarsFit (the_book book.now)) }
+        ensures stands { IfOk result (λ s. (active : ℕ → Signal)
+            → StarsStand (the_book book.now) active 0 s) }
         ensures turned { IfOk result (λ s. s.turned ≡ false) }
         ensures away { IfOk result (λ s. (a : ℕ) → IsAway a s) }
     {
+        let alerts = book.alerts().len();
         Ok(Stars {
-            found: vec![in alloc; None; alerts]?,
+            listers: Listers::new(alloc, book)?,
+            asked: Marked::new(alloc, alerts)?,
             primaries: vec![in alloc; None; alerts]?,
             starred: vec![in alloc; false; alerts]?,
             up: vec![in alloc; false; alerts]?,
@@ -60,7 +60,7 @@ impl Stars {
         self.turned = false;
     }
 
-    /// Takes over the stars of another. Its cost is one write an alert.
+    /// Takes over the stars of another of the same book. Its cost is one write an alert.
     pub fn copy_from(&mut self, other: &Stars)
         requires { (b : plain.Book) × StarsFit b self.old × StarsFit b other.now }
         ensures fits { (b : plain.Book) → StarsFit b self.old → StarsFit b other.now
@@ -78,9 +78,10 @@ impl Stars {
         self.turned = other.turned;
     }
 
-    /// Settles which of the active alerts are starred and which are up, in one walk over the near alerts: whatever lists an
-    /// alert as secondary stands before it in the book. Its cost is one look for each 64 alerts, and a few looks and writes
-    /// at each that is near and at each secondary of the active ones.
+    /// Settles which of the active alerts are starred and which are up, where those that became present or active, or are so
+    /// no more, are among `moved`: it looks at each of these and at its secondaries, and puts those in that have another
+    /// primary. Its cost is two looks for each 64 alerts, a few writes at each of `moved` and at each secondary of these, and
+    /// a look at what lists them, up to the first that is active.
     #[inline(never)]
     pub fn settle(
         &mut self,
@@ -88,6 +89,7 @@ impl Stars {
         present: &[bool],
         waiting: &[bool],
         near: &mut Marked,
+        moved: &mut Marked,
         book: &Book,
     )
         requires fits { StarsFit (the_book book.now) self.old }
@@ -95,6 +97,7 @@ impl Stars {
         requires present_places { length present.now ≡ length book.now.alerts.items }
         requires waiting_places { length waiting.now ≡ length book.now.alerts.items }
         requires room { room near.old ≡ 64 * (length book.now.alerts.items / 64 + 1) }
+        requires moved_room { room moved.old ≡ 64 * (length book.now.alerts.items / 64 + 1) }
         requires active { (a : ℕ) → get_or active.now a false ≡ true → is_marked near.old a ≡ true }
         requires present { (a : ℕ) → get_or present.now a false ≡ true
             → is_marked near.old a ≡ true }
@@ -103,7 +106,10 @@ impl Stars {
         requires away { (a : ℕ) → is_marked near.old a ≡ false → IsAway a self.old }
         ensures fits { StarsFit (the_book book.now) self.new }
         ensures stands { (active' : ℕ → Signal) (k : ℕ)
+            → StarsStand (the_book book.now) active' k self.old
             → Tells (length book.now.alerts.items) active.now active' (suc k)
+            → ((a : ℕ) → a < length book.now.alerts.items → is_marked moved.old a ≡ false
+            → active' a k ≡ previous (active' a) k)
             → StarsStand (the_book book.now) active' (suc k) self.new }
         ensures turned { (self.new.turned ≡ false)
             ↔ ((a : ℕ) → a < length book.now.alerts.items
@@ -115,57 +121,70 @@ impl Stars {
         ensures waiting { (a : ℕ) → get_or waiting.now a false ≡ true
             → is_marked near.new a ≡ true }
         ensures away { (a : ℕ) → is_marked near.new a ≡ false → IsAway a self.new }
+        ensures moved_room { room moved.new ≡ room moved.old }
+        ensures moved { (a : ℕ) → a < length book.now.alerts.items → is_marked moved.new a ≡ false
+            → (is_marked moved.old a ≡ false)
+            × (get_or self.new.primaries.items a None ≡ get_or self.old.primaries.items a None) }
     {
-        book.sealed();
+        ask(&mut self.asked, moved, book);
         self.turned = false;
-        let mut alert = near.next_or(0, active.len());
+        let mut alert = self.asked.next_or(0, active.len());
         while alert < active.len() {
-            self.star(alert, active[alert]);
-            if active[alert] {
-                note(&mut self.found, near, book.secondaries(alert), alert as u32);
-            } else if !(present[alert] | waiting[alert]) {
+            let primary = self.listers.primary(active, alert);
+            self.star(alert, active[alert], primary, moved);
+            if !(present[alert] | active[alert] | waiting[alert]) {
                 near.unmark(alert);
             }
-            alert = near.next_or(alert + 1, active.len());
+            alert = self.asked.next_or(alert + 1, active.len());
         }
     }
 
-    // Takes over what was found for one alert.
-    fn star(&mut self, alert: usize, active: bool)
-        requires { HasPlace alert self.old }
-        ensures { Takes alert active self.old self.new }
+    // Takes over the primary of one alert.
+    fn star(&mut self, alert: usize, active: bool, primary: Option<u32>, moved: &mut Marked)
+        requires place { HasPlace alert self.old }
+        requires room { alert < room moved.old }
+        ensures takes { Takes alert active primary self.old self.new }
+        ensures room { room moved.new ≡ room moved.old }
+        ensures moved { (a : ℕ) → is_marked moved.new a ≡ false → (is_marked moved.old a ≡ false)
+            × (get_or self.new.primaries.items a None ≡ get_or self.old.primaries.items a None) }
     {
-        let primary = only_if(active, self.found[alert]);
         let starred = primary.is_some();
+        if primary != self.primaries[alert] {
+            moved.mark(alert);
+        }
         self.turned |= starred != self.starred[alert];
-        self.found[alert] = None;
         self.primaries[alert] = primary;
         self.starred[alert] = starred;
         self.up[alert] = active && !starred;
     }
 }
 
-fn only_if(active: bool, primary: Option<u32>) -> Option<u32>
-    ensures { result ≡ (if active then primary else None) }
+// Asks each alert that turned, and each that one of these lists as secondary.
+fn ask(asked: &mut Marked, turned: &Marked, book: &Book)
+    requires asked { room asked.old ≡ 64 * (length book.now.alerts.items / 64 + 1) }
+    requires turned { room turned.now ≡ 64 * (length book.now.alerts.items / 64 + 1) }
+    ensures room { room asked.new ≡ room asked.old }
+    ensures asked { (a : ℕ) → is_marked asked.new a ≡ false
+        → IsUnasked (map (λ a. a.secondary) (the_book book.now).alerts) turned.now
+        (length book.now.alerts.items) a }
 {
-    if active { primary } else { None }
+    asked.copy_from(turned);
+    let alerts = book.alerts().len();
+    let mut alert = turned.next_or(0, alerts);
+    while alert < alerts {
+        mark_all(asked, book.secondaries(alert));
+        alert = turned.next_or(alert + 1, alerts);
+    }
 }
 
-// Notes an alert for each of its secondaries for which none is noted yet. They are near then.
-fn note(found: &mut Vec<Option<u32>>, near: &mut Marked, secondaries: &[u32], alert: u32)
-    requires places { All (λ s. s < length found.old.items) secondaries.now }
-    requires room { length found.old.items ≤ room near.old }
-    ensures places { length found.new.items ≡ length found.old.items }
-    ensures noted { (a : ℕ) → get_or found.new.items a None
-        ≡ option_or (get_or found.old.items a None)
-        (if list_any (λ s. s == a) secondaries.now then Some alert else None) }
-    ensures room { room near.new ≡ room near.old }
-    ensures near { (a : ℕ) → is_marked near.new a
-        ≡ (list_any (λ s. s == a) secondaries.now || is_marked near.old a) }
+// Puts numbers in.
+fn mark_all(marks: &mut Marked, places: &[u32])
+    requires { All (λ p. p < room marks.old) places.now }
+    ensures room { room marks.new ≡ room marks.old }
+    ensures marks { (a : ℕ) → is_marked marks.new a
+        ≡ (list_any (λ s. s == a) places.now || is_marked marks.old a) }
 {
-    for secondary in secondaries {
-        let place = *secondary as usize;
-        found[place] = found[place].or(Some(alert));
-        near.mark(place);
+    for place in places {
+        marks.mark(*place as usize);
     }
 }

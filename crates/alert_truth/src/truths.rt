@@ -4,8 +4,8 @@ ghost use Rattle.ecam_spec.specs.Past.{Signal, previously};
 ghost use Rattle.ecam_spec.specs.Book as plain;
 ghost use Rattle.book_model.specs.Sealed.{the_book};
 ghost use Rattle.alert_truth.specs.Alerts.{Tells, present, active, waiting, starred, starred_by, up};
-ghost use Rattle.alert_truth.specs.TruthsState.{TruthsFit, TruthsStand, HalfStand, Unchanged, StarsStay, CanGoOn, OthersStay};
-ghost use Rattle.alert_truth.specs.Noting.{HasAlert, Notes};
+ghost use Rattle.alert_truth.specs.TruthsState.{TruthsFit, TruthsStand, HalfStand, Unchanged, StarsStay, StaysAt, CanGoOn, OthersStay};
+ghost use Rattle.alert_truth.specs.Noting.{HasAlert, Notes, Turns};
 ghost use Rattle.wakes.specs.Marks.{is_marked, room};
 ghost use Rattle.wakes.specs.Due.{never};
 
@@ -39,6 +39,9 @@ pub struct Truths {
     due: Marked,
     // At least the alerts of which something is told.
     near: Marked,
+    // At least the alerts that are another than a moment earlier; in the moment that hasn't ended, at least those that have
+    // become more or less present or active in it.
+    turned: Marked,
     stars: Stars,
     // Some alert has become another in the moment that hasn't ended.
     changing: bool,
@@ -67,7 +70,8 @@ impl Truths {
             dues: Wakes::new(alloc, alerts)?,
             due: Marked::new(alloc, alerts)?,
             near: Marked::new(alloc, alerts)?,
-            stars: Stars::new(alloc, alerts)?,
+            turned: Marked::new(alloc, alerts)?,
+            stars: Stars::new(alloc, book)?,
             changing: false,
             changed: false,
         })
@@ -91,6 +95,7 @@ impl Truths {
         self.restless.clear();
         self.dues.clear();
         self.near.clear();
+        self.turned.clear();
         self.stars.clear();
         self.changing = false;
         self.changed = false;
@@ -116,6 +121,7 @@ impl Truths {
         self.restless.copy_from(&other.restless);
         self.dues.copy_from(&other.dues);
         self.near.copy_from(&other.near);
+        self.turned.copy_from(&other.turned);
         self.stars.copy_from(&other.stars);
         self.changing = other.changing;
         self.changed = other.changed;
@@ -141,6 +147,7 @@ impl Truths {
             || (turned && is_marked self.old.restless a)) }
         ensures moments { self.new.moments ≡ self.old.moments }
     {
+        self.turned.clear();
         begin_due(&mut self.due, &self.restless, turned);
         take_due(&mut self.dues, &mut self.due, self.moments);
     }
@@ -195,7 +202,8 @@ impl Truths {
     // Notes what one alert has become. A flag or a moment that is as it was isn't written.
     fn note(&mut self, alert: usize, since: Option<u64>, present: bool, active: bool, due: u64)
         requires { HasAlert alert self.old }
-        ensures { Notes alert since present active due self.old self.new }
+        ensures notes { Notes alert since present active due self.old self.new }
+        ensures turns { Turns alert present active self.old self.new }
     {
         let was_present = self.present[alert];
         let was_active = self.active[alert];
@@ -206,13 +214,15 @@ impl Truths {
         put_mark(&mut self.restless, alert, since.is_some() && !active);
         self.dues.set(alert, due);
         mark_if(&mut self.near, alert, present || active);
-        self.changing |= (present != was_present) | (active != was_active);
+        let turned = (present != was_present) | (active != was_active);
+        mark_if(&mut self.turned, alert, turned);
+        self.changing |= turned;
     }
 
     /// Ends the moment, in which each alert was stepped: settles which alerts are starred and which are up. Its cost
     /// doesn't grow with the book where each alert is as present and as active as before, since the stars are then as
-    /// before too. Else it is one look for each 64 alerts, and a few looks and writes at each that is near and at each
-    /// secondary of the active ones.
+    /// before too. Else it is a few looks for each 64 alerts, and a few looks and writes at each that turned and at each
+    /// secondary of these.
     pub fn settle(&mut self, book: &Book)
         requires fits { TruthsFit (the_book book.now) self.old }
         requires goes_on { CanGoOn self.old }
@@ -232,6 +242,7 @@ impl Truths {
                 &self.present,
                 &self.waiting,
                 &mut self.near,
+                &mut self.turned,
                 book,
             );
         } else {
@@ -355,6 +366,18 @@ impl Truths {
         ensures { result.now ≡ self.now.near }
     {
         &self.near
+    }
+
+    /// Alerts that hold all that are another than a moment earlier: of the others `present`, `active`, `waiting`, `starred`,
+    /// `starred_by` and `up` tell what they told. Others may be among them.
+    pub fn turned(&self) -> &Marked
+        ensures value { result.now ≡ self.now.turned }
+        ensures tells { (b : plain.Book) (conditions : ℕ → Signal) (phases : ℕ → ℕ) (k : ℕ)
+            → TruthsStand b conditions phases (suc k) self.now
+            → (a : ℕ) → a < length b.alerts
+            → is_marked result.now a ≡ false → StaysAt b conditions phases k a }
+    {
+        &self.turned
     }
 
     /// Whether some alert is starred in the last moment that wasn't a moment earlier, or was and isn't. Before the first

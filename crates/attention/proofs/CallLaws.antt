@@ -1,139 +1,110 @@
--- What alerts call for: of one more alert, and in the order of the book's alerts.
-use Rattle.std.proofs.Common.{◌≡◌, ℕ, suc, ◌+◌, Bool, true, false, not, ◌&&◌, ◌||◌, List, [], ◌∷◌, ◌++◌, length, ◌⊎◌, inl, inr, Option, Some, None, cond, nat_le, refl, sym, ◌∙◌, ap}
-use Rattle.std.specs.Prelude.{find, filter, option_map}
+-- What alerts call for: by what is kept of them, by the sets, and in the order of the book's alerts.
+use Rattle.std.proofs.Common.{◌≡◌, ℕ, suc, ◌+◌, ◌<◌, ◌≤◌, Bool, true, false, ◌&&◌, List, length, Option, Some, None, inl, inr, nat_le, refl, sym, ◌∙◌, ap}
+use Rattle.std.specs.Prelude.{find, filter, option_map, slice_get}
 use Rattle.std.specs.List.{list_any}
-use Rattle.std.specs.Option.{option_or, option_map_or}
-use Rattle.std.proofs.lemmas.List.Folds.{find-append, list_any-append}
-use Rattle.std.proofs.lemmas.Bool.{and_right}
-use Rattle.std.proofs.Math.Bool.{and-true, or-false}
-use Rattle.ecam_spec.specs.Past.{previous, once_from}
+use Rattle.std.specs.Option.{option_map_or}
+use Rattle.std.proofs.lemmas.Option.{slice_get_cases}
+use Rattle.std.proofs.Math.Bool.{and-true, and-false}
+use Rattle.ecam_spec.specs.Past.{previous}
 use Rattle.ecam_spec.specs.Levels.{is_three, is_two}
 use Rattle.ecam_spec.specs.Places.{below}
 use Rattle.ecam_spec.specs.Book.{Book}
 use Rattle.ecam_spec.specs.Screen.{order}
-use Rattle.ecam_spec.specs.declared.kinds.Level.{Level}
-use Rattle.ecam_spec.specs.declared.kinds.Sound.{Sound}
 use Rattle.ecam_spec.specs.Lamps as lamps
+use Rattle.wakes.specs.Marks.{is_marked}
 use Rattle.attention.specs.declared.calls.Calls.{Calls}
-use Rattle.attention.specs.declared.watch.Onset.TheVariants.{Never, Open, Acknowledged}
+use Rattle.attention.specs.declared.callers.Callers.{Callers}
 use Rattle.attention.specs.declared.watch.Watch.{Watch}
-use Rattle.attention.specs.Watches.{onset_of, onset_after, watch_after}
-use Rattle.attention.specs.Calling.{AreCalls, rings_in, chimes_in}
+use Rattle.book_model.specs.declared.draft.Alert.{Alert}
+use Rattle.attention.specs.Moments.{AreListed}
+use Rattle.attention.specs.Watches.{onset_of, is_open, opened, calling, rings_by, watch_after, AreWatched}
+use Rattle.attention.specs.Calling.{AreCalls, AreCallers, Marks, rings_in, chimes_in, is_shown, is_calling}
 use Rattle.attention.specs.State.{AreOfBook}
-use Rattle.attention.proofs.Ordered.{warning-shown, caution-shown}
+use Rattle.attention.proofs.Passing.{find-filter}
+use Rattle.attention.proofs.Below.{find-below, any-below, found-low, found-none}
+use Rattle.attention.proofs.Ordered.{any-filter, warning-shown, caution-shown}
 
-sound-of-either : (f : ℕ → Sound) (o : Option ℕ) (t : Bool) (i : ℕ) → option_map f (option_or o (cond t (Some i) None)) ≡ option_or (option_map f o) (cond t (Some (f i)) None)
-sound-of-either f None true i = refl
-sound-of-either f None false i = refl
-sound-of-either f (Some x) t i = refl
+-- an onset is kept as open where it is
+kept-open : (o : Option ℕ) (f : ℕ → Bool) → is_open (onset_of o (option_map_or f o false)) ≡ option_map_or f o false
+kept-open None f = refl
+kept-open (Some m) f = elim (f m) as (λ b. is_open (onset_of (Some m) b) ≡ b) [ true ↦ refl | false ↦ refl ]
 
-module _ (a : lamps.Attention) (k i : ℕ) (xs : List ℕ) where
-  -- one more alert, after these
-  pub calls-more : (c d : Calls) → AreCalls a k xs c
-      → d.warning ≡ option_or c.warning (cond (is_three (a.level i) && lamps.calls a i k) (Some (a.sound i)) None)
-      → d.caution ≡ (c.caution || (is_two (a.level i) && lamps.calls a i k))
-      → ((j : ℕ) → rings_in j d.chime ≡ (rings_in j c.chime || chimes_in a k j i))
-      → AreCalls a k (xs ++ i ∷ []) d
-  calls-more c d are warning caution chime =
-      let three = λ (n : ℕ). is_three (a.level n) && lamps.calls a n k in
-      let two = λ (n : ℕ). is_two (a.level n) && lamps.calls a n k in
-      record {
-        warning =
-            warning
-            ∙ ap (λ o. option_or o (cond (three i) (Some (a.sound i)) None)) are.warning
-            ∙ sym (sound-of-either a.sound (find three xs) (three i) i)
-            ∙ sym (ap (option_map a.sound) (find-append three xs (i ∷ [])));
-        caution =
-            caution
-            ∙ ap (λ x. x || two i) are.caution
-            ∙ ap (λ x. list_any two xs || x) (sym (or-false (two i)))
-            ∙ sym (list_any-append two xs (i ∷ []));
-        chime = λ j.
-            chime j
-            ∙ ap (λ x. x || chimes_in a k j i) (are.chime j)
-            ∙ ap (λ x. list_any (chimes_in a k j) xs || x) (sym (or-false (chimes_in a k j i)))
-            ∙ sym (list_any-append (chimes_in a k j) xs (i ∷ []));
-      }
-
-or-none : (o : Option Sound) → option_or o None ≡ o
-or-none None = refl
-or-none (Some x) = refl
-
--- one that doesn't call
-pub calls-same : (a : lamps.Attention) (k i : ℕ) (xs : List ℕ) (c : Calls) → AreCalls a k xs c → lamps.calls a i k ≡ false → AreCalls a k (xs ++ i ∷ []) c
-calls-same a k i xs c are silent =
-    let three = and_right (is_three (a.level i)) (lamps.calls a i k) silent in
-    let two = and_right (is_two (a.level i)) (lamps.calls a i k) silent in
-    let chime = λ (j : ℕ). and_right (is_two (a.level i) && lamps.is_chime (a.sound i)) (rings_in j (lamps.last_onset a i k) && lamps.calls a i k) (and_right (rings_in j (lamps.last_onset a i k)) (lamps.calls a i k) silent) in
-    calls-more a k i xs c c are
-    (sym (ap (λ x. option_or c.warning (cond x (Some (a.sound i)) None)) three ∙ or-none c.warning))
-    (sym (ap (λ x. c.caution || x) two ∙ or-false c.caution))
-    (λ j. sym (ap (λ x. rings_in j c.chime || x) (chime j) ∙ or-false (rings_in j c.chime)))
-
--- which alerts call, by what is kept of them
-open-onset : (o : Option ℕ) (f : ℕ → Bool) (n : ℕ) → Open n ≡ onset_of o (option_map_or f o false) → (o ≡ Some n) × (option_map_or f o false ≡ true)
-open-onset None f n h = cc
-open-onset (Some m) f n h = opened (f m) h where
-  opened : (b : Bool) → Open n ≡ onset_of (Some m) b → (Some m ≡ Some n) × (b ≡ true)
-  opened true e = let same : m ≡ n = cc in (ap Some same, refl)
-  opened false e = cc
-
-shut : (o : Option ℕ) (f : ℕ → Bool) → (Never ≡ onset_of o (option_map_or f o false)) ⊎ (Acknowledged ≡ onset_of o (option_map_or f o false)) → option_map_or f o false ≡ false
-shut None f h = refl
-shut (Some m) f h = closed (f m) h where
-  closed : (b : Bool) → (Never ≡ onset_of (Some m) b) ⊎ (Acknowledged ≡ onset_of (Some m) b) → b ≡ false
-  closed true (inl e) = cc
-  closed true (inr e) = cc
-  closed false e = refl
-
-turned : (x y : Bool) → not x ≡ not y → x ≡ y
-turned true true h = refl
-turned false false h = refl
-turned true false h = cc
-turned false true h = cc
+-- and its moment is kept with it
+kept-ring : (o : Option ℕ) (f : ℕ → Bool) (up : Bool) (j : ℕ)
+    → ((up && option_map_or f o false) && nat_le j (opened (onset_of o (option_map_or f o false)) + 4))
+    ≡ ((up && option_map_or f o false) && rings_in j o)
+kept-ring None f up j = rw (and-false up) refl
+kept-ring (Some m) f up j =
+    elim (f m) as (λ b. ((up && b) && nat_le j (opened (onset_of (Some m) b) + 4)) ≡ ((up && b) && nat_le j (m + 4)))
+    [ true ↦ refl | false ↦ rw (and-false up) refl ]
 
 module _ (a : lamps.Attention) (k i : ℕ) where
-  -- it isn't up
-  pub silent-down : (w : Watch) → w ≡ watch_after a i (suc k) → not w.up ≡ true → lamps.calls a i k ≡ false
-  unfolding previous lamps.calls
-  silent-down w is down =
-      let here : a.up i k ≡ false = sym (ap (λ (x : Watch). x.up) is) ∙ turned w.up false down in
-      ap (λ u. u && lamps.is_open a i k) here
-
-  -- its last onset was acknowledged, or there is none
-  pub silent-shut : (w : Watch) → w ≡ watch_after a i (suc k) → (w.onset ≡ Never) ⊎ (w.onset ≡ Acknowledged) → lamps.calls a i k ≡ false
-  unfolding lamps.calls lamps.is_open
-  silent-shut w is over =
-      let kept : w.onset ≡ onset_after a i (suc k) = ap (λ (x : Watch). x.onset) is in
-      let never : (w.onset ≡ Never) → Never ≡ onset_after a i (suc k) = λ e. sym e ∙ kept in
-      let done : (w.onset ≡ Acknowledged) → Acknowledged ≡ onset_after a i (suc k) = λ e. sym e ∙ kept in
-      and_right (a.up i k) (lamps.is_open a i k)
-      (shut (lamps.last_onset a i k) (λ j. not (once_from (suc j) (lamps.acknowledges a (a.level i)) k))
-      (elim over [ inl e ↦ inl (never e) | inr e ↦ inr (done e) ]))
-
-  -- it is up with an open onset
-  pub calling : (w : Watch) (n : ℕ) → w ≡ watch_after a i (suc k) → not w.up ≡ false → w.onset ≡ Open n → (lamps.calls a i k ≡ true) × (lamps.last_onset a i k ≡ Some n)
+  -- by what is kept of an alert it is known whether it calls
+  pub calls-kept : lamps.calls a i k ≡ calling (watch_after a i (suc k))
   unfolding previous lamps.calls lamps.is_open
-  calling w n is up onset =
-      let here : a.up i k ≡ true = sym (ap (λ (x : Watch). x.up) is) ∙ turned w.up true up in
-      let kept : Open n ≡ onset_after a i (suc k) = sym onset ∙ ap (λ (x : Watch). x.onset) is in
-      let open_now = open-onset (lamps.last_onset a i k) (λ j. not (once_from (suc j) (lamps.acknowledges a (a.level i)) k)) n kept in
-      (rw (here, open_now.1) refl, open_now.0)
+  calls-kept = ap (λ b. a.up i k && b) (sym (kept-open (lamps.last_onset a i k) _))
 
-  -- and then it adds to the calls what its level and sound ask for
-  pub calls-with : (xs : List ℕ) (c d : Calls) (level : Level) (sound : Sound) (n : ℕ) → level ≡ a.level i → sound ≡ a.sound i
-      → (lamps.calls a i k ≡ true) × (lamps.last_onset a i k ≡ Some n)
-      → d.warning ≡ option_or c.warning (cond (is_three level) (Some sound) None)
-      → d.caution ≡ (c.caution || is_two level)
-      → ((j : ℕ) → rings_in j d.chime ≡ (rings_in j c.chime || (is_two level && lamps.is_chime sound && nat_le j (n + 4))))
-      → AreCalls a k xs c → AreCalls a k (xs ++ i ∷ []) d
-  calls-with xs c d level sound n is heard call warning caution chime are =
-      let three : is_three level ≡ (is_three (a.level i) && lamps.calls a i k) = rw (is, call.0) (sym (and-true (is_three (a.level i)))) in
-      let two : is_two level ≡ (is_two (a.level i) && lamps.calls a i k) = rw (is, call.0) (sym (and-true (is_two (a.level i)))) in
-      calls-more a k i xs c d are
-      (warning ∙ ap (λ s. option_or c.warning (cond (is_three level) (Some s) None)) heard ∙ ap (λ x. option_or c.warning (cond x (Some (a.sound i)) None)) three)
-      (caution ∙ ap (λ x. c.caution || x) two)
-      (λ j. chime j ∙ ap (λ x. rings_in j c.chime || x) (rw (is, heard, call.0, call.1) (ap (λ x. is_two (a.level i) && lamps.is_chime (a.sound i) && x) (sym (and-true (nat_le j (n + 4)))))))
+  pub ring-kept : (j : ℕ) → (lamps.calls a i k && nat_le j (opened (watch_after a i (suc k)).onset + 4)) ≡ (lamps.calls a i k && rings_in j (lamps.last_onset a i k))
+  unfolding lamps.calls lamps.is_open
+  ring-kept j = kept-ring (lamps.last_onset a i k) _ (a.up i k) j
+
+-- the sound of the first number that passes
+pub first-sound : (a : lamps.Attention) (alerts : List Alert) → AreListed a alerts → (p : ℕ → Bool) (r : ℕ) → r ≤ length alerts
+    → (r < length alerts → p r ≡ true) → ((i : ℕ) → 0 ≤ i → i < r → p i ≡ false)
+    → option_map (λ (x : Alert). x.sound) (slice_get alerts r) ≡ option_map a.sound (find p (below (length alerts)))
+first-sound a alerts listed p r most here none =
+    elim (slice_get_cases alerts r).1 [
+      | inl found ↦
+          ap (option_map (λ (x : Alert). x.sound)) found.2
+          ∙ ap Some (listed.sound r found.0 found.1 (sym found.3))
+          ∙ sym (ap (option_map a.sound) (found-low p (length alerts) r most here none found.1))
+      | inr past ↦
+          ap (option_map (λ (x : Alert). x.sound)) past.1
+          ∙ sym (ap (option_map a.sound) (found-none p (length alerts) r most here none past.0))
+    ]
+
+-- the marks of an alert, which is shown or isn't, and calls or doesn't
+warned : (s c t : Bool) → ((s && c) && t) ≡ (s && (t && c))
+warned true true true = refl
+warned true true false = refl
+warned true false true = refl
+warned true false false = refl
+warned false c t = refl
+
+chimed : (s c t u r q : Bool) → (c && r) ≡ (c && q) → (((s && c) && (t && u)) && r) ≡ (s && ((t && u) && (q && c)))
+chimed false c t u r q same = refl
+chimed true false true true r q same = sym (and-false q)
+chimed true false false u r q same = refl
+chimed true false true false r q same = refl
+chimed true true false u r q same = refl
+chimed true true true false r q same = refl
+chimed true true true true r q same = same ∙ sym (and-true q)
+
+module _ (a : lamps.Attention) (k n : ℕ) (callers : Callers) (are : AreCallers a k n callers) where
+  abbrev shown : ℕ → Bool
+  shown i = is_shown a k i
+
+  pub warnings-called : find (is_marked callers.warnings) (below n) ≡ find (λ i. is_three (a.level i) && lamps.calls a i k) (filter shown (below n))
+  warnings-called =
+      find-below _ (λ i. shown i && (is_three (a.level i) && lamps.calls a i k)) n
+      (λ i h. ap (λ (m : Marks). m.warning) (are i h) ∙ warned (shown i) (lamps.calls a i k) (is_three (a.level i)))
+      ∙ sym (find-filter (λ i. is_three (a.level i) && lamps.calls a i k) shown (below n))
+
+  pub cautions-called : list_any (is_marked callers.cautions) (below n) ≡ list_any (λ i. is_two (a.level i) && lamps.calls a i k) (filter shown (below n))
+  cautions-called =
+      any-below _ (λ i. shown i && (is_two (a.level i) && lamps.calls a i k)) n
+      (λ i h. ap (λ (m : Marks). m.caution) (are i h) ∙ warned (shown i) (lamps.calls a i k) (is_two (a.level i)))
+      ∙ sym (any-filter shown (λ i. is_two (a.level i) && lamps.calls a i k) (below n))
+
+  pub chimes-called : (watches : List Watch) (j : ℕ) → AreWatched a (suc k) n watches
+      → list_any (λ i. is_marked callers.chimes i && rings_by j watches i) (below n) ≡ list_any (chimes_in a k j) (filter shown (below n))
+  chimes-called watches j kept =
+      any-below _ (λ i. shown i && chimes_in a k j i) n
+      (λ i h.
+      ap (λ (m : Marks). m.chime && rings_by j watches i) (are i h)
+      ∙ ap (λ o. (is_calling a k i && (is_two (a.level i) && lamps.is_chime (a.sound i))) && option_map_or (λ (w : Watch). nat_le j (opened w.onset + 4)) o false) (kept i h)
+      ∙ chimed (shown i) (lamps.calls a i k) (is_two (a.level i)) (lamps.is_chime (a.sound i)) _ _ (ring-kept a k i j))
+      ∙ sym (any-filter shown (chimes_in a k j) (below n))
 
 -- the calls of those that are shown, in whichever of the two orders they are looked at
 own-test : (x y : Bool) → (x && (x && y)) ≡ (x && y)

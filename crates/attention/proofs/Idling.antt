@@ -1,19 +1,24 @@
--- An idle alert: it isn't up in a moment and wasn't in the last, and its onset isn't open where a press acknowledges it. The
--- moment leaves what is kept of it.
-use Rattle.std.proofs.Common.{◌≡◌, ℕ, suc, ◌<◌, ◌≤◌, Bool, true, false, not, ◌&&◌, ◌||◌, cond, List, refl, sym, ◌∙◌, ap, arith}
+-- An idle alert: it is up and shown as in the moment before, and its onset isn't open where a press acknowledges it. The
+-- moment leaves what is kept of it, and where it calls.
+use Rattle.std.proofs.Common.{◌≡◌, ◌≢◌, ℕ, zero, suc, ◌<◌, Bool, true, false, not, ◌&&◌, ◌||◌, cond, List, Some, refl, sym, ◌∙◌, ap}
 use Rattle.ecam_spec.specs.Past.{previous}
 use Rattle.ecam_spec.specs.declared.kinds.Level.{Level}
 use Rattle.ecam_spec.specs.declared.kinds.Level.TheVariants.{One, Two, Three}
 use Rattle.ecam_spec.specs.Lamps as lamps
 use Rattle.wakes.specs.Marks.{is_marked}
+use Rattle.attention.specs.declared.callers.Callers.{Callers}
 use Rattle.attention.specs.declared.moment.Presses.{Presses}
 use Rattle.attention.specs.declared.watch.Onset.{Onset}
 use Rattle.attention.specs.declared.watch.Onset.TheVariants.{Never, Open, Acknowledged}
 use Rattle.attention.specs.declared.watch.Watch.{Watch}
-use Rattle.attention.specs.Moments.{ArePresses, AreUpMarked, any_pressed}
-use Rattle.attention.specs.Watches.{acknowledged, is_open, was_up, has_open, onset_after, watch_after, AreMarked, AreWatched}
+use Rattle.attention.specs.Calling.{AreCallers, is_shown}
+use Rattle.attention.specs.Moments.{ArePresses, any_pressed}
+use Rattle.attention.specs.State.{StaysAt}
+use Rattle.attention.specs.Walked.{IsStepped, IsLeft}
+use Rattle.attention.specs.Watches.{acknowledged, is_open, has_open, calling, onset_after, watch_after, AreMarked, AreWatched}
 use Rattle.attention.proofs.Onsets.{onset-stays}
-use Rattle.attention.proofs.CallLaws.{silent-down}
+use Rattle.attention.proofs.CallLaws.{calls-kept}
+use Rattle.attention.proofs.Walking.{marks-same}
 
 some-three : (mw mc emer : Bool) → (mw || emer) ≡ true → (mw || (mc || emer)) ≡ true
 some-three true mc emer h = refl
@@ -32,6 +37,11 @@ pressed-some a k p Three are is = some-three p.mw p.mc p.emer (rw (are.mw, are.e
 pressed-some a k p Two are is = some-two p.mw p.mc p.emer (rw (are.mc, are.emer) is)
 pressed-some a k p One are is = cc
 
+pub same-before : (x y : Bool) → x ≡ y → (x && not y) ≡ false
+same-before true true h = refl
+same-before false y h = refl
+same-before true false h = h
+
 -- a press acknowledges nothing where no onset is open
 shut-stays : (pressed : Bool) (o : Onset) → (pressed ≡ true → is_open o ≡ false) → cond pressed (acknowledged o) o ≡ o
 shut-stays false o shut = refl
@@ -40,41 +50,45 @@ shut-stays true (Open j) shut = absurd (let open_now : true ≡ false = shut ref
 shut-stays true Acknowledged shut = refl
 
 -- what is only where there is a mark isn't where there is none
-unmarked : (b mark : Bool) → (b ≡ true → mark ≡ true) → mark ≡ false → b ≡ false
+pub unmarked : (b mark : Bool) → (b ≡ true → mark ≡ true) → mark ≡ false → b ≡ false
 unmarked true mark has none = sym (has refl) ∙ none
 unmarked false mark has none = refl
 
-abbrev watch-from : Bool → Onset → Watch
-watch-from up onset = record { up = up; onset = onset }
-
-module _ (a : lamps.Attention) (k i : ℕ) (w : Watch) (was : w ≡ watch_after a i k) (before : was_up w ≡ false)
-    (down : a.up i k ≡ false) (shut : lamps.acknowledges a (a.level i) k ≡ true → has_open w ≡ false) where
-  same-onset : w.onset ≡ onset_after a i (suc k)
-  same-onset =
-      let onset : w.onset ≡ onset_after a i k = ap (λ (x : Watch). x.onset) was in
-      let stays = onset-stays a i k (a.up i k) w.up refl (ap (λ (x : Watch). x.up) was) (ap (λ b. b && not w.up) down) in
-      onset
-      ∙ sym (stays ∙ shut-stays (lamps.acknowledges a (a.level i) k) (onset_after a i k) (λ h. ap is_open (sym onset) ∙ shut h))
-
-  pub idle-stays : w ≡ watch_after a i (suc k)
+-- after a moment in which it is up as in the one before, and no press acknowledges its open onset
+module _ (a : lamps.Attention) (j i : ℕ) (up : a.up i (suc j) ≡ a.up i j)
+    (shut : lamps.acknowledges a (a.level i) (suc j) ≡ true → has_open (watch_after a i (suc j)) ≡ false) where
+  same-onset : onset_after a i (suc j) ≡ onset_after a i (suc (suc j))
   unfolding previous
-  idle-stays = ap (λ u. watch-from u w.onset) (before ∙ sym down) ∙ ap (watch-from (a.up i k)) same-onset
+  same-onset =
+      let pressed = lamps.acknowledges a (a.level i) (suc j) in
+      sym
+      (onset-stays a i (suc j) (a.up i (suc j)) (a.up i j) refl refl (same-before _ _ up)
+      ∙ shut-stays pressed (onset_after a i (suc j)) shut)
 
-  pub idle-silent : lamps.calls a i k ≡ false
-  idle-silent = silent-down a k i w idle-stays (ap not before)
+  pub idle-watch : watch_after a i (suc j) ≡ watch_after a i (suc (suc j))
+  unfolding previous
+  idle-watch = rw (up, same-onset) refl
 
--- some alerts in a row that aren't marked
-pub idle-row : (a : lamps.Attention) (k n from to : ℕ) (p : Presses) (watches : List Watch) (busy : List ℕ) → to ≤ n
-    → ArePresses a k p → AreMarked was_up watches busy → (any_pressed p ≡ true → AreMarked has_open watches busy)
-    → AreUpMarked a k n busy → AreWatched a k n watches
-    → ((j : ℕ) → from ≤ j → j < to → is_marked busy j ≡ false)
-    → (j : ℕ) → from ≤ j → j < to → (watch_after a j k ≡ watch_after a j (suc k)) × (lamps.calls a j k ≡ false)
-idle-row a k n from to p watches busy within are marked pressed up kept none j low below =
-    let w = watch_after a j k in
-    let read = kept j (omega arith) in
-    let gone = none j low below in
-    let before : was_up w ≡ false = unmarked _ (is_marked busy j) (marked j w read) gone in
-    let down : a.up j k ≡ false = unmarked _ (is_marked busy j) (up j (omega arith)) gone in
-    let shut : lamps.acknowledges a (a.level j) k ≡ true → has_open w ≡ false =
-    λ h. unmarked _ (is_marked busy j) (pressed (pressed-some a k p (a.level j) are h) j w read) gone in
-    (idle-stays a k j w refl before down shut, idle-silent a k j w refl before down shut)
+  pub idle-calls : lamps.calls a i (suc j) ≡ lamps.calls a i j
+  idle-calls = calls-kept a (suc j) i ∙ ap calling (sym idle-watch) ∙ sym (calls-kept a j i)
+
+-- what isn't looked at in a moment
+pub idle-left : (a : lamps.Attention) (n k i : ℕ) (p : Presses) (watches news : List Watch) (callers next : Callers) (opens looked : List ℕ)
+    → i < n → ArePresses a k p → (k ≢ 0) × StaysAt a k i → AreWatched a k n watches
+    → ((j : ℕ) → k ≡ suc j → AreCallers a j n callers)
+    → AreMarked has_open watches opens → (any_pressed p ≡ true → (m : ℕ) → is_marked opens m ≡ true → is_marked looked m ≡ true)
+    → is_marked looked i ≡ false → IsLeft i watches callers news next
+    → IsStepped a k i (is_shown a k i) news next
+idle-left a n zero i p watches news callers next opens looked within are stays kept calls marked pressed off left = absurd (stays.0 refl)
+idle-left a n (suc j) i p watches news callers next opens looked within are stays kept calls marked pressed off left =
+    let up = stays.1.up j refl in
+    let shut : lamps.acknowledges a (a.level i) (suc j) ≡ true → has_open (watch_after a i (suc j)) ≡ false =
+    λ h. unmarked _ (is_marked looked i) (λ o. pressed (pressed-some a (suc j) p (a.level i) are h) i (marked i _ (kept i within) o)) off in
+    record {
+      watch = left.watch ∙ kept i within ∙ ap Some (idle-watch a j i up shut);
+      marks =
+          left.marks
+          ∙ calls j refl i within
+          ∙ marks-same (a.level i) (a.level i) (a.sound i) (a.sound i) _ _ refl refl
+          (rw (stays.1.shown j refl, idle-calls a j i up shut) refl);
+    }

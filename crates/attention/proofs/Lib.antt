@@ -1,5 +1,7 @@
 pub mod Onsets
 pub mod Passing
+pub mod Below
+pub mod Latest
 pub mod Ordered
 pub mod CallLaws
 pub mod Heard

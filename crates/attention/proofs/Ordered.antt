@@ -1,10 +1,12 @@
 -- A look at the alerts in the book's order finds the first of a level, and whether there is one, as a look at them in
 -- their own order does.
-use Rattle.std.proofs.Common.{◌≡◌, ℕ, Bool, true, false, ◌&&◌, ◌++◌, length, Option, Some, None, refl, sym, ◌∙◌, ap}
+use Rattle.std.proofs.Common.{◌≡◌, ℕ, ◌<◌, ◌==◌, Bool, true, false, ◌&&◌, ◌||◌, List, ◌++◌, length, Option, Some, None, refl, sym, ◌∙◌, ap}
 use Rattle.std.specs.Prelude.{find, filter, is_some}
 use Rattle.std.specs.List.{list_any}
 use Rattle.std.specs.Option.{option_or}
-use Rattle.std.proofs.lemmas.List.Folds.{find-append}
+use Rattle.std.proofs.lemmas.List.Folds.{find-append, list_any-append}
+use Rattle.std.proofs.lemmas.Bool.{and_right, ne_eqb, eq-eqb}
+use Rattle.std.proofs.Math.Bool.{and-true}
 use Rattle.ecam_spec.specs.declared.kinds.Level.{Level}
 use Rattle.ecam_spec.specs.declared.kinds.Level.TheVariants.{One, Two, Three}
 use Rattle.ecam_spec.specs.Levels.{is_three, is_two, is_one}
@@ -13,6 +15,7 @@ use Rattle.ecam_spec.specs.Book.{Book}
 use Rattle.ecam_spec.specs.Situation.{alert_at}
 use Rattle.ecam_spec.specs.Screen.{of_level, order}
 use Rattle.attention.proofs.Passing.{find-agree, find-none, find-filter, is_some-find}
+use Rattle.attention.proofs.Below.{any-one}
 
 -- a test that passes alerts of one level alone
 abbrev IsOfLevel : (Level → Bool) → (ℕ → Level) → (ℕ → Bool) → Type 0
@@ -107,3 +110,34 @@ module _ (b : Book) (shown p : ℕ → Bool) where
       ∙ find-caution b (λ i. shown i && p i) (λ i. and-swap (is_two (level_at b i)) (shown i) (p i) (own i))
       ∙ sym (find-filter p shown (below (length b.alerts))))
       ∙ is_some-find p (filter shown (below (length b.alerts)))
+
+-- what is shown of the alerts in their own order
+three-levels : (l : Level) (s : Bool) → (((is_three l && s) || (is_two l && s)) || (is_one l && s)) ≡ s
+three-levels Three true = refl
+three-levels Three false = refl
+three-levels Two true = refl
+three-levels Two false = refl
+three-levels One s = refl
+
+pub any-filter : (p q : ℕ → Bool) (xs : List ℕ) → list_any q (filter p xs) ≡ list_any (λ i. p i && q i) xs
+any-filter p q xs = sym (is_some-find q (filter p xs)) ∙ ap is_some (find-filter q p xs) ∙ is_some-find (λ i. p i && q i) xs
+
+module _ (b : Book) (shown : ℕ → Bool) (i : ℕ) (within : i < length b.alerts) where
+  abbrev here : ℕ → Bool
+  here j = shown j && (j == i)
+
+  of-level : (test : Level → Bool) → list_any here (of_level b test) ≡ (test (level_at b i) && shown i)
+  of-level test =
+      any-filter (λ j. test (level_at b j)) here (below (length b.alerts))
+      ∙ any-one (λ j. test (level_at b j) && here j) (length b.alerts) i within
+      (λ j apart. and_right (test (level_at b j)) (here j) (and_right (shown j) (j == i) (ne_eqb j i apart)))
+      ∙ ap (λ x. test (level_at b i) && (shown i && x)) (eq-eqb i i refl)
+      ∙ ap (λ x. test (level_at b i) && x) (and-true (shown i))
+
+  pub shown-at : list_any (λ j. j == i) (filter shown (order b)) ≡ shown i
+  unfolding order
+  shown-at =
+      any-filter shown (λ j. j == i) (order b)
+      ∙ list_any-append here (of_level b is_three ++ of_level b is_two) (of_level b is_one)
+      ∙ ap (λ x. x || list_any here (of_level b is_one)) (list_any-append here (of_level b is_three) (of_level b is_two))
+      ∙ rw (of-level is_three, of-level is_two, of-level is_one) (three-levels (level_at b i) (shown i))

@@ -1,6 +1,7 @@
 -- A moment in which nothing comes leaves what is kept of each alert, and what they call for.
-use Rattle.std.proofs.Common.{◌≡◌, ℕ, zero, suc, Bool, true, false, not, ◌&&◌, ◌||◌, Some, cond, refl, sym, ◌∙◌, ap, length}
+use Rattle.std.proofs.Common.{◌≡◌, ℕ, zero, suc, Bool, true, false, not, ◌&&◌, ◌||◌, ◌==◌, Some, cond, refl, sym, ◌∙◌, ap}
 use Rattle.std.specs.Prelude.{option_map}
+use Rattle.std.specs.List.{list_any}
 use Rattle.ecam_spec.specs.Past.{previous, rise}
 use Rattle.ecam_spec.specs.Alert.{onset}
 use Rattle.ecam_spec.specs.Levels.{is_three, is_two}
@@ -8,20 +9,18 @@ use Rattle.ecam_spec.specs.declared.kinds.Level.{Level}
 use Rattle.ecam_spec.specs.declared.kinds.Level.TheVariants.{One, Two, Three}
 use Rattle.ecam_spec.specs.Lamps as lamps
 use Rattle.ecam_spec.proofs.LampLaws.{last_onset-suc, open_now}
+use Rattle.attention.specs.declared.callers.Callers.{Callers}
 use Rattle.attention.specs.declared.calls.Calls.{Calls}
 use Rattle.attention.specs.declared.moment.Presses.{Presses}
 use Rattle.attention.specs.Watches.{watch_after}
-use Rattle.attention.specs.Moments.{ArePresses, AreUpMarked}
-use Rattle.attention.specs.Calling.{AreCalls, chimes_in}
+use Rattle.attention.specs.Moments.{ArePresses}
+use Rattle.attention.specs.Calling.{AreCalls, AreCallers, chimes_in}
 use Rattle.ecam_spec.specs.Book.{Book}
 use Rattle.attention.specs.declared.state.Attention.{Attention}
-use Rattle.attention.specs.State.{AreStill, NothingComes, AttentionStands}
+use Rattle.attention.specs.State.{AreStill, StaysAt, NothingComes, AttentionStands}
+use Rattle.attention.proofs.Idling.{same-before}
 use Rattle.attention.proofs.Passing.{find-agree, any-agree}
-
-same-before : (x y : Bool) → x ≡ y → (x && not y) ≡ false
-same-before true true h = refl
-same-before false y h = refl
-same-before true false h = h
+use Rattle.attention.proofs.Walking.{marks-same}
 
 module _ (a : lamps.Attention) (k : ℕ) (nothing : NothingComes a k) where
   none-comes : (i : ℕ) → onset (a.up i) (suc k) ≡ false
@@ -61,6 +60,11 @@ module _ (a : lamps.Attention) (k : ℕ) (nothing : NothingComes a k) where
         chime = λ j. are.chime j ∙ any-agree (chimes_in a k j) (chimes_in a (suc k) j) (λ i. rw (same-calls i, same-onset i) refl) (a.shown k);
       })
 
+  pub callers-rest : (n : ℕ) (callers : Callers) → AreCallers a k n callers → AreCallers a (suc k) n callers
+  callers-rest n callers are i h =
+      are i h
+      ∙ marks-same (a.level i) (a.level i) (a.sound i) (a.sound i) _ _ refl refl (rw (nothing.shown, same-calls i) refl)
+
 none-of : (x y z : Bool) → (x || (y || z)) ≡ false → (x ≡ false) × (y ≡ false) × (z ≡ false)
 none-of false false false h = (refl, refl, refl)
 none-of true y z h = cc
@@ -80,9 +84,9 @@ still-rests b a zero old new begun still mw mc emer rest stands = absurd (begun 
 still-rests b a (suc j) old new begun still mw mc emer rest stands =
     rest j (record { up = still.up j refl; shown = still.shown j refl; mw = mw; mc = mc; emer = emer }) stands
 
--- in such a moment each that is up was up, and so is busy
-pub still-up : (b : Book) (a : lamps.Attention) (k : ℕ) (old : Attention) → (old.moments ≡ 0 → ⊥) → AreStill a k → AttentionStands b a k old → AreUpMarked a k (length b.alerts) old.busy
-unfolding previous
-still-up b a zero old begun still stands = absurd (begun stands.moments)
-still-up b a (suc j) old begun still stands = λ i h is.
-    stands.fits.busy i (watch_after a i (suc j)) (stands.watches i h) (sym (still.up j refl i) ∙ is)
+-- and each alert stays in it
+pub still-stays : (a : lamps.Attention) (k i : ℕ) → AreStill a k → StaysAt a k i
+still-stays a k i still = record {
+  up = λ j e. still.up j e i;
+  shown = λ j e. ap (list_any (λ x. x == i)) (still.shown j e);
+}

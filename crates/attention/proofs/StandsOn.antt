@@ -1,5 +1,5 @@
 -- How what is kept comes to stand for no moment, and for one moment more.
-use Rattle.std.proofs.Common.{◌≡◌, ℕ, zero, suc, ◌+◌, ◌*◌, ◌/◌, Bool, true, false, List, length, replicate, slice_get, Some, Global, sym, ◌∙◌, ap, subst, arith, add-one}
+use Rattle.std.proofs.Common.{◌≡◌, ℕ, zero, suc, ◌+◌, false, List, length, replicate, slice_get, Some, Global, sym, ◌∙◌, ap, subst, arith, add-one}
 use Rattle.std.specs.Prelude.{◌↔◌}
 use Rattle.std.specs.Box.{boxed_slice_items, boxed_slice_with_items}
 use Rattle.std.specs.declared.boxed.BoxedSlice.{BoxedSlice}
@@ -7,12 +7,13 @@ use Rattle.std.proofs.lemmas.List.{with_items_is, length-replicate, get_or-repli
 use Rattle.std.proofs.lemmas.Option.{slice_get-get_or}
 use Rattle.ecam_spec.specs.Book.{Book}
 use Rattle.ecam_spec.specs.Lamps as lamps
-use Rattle.wakes.specs.Marks.{is_marked, room}
+use Rattle.wakes.specs.Marks.{room}
+use Rattle.attention.specs.declared.callers.Callers.{Callers}
 use Rattle.attention.specs.declared.watch.Watch.{Watch}
 use Rattle.attention.specs.declared.state.Attention.{Attention}
-use Rattle.attention.specs.Watches.{watch_after, was_up, has_open, AreKept, AreMarked, AreWatched}
-use Rattle.attention.specs.Calling.{no_calls, AreCalls}
-use Rattle.attention.specs.State.{AttentionFits, AttentionStands, TellsChange, lights_after}
+use Rattle.attention.specs.Watches.{watch_after, has_open, AreMarked, AreWatched}
+use Rattle.attention.specs.Calling.{no_calls, AreCalls, AreCallers}
+use Rattle.attention.specs.State.{AreKept, AttentionFits, AttentionStands, TellsChange, lights_after}
 use Rattle.attention.proofs.Heard.{change-told}
 
 -- a list in a box is written over whole
@@ -24,40 +25,32 @@ repeated zero i w x read = cc
 repeated (suc n) zero w x read = cc
 repeated (suc n) (suc i) w x read = repeated n i w x read
 
--- where the same is kept of each alert, which wasn't up and has no open onset
-module _ (m n : ℕ) (w : Watch) (kept : List Watch) (all : kept ≡ replicate n w) where
-  none-passes : (test : Watch → Bool) (marks : List ℕ) → test w ≡ false → AreMarked test kept marks
-  none-passes test marks off i x read is =
-      let one : w ≡ x = repeated n i w x (sym (ap (λ ws. slice_get ws i) all) ∙ read) in
-      absurd (let clash : test x ≡ false = sym (ap test one) ∙ off in cc)
+-- where the same is kept of each alert, and its onset isn't open, nothing has to be marked
+pub none-open : (n : ℕ) (w : Watch) (kept : List Watch) (marks : List ℕ) → kept ≡ replicate n w → has_open w ≡ false → AreMarked has_open kept marks
+none-open n w kept marks all shut i x read is =
+    let one : w ≡ x = repeated n i w x (sym (ap (λ ws. slice_get ws i) all) ∙ read) in
+    absurd (let clash : has_open x ≡ false = sym (ap has_open one) ∙ shut in cc)
 
-  pub kept-first : (busy opens : List ℕ) → n ≡ m → room busy ≡ 64 * (m / 64 + 1) → room opens ≡ 64 * (m / 64 + 1)
-      → was_up w ≡ false → has_open w ≡ false → AreKept m kept busy opens
-  kept-first busy opens many size other down shut = record {
-    watches = ap length all ∙ length-replicate n w ∙ many;
-    busy_room = size;
-    open_room = other;
-    busy = none-passes was_up busy down;
-    still_open = none-passes has_open opens shut;
-  }
-
--- with more busy ones
-pub kept-marked : (n : ℕ) (kept : List Watch) (busy more opens : List ℕ) → room more ≡ room busy
-    → ((i : ℕ) → is_marked busy i ≡ true → is_marked more i ≡ true) → AreKept n kept busy opens → AreKept n kept more opens
-kept-marked n kept busy more opens size over fits = record {
+-- with others to be looked at
+pub fits-looked : (n : ℕ) (kept : List Watch) (opens looked others : List ℕ) (callers : Callers) → room others ≡ room looked
+    → AreKept n kept opens looked callers → AreKept n kept opens others callers
+fits-looked n kept opens looked others callers size fits = record {
   watches = fits.watches;
-  busy_room = size ∙ fits.busy_room;
   open_room = fits.open_room;
-  busy = λ i w read is. over i (fits.busy i w read is);
+  looked_room = size ∙ fits.looked_room;
+  callers = fits.callers;
   still_open = fits.still_open;
 }
 
 module _ (b : Book) (a : lamps.Attention) where
-  pub stands-marked : (k : ℕ) (old t : Attention) → AttentionFits b t → t.moments ≡ old.moments → t.watches ≡ old.watches → t.calls ≡ old.calls → t.changed ≡ old.changed → AttentionStands b a k old → AttentionStands b a k t
-  stands-marked k old t fits moments watches calls changed stands = record {
+  -- with others to be looked at
+  pub stands-looked : (k : ℕ) (old t : Attention) → AttentionFits b t → t.moments ≡ old.moments → t.watches ≡ old.watches
+      → t.callers ≡ old.callers → t.calls ≡ old.calls → t.changed ≡ old.changed → AttentionStands b a k old → AttentionStands b a k t
+  stands-looked k old t fits moments watches callers calls changed stands = record {
     fits = fits;
     moments = moments ∙ stands.moments;
     watches = λ i h. ap (λ ws. slice_get (boxed_slice_items ws) i) watches ∙ stands.watches i h;
+    callers = λ j e. rw callers (stands.callers j e);
     before = λ e. calls ∙ stands.before e;
     calls = λ j e. rw calls (stands.calls j e);
     changed = λ j e. rw changed (stands.changed j e);
@@ -74,6 +67,7 @@ module _ (b : Book) (a : lamps.Attention) where
         ap (λ ws. slice_get ws i) watches
         ∙ slice_get-get_or (replicate n w) i w (omega (arith, length-replicate n w))
         ∙ ap Some (get_or-replicate n i w w (omega arith) ∙ kept i);
+    callers = λ j e. absurd (let x : ⊥ = cc in x);
     before = λ e. calls;
     calls = λ j e. absurd (let x : ⊥ = cc in x);
     changed = λ j e. absurd (let x : ⊥ = cc in x);
@@ -81,11 +75,12 @@ module _ (b : Book) (a : lamps.Attention) where
 
   -- one moment more
   pub stands-next : (k : ℕ) (old t : Attention) → AttentionStands b a k old → TellsChange old t → AttentionFits b t → t.moments ≡ k + 1 → AreWatched a (suc k) (length b.alerts) (boxed_slice_items t.watches)
-      → AreCalls a k (a.shown k) t.calls → AttentionStands b a (suc k) t
-  stands-next k old t stands tells fits moments watches calls = record {
+      → AreCallers a k (length b.alerts) t.callers → AreCalls a k (a.shown k) t.calls → AttentionStands b a (suc k) t
+  stands-next k old t stands tells fits moments watches callers calls = record {
     fits = fits;
     moments = moments ∙ add-one k;
     watches = watches;
+    callers = λ j e. let same : k ≡ j = cc in rw same at callers;
     before = λ e. absurd (let x : ⊥ = cc in x);
     calls = λ j e. let same : k ≡ j = cc in rw same at calls;
     changed = λ j e.

@@ -1,5 +1,5 @@
 -- What is kept after some moments, by the signals.
-use Rattle.std.specs.Prelude.{◌≡◌, ◌≢◌, ◌↔◌, true, is_some, ℕ, zero, suc, ◌^◌, ◌<◌, ◌≤◌, Bool, false, List, length, filter, get_or}
+use Rattle.std.specs.Prelude.{◌≡◌, ◌≢◌, ◌↔◌, true, is_some, ℕ, zero, suc, ◌+◌, ◌*◌, ◌/◌, ◌^◌, ◌<◌, ◌≤◌, Bool, false, List, length, filter, get_or}
 use Rattle.std.specs.Box.{boxed_slice_items}
 use Rattle.ecam_spec.specs.declared.kinds.Key.TheVariants.{Mw, Mc, Emer}
 use Rattle.ecam_spec.specs.declared.kinds.Sound.TheVariants.{Quiet}
@@ -9,14 +9,25 @@ use Rattle.ecam_spec.specs.Screen.{order}
 use Rattle.ecam_spec.specs.Lamps as lamps
 use Rattle.ecam_kinds.specs.declared.keys.Keys.{Keys}
 use Rattle.ecam_kinds.specs.KeyState.{is_pressed}
+use Rattle.wakes.specs.Marks.{room}
+use Rattle.attention.specs.declared.callers.Callers.{Callers}
 use Rattle.attention.specs.declared.state.Lights.{Lights}
 use Rattle.attention.specs.declared.state.Attention.{Attention}
-use Rattle.attention.specs.Watches.{AreWatched, AreKept}
-use Rattle.attention.specs.Calling.{no_calls, AreCalls, sounding}
+use Rattle.attention.specs.declared.watch.Watch.{Watch}
+use Rattle.attention.specs.Watches.{AreWatched, AreMarked, has_open}
+use Rattle.attention.specs.Calling.{no_calls, AreCalls, AreCallers, HaveRoom, is_shown, sounding}
 
--- it was made for the book: something is kept of each alert, and those that were up and those with an open onset are marked
+-- something is kept of each of n alerts, those with an open onset are marked as such, and the other sets have room
+pub record AreKept (n : ℕ) (kept : List Watch) (opens looked : List ℕ) (c : Callers) : Type 0 where
+  pub watches : length kept ≡ n
+  pub open_room : room opens ≡ 64 * (n / 64 + 1)
+  pub looked_room : room looked ≡ 64 * (n / 64 + 1)
+  pub callers : HaveRoom n c
+  pub still_open : AreMarked has_open kept opens
+
+-- it was made for the book
 abbrev pub AttentionFits : Book → Attention → Type 0
-AttentionFits b t = AreKept (length b.alerts) (boxed_slice_items t.watches) t.busy t.still_open
+AttentionFits b t = AreKept (length b.alerts) (boxed_slice_items t.watches) t.still_open t.looked t.callers
 
 -- the number of the moment can grow: there are 2 ^ 63 moments of 100 ms in 29 thousand million years
 abbrev pub CanGoOn : Attention → Type 0
@@ -43,6 +54,11 @@ pub record NothingComes (a : lamps.Attention) (k : ℕ) : Type 0 where
   pub mc : a.mc (suc k) ≡ false
   pub emer : a.emer (suc k) ≡ false
 
+-- in moment k alert i is up and shown as in the moment before
+pub record StaysAt (a : lamps.Attention) (k i : ℕ) : Type 0 where
+  pub up : (j : ℕ) → k ≡ suc j → a.up i k ≡ a.up i j
+  pub shown : (j : ℕ) → k ≡ suc j → is_shown a k i ≡ is_shown a j i
+
 -- in moment k what is up and shown is so as in the moment before
 pub record AreStill (a : lamps.Attention) (k : ℕ) : Type 0 where
   pub up : (j : ℕ) → k ≡ suc j → (i : ℕ) → a.up i k ≡ a.up i j
@@ -58,6 +74,7 @@ pub record AttentionStands (b : Book) (a : lamps.Attention) (k : ℕ) (t : Atten
   pub fits : AttentionFits b t
   pub moments : t.moments ≡ k
   pub watches : AreWatched a k (length b.alerts) (boxed_slice_items t.watches)
+  pub callers : (j : ℕ) → k ≡ suc j → AreCallers a j (length b.alerts) t.callers
   pub before : k ≡ 0 → t.calls ≡ no_calls
   pub calls : (j : ℕ) → k ≡ suc j → AreCalls a j (a.shown j) t.calls
   pub changed : (j : ℕ) → k ≡ suc j → (t.changed ≡ false) ↔ (lights_after a k ≡ lights_after a j)

@@ -1,8 +1,9 @@
 -- What is kept of an alert, by its signals.
-use Rattle.std.specs.Prelude.{◌≡◌, ℕ, zero, suc, ◌+◌, ◌*◌, ◌/◌, ◌<◌, List, length, slice_get, Bool, true, false, Option, Some, None}
+use Rattle.std.specs.Prelude.{◌≡◌, ℕ, zero, suc, ◌+◌, ◌<◌, ◌&&◌, nat_le, List, slice_get, Bool, true, false, Option, Some, None}
+use Rattle.std.specs.Option.{option_map_or}
 use Rattle.ecam_spec.specs.Past.{previous}
 use Rattle.ecam_spec.specs.Lamps as lamps
-use Rattle.wakes.specs.Marks.{is_marked, room}
+use Rattle.wakes.specs.Marks.{is_marked}
 use Rattle.attention.specs.declared.watch.Onset.{Onset}
 use Rattle.attention.specs.declared.watch.Onset.TheVariants.{Never, Open, Acknowledged}
 use Rattle.attention.specs.declared.watch.Watch.{Watch}
@@ -38,22 +39,24 @@ is_open Never = false
 is_open (Open j) = true
 is_open Acknowledged = false
 
--- it was up in the last moment
-abbrev pub was_up : Watch → Bool
-was_up w = w.up
-
 -- its onset is open
 abbrev pub has_open : Watch → Bool
 has_open w = is_open w.onset
 
+-- the alert is up, and its onset is open
+abbrev pub calling : Watch → Bool
+calling w = w.up && has_open w
+
+-- the moment of an open onset
+abbrev pub opened : Onset → ℕ
+opened Never = 0
+opened (Open j) = j
+opened Acknowledged = 0
+
+-- a chime since the onset of alert i, if that is open, sounds in moment j
+abbrev pub rings_by : ℕ → List Watch → ℕ → Bool
+rings_by j watches i = option_map_or (λ w. nat_le j (opened w.onset + 4)) (slice_get watches i) false
+
 -- each alert of which such a watch is kept is marked
 abbrev pub AreMarked : (Watch → Bool) → List Watch → List ℕ → Type 0
 AreMarked test kept marks = (i : ℕ) (w : Watch) → slice_get kept i ≡ Some w → test w ≡ true → is_marked marks i ≡ true
-
--- something is kept of each of n alerts, those that were up are busy, and those whose onset is open are marked as such
-pub record AreKept (n : ℕ) (kept : List Watch) (busies opens : List ℕ) : Type 0 where
-  pub watches : length kept ≡ n
-  pub busy_room : room busies ≡ 64 * (n / 64 + 1)
-  pub open_room : room opens ≡ 64 * (n / 64 + 1)
-  pub busy : AreMarked was_up kept busies
-  pub still_open : AreMarked has_open kept opens

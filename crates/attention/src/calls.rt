@@ -1,16 +1,9 @@
-// Which alerts call for attention in a moment, as far as the lights and the sound go by it.
-ghost use Rattle.std.specs.Prelude.{◌≡◌, ℕ, suc, ◌+◌, ◌-◌, List, ◌∷◌, [], ◌++◌, ◌&&◌, ◌||◌, ◌≤◌, true, nat_le, Some, None, if◌then◌else◌};
-ghost use Rattle.std.specs.Option.{option_or};
+// What alerts call for in a moment, as far as the lights and the sound go by it.
+ghost use Rattle.std.specs.Prelude.{◌≡◌, ℕ, ◌-◌, ◌≤◌, true, if◌then◌else◌};
 ghost use Rattle.ecam_spec.specs.declared.kinds.Sound.TheVariants.{Chime, Quiet};
-ghost use Rattle.ecam_spec.specs.Levels.{is_three, is_two};
-ghost use Rattle.ecam_spec.specs.Lamps as lamps;
-ghost use Rattle.ecam_spec.specs.Lamps.{is_chime};
-ghost use Rattle.attention.specs.Watches.{watch_after};
-ghost use Rattle.attention.specs.Calling.{no_calls, AreCalls, rings_in, sounding};
+ghost use Rattle.attention.specs.Calling.{no_calls, rings_in, sounding};
 
-use crate::watch::{Onset, Watch};
-use book_model::Alert;
-use ecam_kinds::{Level, Sound};
+use ecam_kinds::Sound;
 
 /// In how many moments a chime sounds, from its alert's onset on: half a second.
 const CHIME_MOMENTS: u64 = 5;
@@ -35,58 +28,6 @@ impl Calls {
             warning: None,
             caution: false,
             chime: None,
-        }
-    }
-
-    /// With one alert more, after the others.
-    pub fn with(self, alert: &Alert, watch: Watch) -> Calls
-        ensures { (a : lamps.Attention) (k i : ℕ) (is : List ℕ) → alert.now.level ≡ a.level i
-            → alert.now.sound ≡ a.sound i → watch ≡ watch_after a i (suc k)
-            → AreCalls a k is self → AreCalls a k (is ++ i ∷ []) result }
-    {
-        if !watch.up {
-            return self;
-        }
-        match watch.onset {
-            Onset::Open(onset) => self.with_onset(alert.level, alert.sound, onset),
-            Onset::Never => self,
-            Onset::Acknowledged => self,
-        }
-    }
-
-    // With an alert that calls since this onset.
-    fn with_onset(self, level: Level, sound: Sound, onset: u64) -> Calls
-        ensures warning { result.warning
-            ≡ option_or self.warning (if is_three level then Some sound else None) }
-        ensures caution { result.caution ≡ (self.caution || is_two level) }
-        ensures chime { (j : ℕ) → rings_in j result.chime
-            ≡ (rings_in j self.chime || (is_two level && is_chime sound && nat_le j (onset + 4))) }
-    {
-        match level {
-            Level::Three => Calls {
-                warning: Some(self.warning.unwrap_or(sound)),
-                ..self
-            },
-            Level::Two => Calls {
-                caution: true,
-                chime: self.later_chime(sound, onset),
-                ..self
-            },
-            Level::One => self,
-        }
-    }
-
-    // The latest onset that calls with a chime, with one more of level 2.
-    fn later_chime(self, sound: Sound, onset: u64) -> Option<u64>
-        ensures { (j : ℕ) → rings_in j result
-            ≡ (rings_in j self.chime || (is_chime sound && nat_le j (onset + 4))) }
-    {
-        if sound != Sound::Chime {
-            return self.chime;
-        }
-        match self.chime {
-            None => Some(onset),
-            Some(other) => Some(other.max(onset)),
         }
     }
 

@@ -2,6 +2,7 @@
 //! that what the lights and the sound are by the definitions over all moments so far.
 #![tactic(auto)]
 
+mod callers;
 mod calls;
 mod moment;
 mod state;

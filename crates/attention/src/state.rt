@@ -1,15 +1,15 @@
 // The lights and the sound.
-ghost use Rattle.std.specs.Prelude.{◌≡◌, ◌↔◌, ℕ, suc, ◌+◌, ◌*◌, ◌/◌, length, get_or, IfOk, false, true};
+ghost use Rattle.std.specs.Prelude.{◌≡◌, ◌≢◌, ◌↔◌, ℕ, suc, ◌+◌, ◌*◌, ◌/◌, ◌<◌, length, IfOk, false, true};
 ghost use Rattle.ecam_spec.specs.Book as plain;
 ghost use Rattle.ecam_spec.specs.Lamps as lamps;
 ghost use Rattle.book_model.specs.Sealed.{the_book};
 ghost use Rattle.wakes.specs.Marks.{is_marked, room};
-ghost use Rattle.attention.specs.Moments.{AreUpMarked};
-ghost use Rattle.attention.specs.State.{AttentionFits, CanGoOn, AreOfBook, Brings, AreStill, NothingComes, AttentionStands, IsSteady, lights_after, lights_of, TellsChange};
+ghost use Rattle.attention.specs.State.{AttentionFits, CanGoOn, AreOfBook, Brings, StaysAt, AreStill, NothingComes, AttentionStands, IsSteady, lights_after, lights_of, TellsChange};
 
+use crate::callers::Callers;
 use crate::calls::Calls;
 use crate::moment::{Moment, Presses};
-use crate::walk::{join_open, mark_up, walk};
+use crate::walk::{join_open, mark_all, walk};
 use crate::watch::Watch;
 use book_model::Book;
 use ecam_kinds::{Keys, Sound};
@@ -25,10 +25,12 @@ pub struct Attention {
     moments: u64,
     // Per alert, by its place in the book.
     watches: BoxedSlice<Watch>,
-    // At least the alerts that were up in the last moment.
-    busy: Marked,
     // At least the alerts whose onset is open.
     still_open: Marked,
+    // Those that call for something.
+    callers: Callers,
+    // Those that are looked at in a moment.
+    looked: Marked,
     // What the last moment called for.
     calls: Calls,
     changed: bool,
@@ -54,13 +56,15 @@ impl Attention {
         let alerts = book.alerts().len();
         let mut watches = Vec::new(alloc);
         watches.resize(alerts, Watch::new())?;
-        let busy = Marked::new(alloc, alerts)?;
         let still_open = Marked::new(alloc, alerts)?;
+        let callers = Callers::new(alloc, alerts)?;
+        let looked = Marked::new(alloc, alerts)?;
         Ok(Attention {
             moments: 0,
             watches: watches.into_boxed_slice(),
-            busy,
             still_open,
+            callers,
+            looked,
             calls: Calls::none(),
             changed: false,
         })
@@ -76,8 +80,8 @@ impl Attention {
     {
         self.moments = 0;
         self.watches.as_mut_slice().fill(Watch::new());
-        self.busy.clear();
         self.still_open.clear();
+        self.callers.clear();
         self.calls = Calls::none();
         self.changed = false;
     }
@@ -96,15 +100,14 @@ impl Attention {
         self.watches
             .as_mut_slice()
             .copy_from_slice(other.watches.as_slice());
-        self.busy.copy_from(&other.busy);
         self.still_open.copy_from(&other.still_open);
+        self.callers.copy_from(&other.callers);
         self.calls = other.calls;
         self.changed = other.changed;
     }
 
     /// Takes one moment more, of 100 ms: per alert whether it is up and whether it is shown, and the keys that are
-    /// pressed in it. Its cost is one look at each alert, and a few looks and writes more at those that are up or were in the
-    /// last moment, and at those whose onset is open where a key acknowledges.
+    /// pressed in it. Its cost is a few looks and writes at each alert.
     pub fn step(&mut self, book: &Book, up: &[bool], shown: &[bool], keys: &Keys)
         requires fits { AttentionFits (the_book book.now) self.old }
         requires goes_on { CanGoOn self.old }
@@ -118,40 +121,46 @@ impl Attention {
             → AttentionStands (the_book book.now) a k self.old
             → AttentionStands (the_book book.now) a (suc k) self.new }
     {
-        mark_up(&mut self.busy, up);
-        self.step_busy(book, up, shown, keys);
+        mark_all(&mut self.looked, book.alerts().len());
+        self.step_looked(book, up, shown, keys);
     }
 
-    /// Takes one moment more like `step`, where each alert that is up is near. Its cost is a look and a write for each 64
-    /// alerts, and a few looks and writes at each that is near or was up in the last moment, and at those whose onset is open
-    /// where a key acknowledges.
-    pub fn step_among(
+    /// Takes one moment more like `step`, where each alert that isn't in `turned` is up and shown as in the moment before.
+    /// Its cost is five looks and a write for each 64 alerts, a few looks and writes at each that is in `turned`, and at
+    /// those whose onset is open where a key acknowledges, and a read at each that calls with a chime. In the first moment
+    /// it is that of `step`.
+    pub fn step_turned(
         &mut self,
         book: &Book,
         up: &[bool],
         shown: &[bool],
-        near: &Marked,
+        turned: &Marked,
         keys: &Keys,
     )
         requires fits { AttentionFits (the_book book.now) self.old }
         requires goes_on { CanGoOn self.old }
         requires up { length up.now ≡ length book.now.alerts.items }
         requires shown { length shown.now ≡ length book.now.alerts.items }
-        requires near_room { room near.now ≡ 64 * (length book.now.alerts.items / 64 + 1) }
-        requires near { (i : ℕ) → get_or up.now i false ≡ true → is_marked near.now i ≡ true }
+        requires turned_room { room turned.now ≡ 64 * (length book.now.alerts.items / 64 + 1) }
         ensures fits { AttentionFits (the_book book.now) self.new }
         ensures moments { self.new.moments ≡ self.old.moments + 1 }
         ensures stands { (a : lamps.Attention) (k : ℕ) → AreOfBook (the_book book.now) a
             → Brings (the_book book.now) a k up.now shown.now keys.now
+            → ((i : ℕ) → i < length (the_book book.now).alerts → is_marked turned.now i ≡ false
+            → StaysAt a k i)
             → AttentionStands (the_book book.now) a k self.old
             → AttentionStands (the_book book.now) a (suc k) self.new }
     {
-        self.busy.join(near);
-        self.step_busy(book, up, shown, keys);
+        if self.moments == 0 {
+            self.step(book, up, shown, keys);
+            return;
+        }
+        self.looked.copy_from(turned);
+        self.step_looked(book, up, shown, keys);
     }
 
-    // Takes one moment more like `step`, where each alert that is up is among the busy ones.
-    fn step_busy(&mut self, book: &Book, up: &[bool], shown: &[bool], keys: &Keys)
+    // Takes one moment more like `step`, where each alert that isn't in `looked` is up and shown as in the moment before.
+    fn step_looked(&mut self, book: &Book, up: &[bool], shown: &[bool], keys: &Keys)
         requires fits { AttentionFits (the_book book.now) self.old }
         requires goes_on { CanGoOn self.old }
         requires up { length up.now ≡ length book.now.alerts.items }
@@ -160,7 +169,8 @@ impl Attention {
         ensures moments { self.new.moments ≡ self.old.moments + 1 }
         ensures stands { (a : lamps.Attention) (k : ℕ) → AreOfBook (the_book book.now) a
             → Brings (the_book book.now) a k up.now shown.now keys.now
-            → AreUpMarked a k (length (the_book book.now).alerts) self.old.busy
+            → ((i : ℕ) → i < length (the_book book.now).alerts
+            → is_marked self.old.looked i ≡ false → (k ≢ 0) × StaysAt a k i)
             → AttentionStands (the_book book.now) a k self.old
             → AttentionStands (the_book book.now) a (suc k) self.new }
     {
@@ -170,14 +180,17 @@ impl Attention {
             shown,
             presses: Presses::among(keys),
         };
-        join_open(&mut self.busy, &self.still_open, moment.presses);
-        let calls = walk(
+        join_open(&mut self.looked, &self.still_open, moment.presses);
+        let alerts = book.alerts();
+        walk(
             self.watches.as_mut_slice(),
-            &mut self.busy,
             &mut self.still_open,
-            book.alerts(),
+            &mut self.callers,
+            &self.looked,
+            alerts,
             &moment,
         );
+        let calls = self.callers.calls(self.watches.as_slice(), alerts);
         self.hear(calls);
     }
 
@@ -233,8 +246,7 @@ impl Attention {
     }
 
     /// Takes one moment more like `step`, where each alert is up and shown as in the moment before. It looks at no alert
-    /// unless the moment is the first, or a press acknowledges. Then its cost is a look and a write for each 64 alerts, and
-    /// a few looks and writes at each that is up or whose onset is open.
+    /// unless the moment is the first, or a press acknowledges. Then its cost is that of `step_turned` where none turned.
     pub fn step_still(&mut self, book: &Book, up: &[bool], shown: &[bool], keys: &Keys)
         requires fits { AttentionFits (the_book book.now) self.old }
         requires goes_on { CanGoOn self.old }
@@ -253,7 +265,8 @@ impl Attention {
         }
         let presses = Presses::among(keys);
         if presses.any() {
-            self.step_busy(book, up, shown, keys);
+            self.looked.clear();
+            self.step_looked(book, up, shown, keys);
             return;
         }
         self.rest();
@@ -265,8 +278,9 @@ impl Attention {
         ensures moments { self.new.moments ≡ self.old.moments + 1 }
         ensures calls { self.new.calls ≡ calls }
         ensures watches { self.new.watches ≡ self.old.watches }
-        ensures busy { self.new.busy ≡ self.old.busy }
         ensures still_open { self.new.still_open ≡ self.old.still_open }
+        ensures callers { self.new.callers ≡ self.old.callers }
+        ensures looked { self.new.looked ≡ self.old.looked }
         ensures changed { TellsChange self.old self.new }
     {
         let before = self.lights();

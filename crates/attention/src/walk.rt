@@ -1,67 +1,53 @@
-// One look at each alert that may be another than before, or call for something.
-ghost use Rattle.std.specs.Prelude.{◌≡◌, ◌↔◌, ◌<◌, ◌≤◌, ◌==◌, ◌||◌, ◌&&◌, ℕ, suc, true, false, not, length, filter, get_or, slice_set};
+// One look at each alert that may be another than before.
+ghost use Rattle.std.specs.Prelude.{◌≡◌, ◌↔◌, ◌<◌, ◌≤◌, ℕ, true, false, length, get_or, slice_set};
 ghost use Rattle.ecam_spec.specs.Lamps as lamps;
-ghost use Rattle.ecam_spec.specs.Places.{below};
 ghost use Rattle.wakes.specs.Marks.{is_marked, room};
-ghost use Rattle.attention.specs.Watches.{AreMarked, AreWatched, was_up, has_open};
-ghost use Rattle.attention.specs.Moments.{IsMoment, AreUpMarked, any_pressed};
-ghost use Rattle.attention.specs.Calling.{AreCalls};
+ghost use Rattle.attention.specs.Watches.{AreMarked, AreWatched, has_open};
+ghost use Rattle.attention.specs.Moments.{IsMoment, any_pressed};
+ghost use Rattle.attention.specs.Calling.{HaveRoom};
+ghost use Rattle.attention.specs.Walked.{IsStepped, IsLeft};
 
-use crate::calls::Calls;
+use crate::callers::{Callers, write_mark};
 use crate::moment::{Moment, Presses};
 use crate::watch::Watch;
 use book_model::Alert;
 use wakes::Marked;
 
-/// Steps what is kept of each alert by a moment, and answers what those call for that are shown. It goes over the busy ones
-/// alone, and takes out those that aren't up. Its cost is a look for each 64 alerts, and a few looks and writes at each that
-/// is busy.
+/// Steps what is kept of each alert in `looked` by a moment, and puts it where it calls for something. Its cost is a look for
+/// each 64 alerts, and a few looks and writes at each of these.
 pub fn walk(
     watches: &mut [Watch],
-    busy: &mut Marked,
     still_open: &mut Marked,
+    callers: &mut Callers,
+    looked: &Marked,
     alerts: &[Alert],
     moment: &Moment,
-) -> Calls
+)
     requires watches { length watches.old ≡ length alerts.now }
-    requires busy_room { length alerts.now ≤ room busy.old }
     requires open_room { length alerts.now ≤ room still_open.old }
-    requires busy { AreMarked was_up watches.old busy.old }
+    requires callers { HaveRoom (length alerts.now) callers.old }
     requires still_open { AreMarked has_open watches.old still_open.old }
-    // What a press may acknowledge is busy.
-    requires pressed { any_pressed moment.now.presses ≡ true
-        → AreMarked has_open watches.old busy.old }
     requires up { length moment.now.up.now ≡ length alerts.now }
     requires shown { length moment.now.shown.now ≡ length alerts.now }
-    ensures busy_room { room busy.new ≡ room busy.old }
     ensures open_room { room still_open.new ≡ room still_open.old }
-    ensures busy { AreMarked was_up watches.new busy.new }
+    ensures callers { HaveRoom (length alerts.now) callers.new }
     ensures still_open { AreMarked has_open watches.new still_open.new }
-    ensures watches { (a : lamps.Attention) (k : ℕ) → IsMoment a k alerts.now moment.now
-        → AreUpMarked a k (length alerts.now) busy.old
+    ensures looked { (a : lamps.Attention) (k i : ℕ) → IsMoment a k alerts.now moment.now
         → AreWatched a k (length alerts.now) watches.old
-        → AreWatched a (suc k) (length alerts.now) watches.new }
-    ensures calls { (a : lamps.Attention) (k : ℕ) → IsMoment a k alerts.now moment.now
-        → AreUpMarked a k (length alerts.now) busy.old
-        → AreWatched a k (length alerts.now) watches.old
-        → AreCalls a k (filter (λ i. get_or moment.now.shown.now i false)
-        (below (length alerts.now)))
-        result }
+        → i < length alerts.now → is_marked looked.now i ≡ true
+        → IsStepped a k i (get_or moment.now.shown.now i false) watches.new callers.new }
+    ensures others { (i : ℕ) → is_marked looked.now i ≡ false
+        → IsLeft i watches.old callers.old watches.new callers.new }
 {
-    let mut calls = Calls::none();
-    let mut i = busy.next_or(0, alerts.len());
+    let mut i = looked.next_or(0, alerts.len());
     while i < alerts.len() {
         let alert = &alerts[i];
         let pressed = moment.presses.acknowledge(alert.level);
         let watch = watches[i].next(moment.up[i], pressed, moment.number);
         keep(watches, still_open, i, watch);
-        sift(busy, i, watch);
-        if moment.shown[i] {
-            calls = calls.with(alert, watch);
-        }
-        i = busy.next_or(i + 1, alerts.len());
+        callers.put(i, alert, moment.shown[i] & watch.calls());
+        i = looked.next_or(i + 1, alerts.len());
     }
-    calls
 }
 
 // What is kept of an alert becomes this. It is written only where it is another than before.
@@ -80,62 +66,33 @@ fn keep(watches: &mut [Watch], still_open: &mut Marked, i: usize, watch: Watch)
     }
 }
 
-// A number is put in, or taken out.
-fn write_mark(set: &mut Marked, i: usize, is_in: bool)
-    requires { i < room set.old }
-    ensures room { room set.new ≡ room set.old }
-    ensures own { is_marked set.new i ≡ is_in }
-    ensures others { (j : ℕ) → (j == i) ≡ false → is_marked set.new j ≡ is_marked set.old j }
-{
-    if is_in {
-        set.mark(i);
-    } else {
-        set.unmark(i);
-    }
-}
-
 fn differ(one: Watch, other: Watch) -> bool
     ensures { (result ≡ false) ↔ (one ≡ other) }
 {
     one != other
 }
 
-// An alert of which this is kept is taken out where it isn't up.
-fn sift(busy: &mut Marked, i: usize, watch: Watch)
-    requires { i < room busy.old }
-    ensures room { room busy.new ≡ room busy.old }
-    ensures marks { (j : ℕ) → is_marked busy.new j
-        ≡ (is_marked busy.old j && (was_up watch || not (j == i))) }
+/// Puts so many alerts in. Its cost is one write for each.
+pub fn mark_all(looked: &mut Marked, count: usize)
+    requires { count ≤ room looked.old }
+    ensures room { room looked.new ≡ room looked.old }
+    ensures marks { (i : ℕ) → i < count → is_marked looked.new i ≡ true }
 {
-    if !watch.up {
-        busy.unmark(i);
-    }
-}
-
-/// Puts the alerts that are up in. Its cost is one look at each alert, and a write for each that is up.
-pub fn mark_up(busy: &mut Marked, up: &[bool])
-    requires { length up.now ≤ room busy.old }
-    ensures room { room busy.new ≡ room busy.old }
-    ensures up { (i : ℕ) → get_or up.now i false ≡ true → is_marked busy.new i ≡ true }
-    ensures kept { (i : ℕ) → is_marked busy.old i ≡ true → is_marked busy.new i ≡ true }
-{
-    for i in 0..up.len() {
-        if up[i] {
-            busy.mark(i);
-        }
+    for i in 0..count {
+        looked.mark(i);
     }
 }
 
 /// Where a key that acknowledges is pressed, puts the alerts whose onset is open in. Its cost is then a write for each 64
 /// alerts.
-pub fn join_open(busy: &mut Marked, still_open: &Marked, presses: Presses)
-    requires { room busy.old ≡ room still_open.now }
-    ensures room { room busy.new ≡ room busy.old }
+pub fn join_open(looked: &mut Marked, still_open: &Marked, presses: Presses)
+    requires { room looked.old ≡ room still_open.now }
+    ensures room { room looked.new ≡ room looked.old }
     ensures still_open { any_pressed presses ≡ true → (i : ℕ) → is_marked still_open.now i ≡ true
-        → is_marked busy.new i ≡ true }
-    ensures kept { (i : ℕ) → is_marked busy.old i ≡ true → is_marked busy.new i ≡ true }
+        → is_marked looked.new i ≡ true }
+    ensures kept { (i : ℕ) → is_marked looked.old i ≡ true → is_marked looked.new i ≡ true }
 {
     if presses.any() {
-        busy.join(still_open);
+        looked.join(still_open);
     }
 }

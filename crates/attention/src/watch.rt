@@ -1,7 +1,7 @@
 // What is kept of one alert.
 ghost use Rattle.std.specs.Prelude.{◌≡◌, ℕ, suc, ◌&&◌, not, false};
 ghost use Rattle.ecam_spec.specs.Lamps as lamps;
-ghost use Rattle.attention.specs.Watches.{acknowledged, is_open, has_open, onset_after, watch_after};
+ghost use Rattle.attention.specs.Watches.{acknowledged, is_open, has_open, calling, opened, onset_after, watch_after};
 
 /// How the last onset of an alert stands.
 #[derive(Clone, Copy, PartialEq, Eq)]
@@ -64,6 +64,24 @@ impl Watch {
         ensures { result ≡ has_open self }
     {
         self.onset.is_open()
+    }
+
+    /// The alert is up, and its last onset is open.
+    pub fn calls(self) -> bool
+        ensures { result ≡ calling self }
+    {
+        self.up & self.has_open()
+    }
+
+    /// The moment of its last onset, if that is open.
+    pub fn opened(self) -> u64
+        ensures { result ≡ opened self.onset }
+    {
+        match self.onset {
+            Onset::Never => 0,
+            Onset::Open(moment) => moment,
+            Onset::Acknowledged => 0,
+        }
     }
 
     /// After one moment more: whether the alert is up in it, whether a press in it acknowledges its level, and

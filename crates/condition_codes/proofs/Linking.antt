@@ -1,5 +1,5 @@
 -- What is read of the codes of a book by a condition's number, or by a node that asks.
-use Rattle.std.proofs.Common.{◌≡◌, ℕ, suc, ◌+◌, ◌-◌, ◌<◌, ◌≤◌, List, length, map, take, drop, slice_get, slice_index, slice_index_or, Some, false, refl, sym, ap, ◌∙◌, inl, inr, arith}
+use Rattle.std.proofs.Common.{◌≡◌, ℕ, suc, ◌+◌, ◌-◌, ◌<◌, ◌≤◌, List, length, take, drop, slice_get, slice_index, slice_index_or, Some, false, refl, sym, ap, ◌∙◌, inl, inr, arith}
 use Rattle.std.proofs.lemmas.List.{length-map, get_or_default}
 use Rattle.std.proofs.lemmas.List.FromFn.{get_or-map-range_with_len}
 use Rattle.std.proofs.lemmas.Option.{slice_get_within, slice_get_cases}
@@ -17,7 +17,6 @@ use Rattle.term_eval.proofs.Codes.{length-asked}
 use Rattle.condition_codes.specs.declared.askers.Asker.{Asker}
 use Rattle.condition_codes.specs.declared.codes.CodeTable.{CodeTable}
 use Rattle.condition_codes.specs.declared.starts.Starts.{Starts}
-use Rattle.condition_codes.specs.Flat.{piece}
 use Rattle.condition_codes.specs.IsAskers.{IsAsking}
 use Rattle.condition_codes.specs.IsCodes.{IsCodes, node_starts, owner_starts, slot_starts}
 use Rattle.condition_codes.specs.Pieces.{AreCodes, links_of}

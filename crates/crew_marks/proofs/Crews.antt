@@ -10,7 +10,7 @@ use Rattle.crew_marks.specs.declared.mark.Mark.{Mark}
 use Rattle.crew_marks.specs.declared.mark.Sight.{Sight}
 use Rattle.crew_marks.specs.declared.mark.Actions.{Actions}
 use Rattle.crew_marks.specs.MarkStep.{mark_after}
-use Rattle.crew_marks.specs.MarksState.{MarkStands}
+use Rattle.crew_marks.specs.MarksState.{MarkStands, SeesActions}
 
 -- something is shown where there is a target in the next moment
 module _ (c : Cockpit) where
@@ -29,13 +29,6 @@ pub record SeesAlert (c : Cockpit) (a k : ℕ) (s : Sight) : Type 0 where
   pub waiting : s.waiting ≡ c.waiting a k
   pub is_caution : s.is_caution ≡ c.is_caution a
   pub is_target : s.is_target ≡ is_alert a (target (shown c) k)
-
--- the crew and the flight do what moment k says
-pub record SeesActions (c : Cockpit) (k : ℕ) (x : Actions) : Type 0 where
-  pub clr : x.clr ≡ c.clr k
-  pub rcl : x.rcl ≡ c.rcl k
-  pub emer : x.emer ≡ c.emer k
-  pub restores : x.restores ≡ (long_recall c k || c.enters_one k)
 
 clear-shape : (u s r w : Bool) → (u && (s || (w && not r))) ≡ ((s && u) || ((u && not r) && w))
 clear-shape true true r w = refl

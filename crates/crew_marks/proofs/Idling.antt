@@ -15,7 +15,7 @@ use Rattle.crew_marks.specs.declared.mark.Sight.{Sight}
 use Rattle.crew_marks.specs.declared.mark.Actions.{Actions}
 use Rattle.crew_marks.specs.MarkSets.{MarkSets, mark_at, is_marked}
 use Rattle.crew_marks.specs.MarkStep.{mark_after, sight_of}
-use Rattle.crew_marks.specs.Looked.{AreLooked}
+use Rattle.crew_marks.specs.Looked.{AreLooked, StepsLooked, StepsAll}
 use Rattle.crew_marks.proofs.Orders.{found-passes}
 
 -- nothing is marked
@@ -51,7 +51,7 @@ unless : (x m : Bool) → (x ≡ true → m ≡ true) → m ≡ false → x ≡ 
 unless true m h off = absurd (false≢true (sym off ∙ h refl))
 unless false m h off = refl
 
--- one that isn't looked at stays as it is
+-- where those that are up, wait or are marked are looked at, each mark is stepped, since the others stay as they are
 module _ (b : Book) (up waiting : List Bool) (s : MarkSets) (set : List ℕ) (target : Option ℕ) (x : Actions)
     (looked : AreLooked s up waiting set) (aims : target ≡ find (λ a. get_or s.shown a false) (order b)) where
   targets : IfSome target (λ t. get_or s.shown t false ≡ true)
@@ -59,7 +59,7 @@ module _ (b : Book) (up waiting : List Bool) (s : MarkSets) (set : List ℕ) (ta
       subst (λ o. IfSome o (λ t. get_or s.shown t false ≡ true)) (sym aims)
       (found-passes (λ a. get_or s.shown a false) (order b))
 
-  pub idle-rests : (a : ℕ) → numbers.is_marked set a ≡ false
+  idle-rests : (a : ℕ) → numbers.is_marked set a ≡ false
       → mark_at s a ≡ mark_after (mark_at s a) (sight_of b up waiting target a) x
   idle-rests a off =
       let caution = is_caution_level (alert_at b a).level in
@@ -70,3 +70,8 @@ module _ (b : Book) (up waiting : List Bool) (s : MarkSets) (set : List ℕ) (ta
       let sight : sight_of b up waiting target a ≡ idle_sight caution = rw (not_up, not_waiting, spares) refl in
       none ∙ sym (unmarked-after caution x) ∙ ap (λ g. mark_after no_mark g x) (sym sight)
       ∙ ap (λ m. mark_after m (sight_of b up waiting target a) x) (sym none)
+
+  pub looked-steps : (new : MarkSets) → StepsLooked b up waiting set target x s new → StepsAll b up waiting target x s new
+  looked-steps new steps a within =
+      elim (numbers.is_marked set a) as (λ t. numbers.is_marked set a ≡ t → mark_at new a ≡ mark_after (mark_at s a) (sight_of b up waiting target a) x)
+      [ true ↦ λ on. steps.marks a within on | false ↦ λ off. steps.kept a off ∙ idle-rests a off ] refl

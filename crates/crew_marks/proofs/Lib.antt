@@ -1,4 +1,5 @@
 pub mod Orders
+pub mod Ranking
 pub mod BookAlerts
 pub mod Walking
 pub mod Idling
@@ -7,6 +8,7 @@ pub mod Crews
 pub mod Stepping
 pub mod Resting
 pub mod Ending
+pub mod Looking
 pub mod Quiet
 pub mod Passing
 pub mod Settling

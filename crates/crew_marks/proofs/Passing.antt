@@ -27,5 +27,5 @@ pub passed-stands : (b : Book) (c : Cockpit) (k : ℕ) (m : CrewMarks) → Marks
 passed-stands b c k m fits settled of_book nothing still stands =
     rested-stands b c k m (passed m) of_book nothing still stands refl
     fits (record { first = m.first; changed = false }) refl
-    (record { sets = refl; target = settled.target; first = refl; changed = settled.changed; moments = refl; held_since = settled.held_since })
+    (record { sets = refl; looked = refl; target = settled.target; first = refl; changed = settled.changed; moments = refl; held_since = settled.held_since })
     (λ p q n counted pressed quiet kept. press-settled p q n m.first m.quiet_press settled.quiet_press pressed quiet kept)

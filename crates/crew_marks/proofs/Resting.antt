@@ -59,7 +59,7 @@ module _ (c : Cockpit) (a : ℕ) where
 -- ---- a mark
 
 -- the alert is up and waits as in the moment before, and it is known whether it is a caution
-pub record IsStill (c : Cockpit) (a k : ℕ) (s : Sight) : Type 0 where
+pub record SeesStill (c : Cockpit) (a k : ℕ) (s : Sight) : Type 0 where
   pub up : s.up ≡ previous (c.up a) k
   pub waiting : s.waiting ≡ previous (c.waiting a) k
   pub is_caution : s.is_caution ≡ c.is_caution a
@@ -85,7 +85,7 @@ rest-cleared u l t r w e f under = rw (e, f, and-true w) under
 rest-recalled : (v l t r w : Bool) → l ≡ false → r ≡ false → Under v w → (v && (not (l && t) && (r || w))) ≡ w
 rest-recalled v l t r w e f under = rw (e, f) under
 
-module _ (c : Cockpit) (a k : ℕ) (m : Mark) (s : Sight) (x : Actions) (still : IsStill c a k s) (none : acts x ≡ false) (stands : MarkStands c a k m) where
+module _ (c : Cockpit) (a k : ℕ) (m : Mark) (s : Sight) (x : Actions) (still : SeesStill c a k s) (none : acts x ≡ false) (stands : MarkStands c a k m) where
   no-clr : x.clr ≡ false
   no-clr = left-off x.clr _ none
 

@@ -1,12 +1,8 @@
 -- A walk over the alerts that are looked at.
-use Rattle.std.proofs.Common.{◌≡◌, ℕ, ◌+◌, ◌<◌, ◌≤◌, ◌≢◌, Bool, true, false, ◌||◌, Some, None, List, [], ◌∷◌, length, get_or, take, drop, inl, inr, refl, sym, ◌∙◌, ap, arith}
+use Rattle.std.proofs.Common.{◌≡◌, ℕ, ◌+◌, ◌<◌, ◌≤◌, ◌≢◌, Bool, true, false, ◌||◌, List, get_or, cond, inl, inr, refl, sym, ◌∙◌, ap, arith}
 use Rattle.std.specs.Prelude.{◌↔◌}
-use Rattle.std.specs.Option.{option_or}
-use Rattle.std.specs.List.{find}
 use Rattle.std.proofs.lemmas.Bool.{or_parts, or_from, cases_lt}
-use Rattle.std.proofs.lemmas.List.{take_more, take-append-drop}
-use Rattle.std.proofs.lemmas.List.Folds.{find-append}
-use Rattle.std.proofs.Math.Seq.{drop-cons}
+use Rattle.wakes.specs.Marks as numbers
 use Rattle.crew_marks.specs.declared.mark.Mark.{Mark}
 use Rattle.crew_marks.specs.declared.mark.Sight.{Sight}
 use Rattle.crew_marks.specs.declared.mark.Actions.{Actions}
@@ -68,14 +64,25 @@ settled-stays s a g x quiet as_up untouched =
 
 -- ---- the walk
 
+-- those in the set take a step, and the others stay
+abbrev pub step_in : List ℕ → (ℕ → Mark → Mark) → ℕ → Mark → Mark
+step_in set step a m = cond (numbers.is_marked set a) (step a m) m
+
+pub looked-at : (set : List ℕ) (step : ℕ → Mark → Mark) (a : ℕ) (m : Mark) → numbers.is_marked set a ≡ true → step_in set step a m ≡ step a m
+looked-at set step a m on = ap (λ t. cond t (step a m) m) on
+
+pub passed-over : (set : List ℕ) (step : ℕ → Mark → Mark) (a : ℕ) (m : Mark) → numbers.is_marked set a ≡ false → m ≡ step_in set step a m
+passed-over set step a m off = ap (λ t. cond t (step a m) m) (sym off)
+
 -- the alerts below i are stepped, and the others stand as they did
 pub record ArePassed (step : ℕ → Mark → Mark) (initial : MarkSets) (i : ℕ) (s : MarkSets) (turned : Bool) : Type 0 where
   pub marks : (a : ℕ) → a < i → mark_at s a ≡ step a (mark_at initial a)
   pub left : (a : ℕ) → i ≤ a → mark_at s a ≡ mark_at initial a
   pub changed : (turned ≡ false) ↔ (s ≡ initial)
+  pub order : s.order ≡ initial.order
 
 pub pass-none : (step : ℕ → Mark → Mark) (initial : MarkSets) → ArePassed step initial 0 initial false
-pass-none step initial = record { marks = λ a h. absurd (omega arith); left = λ a h. refl; changed = (λ e. refl, λ e. refl) }
+pass-none step initial = record { marks = λ a h. absurd (omega arith); left = λ a h. refl; changed = (λ e. refl, λ e. refl); order = refl }
 
 -- those that stay as they are need no step
 pub pass-others : (step : ℕ → Mark → Mark) (initial : MarkSets) (i j : ℕ) (s : MarkSets) (turned : Bool) → i ≤ j
@@ -91,7 +98,17 @@ pass-others step initial i j s turned order stays p = record {
       ];
   left = λ a h. p.left a (omega arith);
   changed = p.changed;
+  order = p.order;
 }
+
+-- those that aren't looked at keep their marks
+pub pass-kept : (set : List ℕ) (step : ℕ → Mark → Mark) (initial : MarkSets) (i : ℕ) (s : MarkSets) (turned : Bool)
+    → ArePassed (step_in set step) initial i s turned → (a : ℕ) → numbers.is_marked set a ≡ false → mark_at s a ≡ mark_at initial a
+pass-kept set step initial i s turned p a off =
+    elim (cases_lt a i) [
+      | inl low ↦ p.marks a low ∙ sym (passed-over set step a (mark_at initial a) off)
+      | inr high ↦ p.left a (omega arith)
+    ]
 
 module _ (step : ℕ → Mark → Mark) (initial : MarkSets) (i : ℕ) (s t : MarkSets) (changed turned : Bool) (has : HasMark s i)
     (stepped : t ≡ set_mark s i (step i (mark_at s i))) (turns : (turned ≡ false) ↔ (t ≡ s)) (p : ArePassed step initial i s changed) where
@@ -125,16 +142,5 @@ module _ (step : ℕ → Mark → Mark) (initial : MarkSets) (i : ℕ) (s t : Ma
       λ e. turns.0 ((or_parts changed turned e).1) ∙ p.changed.0 ((or_parts changed turned e).0),
       λ e. or_from changed turned (p.changed.1 (unturned e)) (turns.1 (e ∙ sym (unturned e))),
     );
+    order = ap (λ (u : MarkSets). u.order) stepped ∙ p.order;
   }
-
--- ---- the first that is shown
-
-pub find-none-more : (p : ℕ → Bool) (xs : List ℕ) (i : ℕ) → i < length xs → p (get_or xs i 0) ≡ false → find p (take i xs) ≡ None → find p (take (i + 1) xs) ≡ None
-find-none-more p xs i within off none =
-    ap (find p) (take_more xs i 0 within) ∙ find-append p (take i xs) (get_or xs i 0 ∷ [])
-    ∙ ap (λ o. option_or o (find p (get_or xs i 0 ∷ []))) none ∙ rw off refl
-
-pub find-here : (p : ℕ → Bool) (xs : List ℕ) (i : ℕ) → i < length xs → p (get_or xs i 0) ≡ true → find p (take i xs) ≡ None → find p xs ≡ Some (get_or xs i 0)
-find-here p xs i within on none =
-    ap (find p) (sym (take-append-drop i xs)) ∙ find-append p (take i xs) (drop i xs)
-    ∙ ap (λ o. option_or o (find p (drop i xs))) none ∙ ap (find p) (drop-cons xs i 0 within) ∙ rw on refl

@@ -10,23 +10,25 @@ use Rattle.ecam_spec.specs.Past.{previous, running_since, last_since}
 use Rattle.ecam_spec.specs.Book.{Book}
 use Rattle.ecam_spec.specs.Screen.{order}
 use Rattle.ecam_spec.specs.Crew as crew
-use Rattle.ecam_spec.specs.Crew.{Cockpit, is_alert, long_recall, shown, shows_nothing}
+use Rattle.ecam_spec.specs.Crew.{Cockpit, is_alert, shown, shows_nothing}
 use Rattle.ecam_spec.proofs.Nowhere.{find-none}
 use Rattle.ecam_spec.proofs.CrewSteps.{target-next}
 use Rattle.ecam_kinds.specs.declared.keys.Keys.{Keys}
+use Rattle.wakes.specs.Marks as numbers
 use Rattle.crew_marks.specs.declared.mark.Mark.{Mark}
 use Rattle.crew_marks.specs.declared.mark.Actions.{Actions}
-use Rattle.crew_marks.specs.MarkStep.{mark_after, sight_of, actions_of}
+use Rattle.crew_marks.specs.MarkStep.{mark_after, sight_of}
 use Rattle.crew_marks.specs.MarkSets.{MarkSets, mark_at, AreMany}
 use Rattle.crew_marks.specs.CrewMarks.{CrewMarks, is_cleared, is_recalled, is_shown}
-use Rattle.crew_marks.specs.MarksState.{IsCrewOf, SeesCrew, MarksFit, MarkStands, MarksStand, OnlyCleared}
+use Rattle.crew_marks.specs.MarksState.{IsCrewOf, SeesCrew, MarksFit, MarkStands, MarksStand, OnlyCleared, SeesActions}
+use Rattle.crew_marks.specs.Looked.{StepsLooked, StepsAll}
 use Rattle.crew_marks.proofs.Orders.{mem-order, found-within}
 use Rattle.crew_marks.proofs.Walking.{no-flag, find-agree}
 use Rattle.crew_marks.proofs.Crews.{target-some, mark-stands}
 
 -- ---- flags
 
-flag-within : (xs : List Bool) (a : ℕ) → get_or xs a false ≡ true → a < length xs
+pub flag-within : (xs : List Bool) (a : ℕ) → get_or xs a false ≡ true → a < length xs
 flag-within xs a h = elim (cases_lt a (length xs)) [ inl within ↦ within | inr past ↦ absurd (false≢true (sym (get_or_past xs a false past) ∙ h)) ]
 
 found-first : (p : ℕ → Bool) (x a : ℕ) (o : Option ℕ) (b : Bool) → p x ≡ b → (is_alert a o ≡ true → p a ≡ true) → is_alert a (cond b (Some x) o) ≡ true → p a ≡ true
@@ -43,18 +45,19 @@ first-found b inside m same fits = subst (λ (n : CrewMarks). n.first ≡ find (
 
 -- ---- no moment
 
-pub record IsBlank (n : ℕ) (m : CrewMarks) : Type 0 where
-  pub cleared : m.sets.cleared ≡ replicate n false
-  pub cancelled : m.sets.cancelled ≡ replicate n false
-  pub recalled : m.sets.recalled ≡ replicate n false
-  pub shown : m.sets.shown ≡ replicate n false
+pub record IsBlank (b : Book) (m : CrewMarks) : Type 0 where
+  pub order : m.sets.order ≡ order b
+  pub cleared : m.sets.cleared ≡ replicate (length b.alerts) false
+  pub cancelled : m.sets.cancelled ≡ replicate (length b.alerts) false
+  pub recalled : m.sets.recalled ≡ replicate (length b.alerts) false
+  pub shown : m.sets.shown ≡ replicate (length b.alerts) false
   pub target : m.target ≡ None
   pub first : m.first ≡ None
   pub moments : m.moments ≡ 0
   pub held_since : m.held_since ≡ None
   pub quiet_press : m.quiet_press ≡ None
 
-module _ (b : Book) (m : CrewMarks) (blank : IsBlank (length b.alerts) m) where
+module _ (b : Book) (m : CrewMarks) (blank : IsBlank b m) where
   blank-flag : (xs : List Bool) → xs ≡ replicate (length b.alerts) false → (a : ℕ) → get_or xs a false ≡ false
   blank-flag xs e a = ap (λ ys. get_or ys a false) e ∙ no-flag (length b.alerts) a
 
@@ -70,6 +73,7 @@ module _ (b : Book) (m : CrewMarks) (blank : IsBlank (length b.alerts) m) where
           recalled = blank-length m.sets.recalled blank.recalled;
           shown = blank-length m.sets.shown blank.shown;
         };
+    ordered = blank.order;
     target = subst (λ o. IfSome o (λ a. a < length b.alerts)) (sym blank.target) tt;
     first = blank.first ∙ sym (find-none (is_shown m) (blank-flag m.sets.shown blank.shown) (order b));
     hidden = λ a cleared recalled. blank-flag m.sets.shown blank.shown a;
@@ -93,30 +97,6 @@ module _ (b : Book) (m : CrewMarks) (blank : IsBlank (length b.alerts) m) where
   }
 
 -- ---- one moment more
-
--- each mark is stepped, and the first shown is known
-pub record IsStepped (b : Book) (ups waits : List Bool) (x : Actions) (old : CrewMarks) (sets : MarkSets) (found : Option ℕ) : Type 0 where
-  pub many : AreMany sets (length b.alerts)
-  pub marks : (a : ℕ) → a < length b.alerts → mark_at sets a ≡ mark_after (mark_at old.sets a) (sight_of b ups waits old.first a) x
-  pub first : found ≡ find (λ a. get_or sets.shown a false) (order b)
-
--- the same, where the marks before and the crew's actions are known by other names
-pub walked-steps : (b : Book) (ups waits : List Bool) (x y : Actions) (before old : CrewMarks) (sets : MarkSets) (found : Option ℕ) → before ≡ old → y ≡ x → AreMany sets (length b.alerts)
-    → ((a : ℕ) → a < length b.alerts → mark_at sets a ≡ mark_after (mark_at before.sets a) (sight_of b ups waits before.first a) y)
-    → found ≡ find (λ a. get_or sets.shown a false) (order b) → IsStepped b ups waits x old sets found
-walked-steps b ups waits x y before old sets found same acts many marks first = record {
-  many = many;
-  marks =
-      λ a within. marks a within ∙ ap (λ (m : CrewMarks). mark_after (mark_at m.sets a) (sight_of b ups waits m.first a) y) same
-      ∙ ap (mark_after (mark_at old.sets a) (sight_of b ups waits old.first a)) acts;
-  first = first;
-}
-
--- the same, where the sets and the first are known by other names
-pub ended-steps : (b : Book) (ups waits : List Bool) (x : Actions) (old new : CrewMarks) (sets : MarkSets) (found : Option ℕ) → new.sets ≡ sets → new.first ≡ found
-    → IsStepped b ups waits x old sets found → IsStepped b ups waits x old new.sets new.first
-ended-steps b ups waits x old new sets found same first step =
-    subst (λ (s : MarkSets). IsStepped b ups waits x old s new.first) (sym same) (subst (IsStepped b ups waits x old sets) (sym first) step)
 
 -- whether the alert is shown, where ca is that it is cancelled, u that it is up, s that it is struck, w that it was
 -- cleared, r that RCL is pressed, v that it waits, and p that it was recalled
@@ -158,28 +138,37 @@ pub first-fits : (b : Book) (m : CrewMarks) → MarksFit b m → IfSome m.first 
 first-fits b m fits = subst (λ o. IfSome o (λ a. a < length b.alerts)) (sym fits.first) (found-within b (is_shown m))
 
 -- the marks fit the book as before
-pub stepped-fits : (b : Book) (ups waits : List Bool) (x : Actions) (old new : CrewMarks) → MarksFit b old → new.target ≡ old.first → IsStepped b ups waits x old new.sets new.first → MarksFit b new
-stepped-fits b ups waits x old new fits aims step = record {
-  many = step.many;
-  target = subst (λ o. IfSome o (λ a. a < length b.alerts)) (sym aims) (first-fits b old fits);
-  first = step.first;
-  hidden =
-      λ a cleared recalled.
-      let within : a < length b.alerts = omega (arith, flag-within new.sets.cleared a cleared, step.many.cleared) in
-      let m = step.marks a within in
+module _ (b : Book) (ups waits : List Bool) (set : List ℕ) (x : Actions) (old new : CrewMarks) (fits : MarksFit b old)
+    (many : AreMany new.sets (length b.alerts)) (steps : StepsLooked b ups waits set old.first x old.sets new.sets) where
+  stays-hidden : (a : ℕ) (t : Bool) → numbers.is_marked set a ≡ t → is_cleared new a ≡ true → is_recalled new a ≡ false → is_shown new a ≡ false
+  stays-hidden a true on cleared recalled =
+      let m = steps.marks a (omega (arith, flag-within new.sets.cleared a cleared, many.cleared)) on in
       let after = mark_after (mark_at old.sets a) (sight_of b ups waits old.first a) x in
       ap (λ (z : Mark). z.shown) m
       ∙ hidden-after after.cancelled (get_or ups a false) after.cleared after.recalled
-      (sym (ap (λ (z : Mark). z.cleared) m) ∙ cleared) (sym (ap (λ (z : Mark). z.recalled) m) ∙ recalled);
-}
+      (sym (ap (λ (z : Mark). z.cleared) m) ∙ cleared) (sym (ap (λ (z : Mark). z.recalled) m) ∙ recalled)
+  stays-hidden a false off cleared recalled =
+      let m = steps.kept a off in
+      ap (λ (z : Mark). z.shown) m
+      ∙ fits.hidden a (sym (ap (λ (z : Mark). z.cleared) m) ∙ cleared) (sym (ap (λ (z : Mark). z.recalled) m) ∙ recalled)
 
-module _ (b : Book) (ups waits : List Bool) (x : Actions) (old : CrewMarks) (sets : MarkSets) (found : Option ℕ) (fits : MarksFit b old) (step : IsStepped b ups waits x old sets found) where
+  pub stepped-fits : new.target ≡ old.first → new.first ≡ find (is_shown new) (order b) → MarksFit b new
+  stepped-fits aims first = record {
+    many = many;
+    ordered = steps.order ∙ fits.ordered;
+    target = subst (λ o. IfSome o (λ a. a < length b.alerts)) (sym aims) (first-fits b old fits);
+    first = first;
+    hidden = λ a cleared recalled. stays-hidden a (numbers.is_marked set a) refl cleared recalled;
+  }
+
+module _ (b : Book) (ups waits : List Bool) (x : Actions) (old : CrewMarks) (sets : MarkSets) (fits : MarksFit b old)
+    (marks : StepsAll b ups waits old.first x old.sets sets) where
   cleared-within : (a : ℕ) → OnlyCleared old waits a → a < length b.alerts
   cleared-within a only = omega (arith, flag-within old.sets.cleared a only.cleared, fits.many.cleared)
 
   pub stepped-hidden : (a : ℕ) → x.rcl ≡ false → OnlyCleared old waits a → get_or sets.shown a false ≡ false
   stepped-hidden a quiet only =
-      ap (λ (z : Mark). z.shown) (step.marks a (cleared-within a only))
+      ap (λ (z : Mark). z.shown) (marks a (cleared-within a only))
       ∙ hidden-shape (mark_after (mark_at old.sets a) (sight_of b ups waits old.first a) x).cancelled (get_or ups a false) (x.clr && is_alert a old.first)
       (is_cleared old a) x.rcl (get_or waits a false) (is_recalled old a) only.cleared quiet only.waiting
 
@@ -189,7 +178,7 @@ module _ (b : Book) (ups waits : List Bool) (x : Actions) (old : CrewMarks) (set
 
   pub stepped-restored : (a : ℕ) → x.rcl ≡ true → OnlyCleared old waits a → get_or sets.shown a false ≡ (get_or ups a false && not (get_or sets.cancelled a false))
   stepped-restored a pressed only =
-      let m = step.marks a (cleared-within a only) in
+      let m = marks a (cleared-within a only) in
       let after = mark_after (mark_at old.sets a) (sight_of b ups waits old.first a) x in
       ap (λ (z : Mark). z.shown) m
       ∙ restored-shape after.cancelled (get_or ups a false) (x.clr && is_alert a old.first) (is_cleared old a) x.rcl (get_or waits a false) (is_recalled old a)
@@ -198,7 +187,7 @@ module _ (b : Book) (ups waits : List Bool) (x : Actions) (old : CrewMarks) (set
 
   pub stepped-recalled : (a : ℕ) → length waits ≡ length b.alerts → x.rcl ≡ true → get_or waits a false ≡ true → get_or sets.shown a false ≡ (not (x.clr && is_alert a old.first) && not (get_or sets.cancelled a false))
   stepped-recalled a long pressed waits_now =
-      let m = step.marks a (omega (arith, flag-within waits a waits_now)) in
+      let m = marks a (omega (arith, flag-within waits a waits_now)) in
       let after = mark_after (mark_at old.sets a) (sight_of b ups waits old.first a) x in
       ap (λ (z : Mark). z.shown) m
       ∙ recalled-shape after.cancelled (get_or ups a false) (x.clr && is_alert a old.first) (is_cleared old a) x.rcl (get_or waits a false) (is_recalled old a) pressed waits_now
@@ -223,26 +212,23 @@ module _ (b : Book) (c : Cockpit) (k : ℕ) (new : CrewMarks) (of_book : IsCrewO
     not-same true false e = cc
     not-same false true e = cc
 
-module _ (b : Book) (c : Cockpit) (k : ℕ) (ups waits : List Bool) (keys : Keys) (enters ends : Bool) (old new : CrewMarks)
+module _ (b : Book) (c : Cockpit) (k : ℕ) (ups waits : List Bool) (keys : Keys) (enters : Bool) (x : Actions) (old new : CrewMarks)
     (of_book : IsCrewOf b c) (sees : SeesCrew c k ups waits keys enters) (up_long : length ups ≡ length b.alerts) (waits_long : length waits ≡ length b.alerts)
-    (restoring : ends ≡ (long_recall c k || c.enters_one k)) (stands : MarksStand b c k old) (step : IsStepped b ups waits (actions_of keys ends) old new.sets new.first) where
+    (does : SeesActions c k x) (stands : MarksStand b c k old) (marks : StepsAll b ups waits old.first x old.sets new.sets) (fits : MarksFit b new) where
   each-stands : (a : ℕ) → a < length b.alerts → MarkStands c a (suc k) (mark_at new.sets a)
   each-stands a within =
-      subst (MarkStands c a (suc k)) (sym (step.marks a within))
-      (mark-stands c a k (mark_at old.sets a) (sight_of b ups waits old.first a) (actions_of keys ends)
+      subst (MarkStands c a (suc k)) (sym (marks a within))
+      (mark-stands c a k (mark_at old.sets a) (sight_of b ups waits old.first a) x
       (record {
         up = sees.up a (omega arith);
         waiting = sees.waiting a (omega arith);
         is_caution = sym (of_book.is_caution a);
         is_target = ap (is_alert a) stands.first;
       })
-      (record { clr = sees.clr; rcl = sees.rcl; emer = sees.emer; restores = restoring }) (stands.marks a within))
-
-  first-next : new.first ≡ crew.target (shown c) (suc k)
-  first-next = first-ahead b c k new of_book each-stands step.first
+      does (stands.marks a within))
 
   pub quiet-now : (r : Bool) → is_some new.first ≡ not r → r ≡ shows_nothing c k
-  quiet-now = quiet-ahead b c k new of_book each-stands step.first
+  quiet-now = quiet-ahead b c k new of_book each-stands fits.first
 
   pub stepped-stands : new.moments ≡ old.moments + 1 → new.target ≡ old.first → new.held_since ≡ running_since c.rcl_held (suc k) → new.quiet_press ≡ last_since c.rcl (shows_nothing c) k
       → MarksStand b c (suc k) new
@@ -250,7 +236,7 @@ module _ (b : Book) (c : Cockpit) (k : ℕ) (ups waits : List Bool) (keys : Keys
     moments = omega (arith, stands.moments);
     marks = each-stands;
     target = target ∙ stands.first;
-    first = first-next;
+    first = first-ahead b c k new of_book each-stands fits.first;
     held_since = held;
     quiet_press = press;
   }

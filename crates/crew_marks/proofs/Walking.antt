@@ -18,7 +18,7 @@ no-flag n a =
       | inr past ↦ get_or_past (replicate n false) a false (omega (arith, length-replicate n false))
     ]
 
-unset-flag : (flags : List Bool) (n a : ℕ) → flags ≡ replicate n false → get_or flags a false ≡ false
+pub unset-flag : (flags : List Bool) (n a : ℕ) → flags ≡ replicate n false → get_or flags a false ≡ false
 unset-flag flags n a e = ap (λ xs. get_or xs a false) e ∙ no-flag n a
 
 -- ---- one mark
@@ -40,6 +40,16 @@ module _ (s : MarkSets) (a : ℕ) (m : Mark) where
       let three = get_or-set_other s.recalled a i m.recalled false h in
       let four = get_or-set_other s.shown a i m.shown false h in
       cc
+
+-- sets of the same flags are the same
+pub same-sets : (s t : MarkSets) → s.order ≡ t.order → s.cleared ≡ t.cleared → s.cancelled ≡ t.cancelled → s.recalled ≡ t.recalled → s.shown ≡ t.shown → s ≡ t
+same-sets s t ordered one two three four =
+    ap (λ xs. sets-of xs s.cleared s.cancelled s.recalled s.shown) ordered ∙ ap (λ xs. sets-of t.order xs s.cancelled s.recalled s.shown) one
+    ∙ ap (λ xs. sets-of t.order t.cleared xs s.recalled s.shown) two ∙ ap (λ xs. sets-of t.order t.cleared t.cancelled xs s.shown) three
+    ∙ ap (λ xs. sets-of t.order t.cleared t.cancelled t.recalled xs) four where
+      sets-of : List ℕ → List Bool → List Bool → List Bool → List Bool → MarkSets
+      sets-of order cleared cancelled recalled shown =
+          record { order = order; cleared = cleared; cancelled = cancelled; recalled = recalled; shown = shown }
 
 -- the mark that an alert has already changes nothing
 pub set-mark_at : (s : MarkSets) (a : ℕ) → set_mark s a (mark_at s a) ≡ s

@@ -1,5 +1,5 @@
 -- What is kept of the crew's actions, as plain data.
-use Rattle.std.specs.Prelude.{◌≡◌, ℕ, ◌+◌, ◌-◌, ◌^◌, ◌<◌, Bool, false, ◌&&◌, nat_le, Option, None, is_none, get_or, if◌then◌else◌}
+use Rattle.std.specs.Prelude.{◌≡◌, ℕ, ◌+◌, ◌-◌, ◌^◌, ◌<◌, Bool, false, ◌&&◌, nat_le, List, Option, None, is_none, get_or, if◌then◌else◌}
 use Rattle.std.specs.Option.{option_map_or}
 use Rattle.ecam_spec.specs.declared.kinds.Key.TheVariants.{Clr}
 use Rattle.ecam_spec.specs.Crew.{is_alert}
@@ -11,6 +11,8 @@ use Rattle.crew_marks.specs.MarkSets.{MarkSets}
 pub record CrewMarks : Type 0 where
   -- which alerts are cleared, cancelled, recalled and shown
   pub sets : MarkSets
+  -- the alerts that were looked at: the last moment changed no mark of another
+  pub looked : List ℕ
   -- the target of the last moment, and the first alert that it showed, in order
   pub target : Option ℕ
   pub first : Option ℕ
@@ -58,6 +60,7 @@ pub record IsSettled (m : CrewMarks) : Type 0 where
 -- a moment ends that found this, and before whose end RCL was held since then
 pub record EndsMoment (found : Walked) (held : Option ℕ) (old new : CrewMarks) : Type 0 where
   pub sets : new.sets ≡ old.sets
+  pub looked : new.looked ≡ old.looked
   pub target : new.target ≡ old.first
   pub first : new.first ≡ found.first
   pub changed : new.changed ≡ found.changed

@@ -1,4 +1,5 @@
 pub mod MarkStep
+pub mod Ranks
 pub mod MarkSets
 pub mod Looked
 pub mod CrewMarks

@@ -3,9 +3,11 @@ use Rattle.std.specs.Prelude.{◌≡◌, ℕ, ◌+◌, ◌*◌, ◌/◌, ◌<◌
 use Rattle.wakes.specs.Marks as numbers
 use Rattle.wakes.specs.Marks.{room}
 use Rattle.crew_marks.specs.declared.mark.Mark.{Mark}
+use Rattle.crew_marks.specs.Ranks.{AreRanks, TellsPlaces}
 
--- by alert: whether it is cleared, cancelled, recalled, and shown
+-- the order in which the alerts are shown, and by alert: whether it is cleared, cancelled, recalled, and shown
 pub record MarkSets : Type 0 where
+  pub order : List ℕ
   pub cleared : List Bool
   pub cancelled : List Bool
   pub recalled : List Bool
@@ -19,7 +21,7 @@ mark_at s a =
 -- the same with another mark of one alert
 abbrev pub set_mark : MarkSets → ℕ → Mark → MarkSets
 set_mark s a m =
-    record { cleared = slice_set s.cleared a m.cleared; cancelled = slice_set s.cancelled a m.cancelled; recalled = slice_set s.recalled a m.recalled; shown = slice_set s.shown a m.shown }
+    record s { cleared = slice_set s.cleared a m.cleared; cancelled = slice_set s.cancelled a m.cancelled; recalled = slice_set s.recalled a m.recalled; shown = slice_set s.shown a m.shown }
 
 -- something is marked
 abbrev pub is_marked : Mark → Bool
@@ -56,3 +58,10 @@ pub record AreMany (s : MarkSets) (n : ℕ) : Type 0 where
   pub cancelled : length s.cancelled ≡ n
   pub recalled : length s.recalled ≡ n
   pub shown : length s.shown ≡ n
+
+-- these are the places of the alerts in the order, and the set holds those of the ones that are shown
+pub record AreRanked (s : MarkSets) (ranks set : List ℕ) : Type 0 where
+  pub places : AreRanks s.order ranks
+  pub many : length ranks ≡ length s.shown
+  pub room : room set ≡ room_for (length s.order)
+  pub told : TellsPlaces s.order s.shown set

@@ -1,5 +1,5 @@
 -- When marks stand for what the crew did in the moments so far.
-use Rattle.std.specs.Prelude.{◌≡◌, ◌↔◌, ℕ, suc, ◌+◌, ◌<◌, not, ◌&&◌, Bool, true, false, List, length, get_or, find, IfSome}
+use Rattle.std.specs.Prelude.{◌≡◌, ◌↔◌, ℕ, suc, ◌+◌, ◌<◌, ◌||◌, Bool, true, false, List, length, get_or, find, Option, IfSome}
 use Rattle.ecam_spec.specs.declared.kinds.Key.TheVariants.{Clr, Rcl, Emer}
 use Rattle.ecam_spec.specs.Past.{previous, running_since, last_since, previously}
 use Rattle.ecam_spec.specs.Levels.{is_caution_level}
@@ -7,12 +7,14 @@ use Rattle.ecam_spec.specs.Book.{Book}
 use Rattle.ecam_spec.specs.Situation.{alert_at}
 use Rattle.ecam_spec.specs.Screen.{order}
 use Rattle.ecam_spec.specs.Crew as crew
-use Rattle.ecam_spec.specs.Crew.{Cockpit, shown, shows_nothing}
+use Rattle.ecam_spec.specs.Crew.{Cockpit, long_recall, shown, shows_nothing}
 use Rattle.ecam_kinds.specs.declared.keys.Keys.{Keys}
 use Rattle.ecam_kinds.specs.KeyState.{is_pressed, is_held}
 use Rattle.crew_marks.specs.declared.mark.Mark.{Mark}
+use Rattle.crew_marks.specs.declared.mark.Actions.{Actions}
 use Rattle.crew_marks.specs.MarkSets.{mark_at, AreMany}
-use Rattle.crew_marks.specs.CrewMarks.{CrewMarks, is_cleared, is_cancelled, is_recalled, is_shown, strikes}
+use Rattle.crew_marks.specs.CrewMarks.{CrewMarks, is_cleared, is_recalled, is_shown}
+use Rattle.crew_marks.specs.Looked.{StepsLooked, StepsAll}
 
 -- the cockpit is one of the book: its alerts, their order, and which of them are cautions
 pub record IsCrewOf (b : Book) (c : Cockpit) : Type 0 where
@@ -29,6 +31,11 @@ pub record SeesCrew (c : Cockpit) (k : ℕ) (ups waits : List Bool) (keys : Keys
   pub rcl_held : is_held keys Rcl ≡ c.rcl_held k
   pub enters_one : enters ≡ c.enters_one k
 
+-- in moment k the alert is up and waits as in the moment before; before moment 0 it does neither
+pub record IsStill (c : Cockpit) (k a : ℕ) : Type 0 where
+  pub up : c.up a k ≡ previous (c.up a) k
+  pub waiting : c.waiting a k ≡ previous (c.waiting a) k
+
 -- in moment k each alert is up and waits as in the moment before; before moment 0 none does
 pub record AreStill (b : Book) (c : Cockpit) (k : ℕ) : Type 0 where
   pub up : (a : ℕ) → a < length b.alerts → c.up a k ≡ previous (c.up a) k
@@ -42,10 +49,11 @@ pub record NothingActs (c : Cockpit) (k : ℕ) : Type 0 where
   pub rcl_held : c.rcl_held k ≡ false
   pub enters_one : c.enters_one k ≡ false
 
--- the marks are those of the book: there is one for each alert, the target is an alert, the first shown is the first in
--- order, and an alert that is cleared and not recalled isn't shown
+-- the marks are those of the book: there is one for each alert, the order is the book's, the target is an alert, the first
+-- shown is the first in order, and an alert that is cleared and not recalled isn't shown
 pub record MarksFit (b : Book) (m : CrewMarks) : Type 0 where
   pub many : AreMany m.sets (length b.alerts)
+  pub ordered : m.sets.order ≡ order b
   pub target : IfSome m.target (λ a. a < length b.alerts)
   pub first : m.first ≡ find (is_shown m) (order b)
   pub hidden : (a : ℕ) → is_cleared m a ≡ true → is_recalled m a ≡ false → is_shown m a ≡ false
@@ -72,18 +80,23 @@ pub record OnlyCleared (m : CrewMarks) (waits : List Bool) (a : ℕ) : Type 0 wh
   pub recalled : is_recalled m a ≡ false
   pub waiting : get_or waits a false ≡ false
 
--- one moment more is taken, in which these are up and wait
-pub record TakesMoment (b : Book) (ups waits : List Bool) (keys : Keys) (enters : Bool) (old new : CrewMarks) : Type 0 where
+-- the crew and the flight do what moment k says
+pub record SeesActions (c : Cockpit) (k : ℕ) (x : Actions) : Type 0 where
+  pub clr : x.clr ≡ c.clr k
+  pub rcl : x.rcl ≡ c.rcl k
+  pub emer : x.emer ≡ c.emer k
+  pub restores : x.restores ≡ (long_recall c k || c.enters_one k)
+
+-- one moment more is taken, in which these are up and wait, the crew and the flight do this, RCL is held since then, and
+-- those are looked at that were taken
+pub record WalksMoment (b : Book) (ups waits : List Bool) (x : Actions) (held : Option ℕ) (old new : CrewMarks) : Type 0 where
   pub fits : MarksFit b new
   pub moments : new.moments ≡ old.moments + 1
-  -- whatever the moments before were, all is as the definitions say of all of them
-  pub stands : (c : Cockpit) (k : ℕ) → IsCrewOf b c → SeesCrew c k ups waits keys enters
-      → MarksStand b c k old → MarksStand b c (suc k) new
+  pub looked : new.looked ≡ old.looked
+  pub steps : StepsLooked b ups waits old.looked old.first x old.sets new.sets
   pub changed : (new.changed ≡ false) ↔ (new.sets ≡ old.sets)
-  -- what was only cleared stays hidden without a press of RCL, and with one is shown where it is up and not cancelled
-  pub hidden : is_pressed keys Rcl ≡ false → (a : ℕ) → OnlyCleared old waits a → is_shown new a ≡ false
-  pub restored : is_pressed keys Rcl ≡ true → (a : ℕ) → OnlyCleared old waits a
-      → is_shown new a ≡ (get_or ups a false && not (is_cancelled new a))
-  -- what waits is shown with a press of RCL where CLR doesn't strike it, and it isn't cancelled
-  pub recalled : is_pressed keys Rcl ≡ true → (a : ℕ) → get_or waits a false ≡ true
-      → is_shown new a ≡ (not (strikes old keys a) && not (is_cancelled new a))
+  -- where that steps each mark, all is as the definitions say of all moments
+  pub stands : (c : Cockpit) (k : ℕ) (keys : Keys) (enters : Bool) → IsCrewOf b c → SeesCrew c k ups waits keys enters
+      → SeesActions c k x → held ≡ running_since c.rcl_held (suc k)
+      → StepsAll b ups waits old.first x old.sets new.sets
+      → MarksStand b c k old → MarksStand b c (suc k) new

@@ -5,6 +5,7 @@
 mod looked;
 mod mark;
 mod marks;
+mod ranks;
 mod sets;
 mod stretch;
 mod walk;

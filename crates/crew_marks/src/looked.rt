@@ -1,11 +1,9 @@
 // The alerts that are looked at in a moment.
-ghost use Rattle.std.specs.Prelude.{◌≡◌, ◌↔◌, ℕ, ◌<◌, false, length, find, slice_index_or, IfSome};
-ghost use Rattle.ecam_spec.specs.Screen.{order};
-ghost use Rattle.wakes.specs.Marks.{room};
+ghost use Rattle.std.specs.Prelude.{◌≡◌, ◌↔◌, ℕ, Bool, true, false, List, length};
+ghost use Rattle.wakes.specs.Marks.{is_marked, room};
 ghost use Rattle.book_model.specs.Sealed.{the_book};
-ghost use Rattle.crew_marks.specs.MarkSets.{mark_at, room_for, AreMany};
-ghost use Rattle.crew_marks.specs.MarkStep.{mark_after, sight_of};
-ghost use Rattle.crew_marks.specs.Looked.{AreAmong, HoldsNear, AreLooked};
+ghost use Rattle.crew_marks.specs.MarkSets.{room_for, AreMany};
+ghost use Rattle.crew_marks.specs.Looked.{AreAmong, AreLooked, StepsLooked};
 
 use crate::mark::Actions;
 use crate::sets::Sets;
@@ -13,31 +11,35 @@ use crate::walk::step_one;
 use book_model::Book;
 use wakes::Marked;
 
-/// Takes those that are near, or where these aren't known those that are up or wait. Its cost is a write for each 64 alerts,
-/// or two looks at each alert.
-pub fn take(looked: &mut Marked, near: Option<&Marked>, up: &[bool], waiting: &[bool])
-    requires room { room looked.old ≡ room_for (length up.now) }
-    requires waiting { length waiting.now ≡ length up.now }
-    requires near { IfSome near (λ n. HoldsNear (length up.now) up.now waiting.now n.now) }
+/// Takes those that turned, and where the crew acts those that are near and those that are marked too. Its cost is a write
+/// for each 64 alerts, and where the crew acts two more.
+pub fn take(looked: &mut Marked, sets: &Sets, near: &Marked, turned: &Marked, acts: bool)
+    requires room { room looked.old ≡ room_for (length sets.now.cleared) }
+    requires near { room near.now ≡ room_for (length sets.now.cleared) }
+    requires turned { room turned.now ≡ room_for (length sets.now.cleared) }
     ensures room { room looked.new ≡ room looked.old }
-    ensures up { AreAmong up.now looked.new }
-    ensures waiting { AreAmong waiting.now looked.new }
+    ensures turned { (a : ℕ) → is_marked turned.now a ≡ true → is_marked looked.new a ≡ true }
+    ensures quiet { acts ≡ false → looked.new ≡ turned.now }
+    ensures acts { acts ≡ true → (ups waits : List Bool) → AreAmong ups near.now
+        → AreAmong waits near.now → AreLooked sets.now ups waits looked.new }
 {
-    match near {
-        Some(near) => looked.copy_from(near),
-        None => take_all(looked, up, waiting),
+    looked.copy_from(turned);
+    if acts {
+        looked.join(near);
+        sets.join_to(looked);
     }
 }
 
-// Takes those that are up or wait.
-fn take_all(looked: &mut Marked, up: &[bool], waiting: &[bool])
-    requires room { room looked.old ≡ room_for (length up.now) }
-    requires waiting { length waiting.now ≡ length up.now }
+/// Takes those that are up, wait or are marked. Its cost is two looks at each alert, and a write for each 64.
+pub fn take_all(looked: &mut Marked, sets: &Sets, up: &[bool], waiting: &[bool])
+    requires room { room looked.old ≡ room_for (length sets.now.cleared) }
+    requires up { length up.now ≡ length sets.now.cleared }
+    requires waiting { length waiting.now ≡ length sets.now.cleared }
     ensures room { room looked.new ≡ room looked.old }
-    ensures up { AreAmong up.now looked.new }
-    ensures waiting { AreAmong waiting.now looked.new }
+    ensures all { AreLooked sets.now up.now waiting.now looked.new }
 {
     looked.clear();
+    sets.join_to(looked);
     for alert in 0..up.len() {
         if up[alert] | waiting[alert] {
             looked.mark(alert);
@@ -45,7 +47,7 @@ fn take_all(looked: &mut Marked, up: &[bool], waiting: &[bool])
     }
 }
 
-/// Steps the marks of those that are looked at, and answers whether one turned. No others do.
+/// Steps the marks of those that are looked at, and answers whether one changed. The others keep theirs.
 pub fn step_looked(
     sets: &mut Sets,
     looked: &Marked,
@@ -58,13 +60,9 @@ pub fn step_looked(
     requires many { AreMany sets.old (length (the_book book.now).alerts) }
     requires up { length up.now ≡ length (the_book book.now).alerts }
     requires waiting { length waiting.now ≡ length (the_book book.now).alerts }
-    requires looked { AreLooked sets.old up.now waiting.now looked.now }
-    requires target { target
-        ≡ find (λ a. slice_index_or sets.old.shown a false) (order (the_book book.now)) }
     ensures many { AreMany sets.new (length (the_book book.now).alerts) }
-    ensures marks { (a : ℕ) → a < length (the_book book.now).alerts → mark_at sets.new a
-        ≡ mark_after (mark_at sets.old a) (sight_of (the_book book.now) up.now waiting.now target a)
-        actions.now }
+    ensures steps { StepsLooked (the_book book.now) up.now waiting.now looked.now target actions.now
+        sets.old sets.new }
     ensures changed { (result ≡ false) ↔ (sets.new ≡ sets.old) }
 {
     book.sealed();

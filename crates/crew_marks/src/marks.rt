@@ -1,19 +1,22 @@
 // The marks of a book's alerts, stepped moment by moment.
-ghost use Rattle.std.specs.Prelude.{◌≡◌, ◌↔◌, ℕ, suc, ◌+◌, ◌<◌, true, false, not, ◌&&◌, length, slice_index_or, IfOk, IfSome, None, is_none, if◌then◌else◌};
+ghost use Rattle.std.specs.Prelude.{◌≡◌, ◌↔◌, ℕ, suc, ◌+◌, ◌<◌, Bool, true, false, not, ◌&&◌, List, length, slice_index_or, IfOk, IfSome, None, is_none, if◌then◌else◌};
 ghost use Rattle.ecam_spec.specs.declared.kinds.Key.TheVariants.{Rcl};
 ghost use Rattle.ecam_spec.specs.Book as plain;
-ghost use Rattle.ecam_spec.specs.Past.{Signal, previous, previously, last_since};
+ghost use Rattle.ecam_spec.specs.Past.{Signal, previous, previously, running_since, last_since};
+ghost use Rattle.ecam_spec.specs.Screen.{order};
 ghost use Rattle.ecam_spec.specs.Crew.{Cockpit, normal};
 ghost use Rattle.ecam_kinds.specs.KeyState.{is_pressed};
-ghost use Rattle.wakes.specs.Marks.{room};
+ghost use Rattle.wakes.specs.Marks.{is_marked, room};
 ghost use Rattle.book_model.specs.Sealed.{the_book};
 ghost use Rattle.crew_marks.specs.CrewMarks.{CanGoOn, EndsMoment, is_shown, is_cancelled, strikes, stands_normal, IsSettled};
-ghost use Rattle.crew_marks.specs.MarkSets.{room_for};
-ghost use Rattle.crew_marks.specs.Looked.{AreAmong, HoldsNear};
-ghost use Rattle.crew_marks.specs.MarksState.{IsCrewOf, SeesCrew, AreStill, NothingActs, MarksFit, MarksStand, OnlyCleared, TakesMoment};
+ghost use Rattle.crew_marks.specs.Ranks.{TellsPlaces};
+ghost use Rattle.crew_marks.specs.MarkSets.{mark_at, room_for};
+ghost use Rattle.crew_marks.specs.MarkStep.{actions_of};
+ghost use Rattle.crew_marks.specs.Looked.{AreAmong};
+ghost use Rattle.crew_marks.specs.MarksState.{IsCrewOf, SeesCrew, IsStill, AreStill, NothingActs, MarksFit, MarksStand, OnlyCleared, SeesActions, WalksMoment};
 
-use crate::looked::take;
-use crate::mark::actions_of;
+use crate::looked::{take, take_all};
+use crate::mark::{Actions, actions_of};
 use crate::sets::Sets;
 use crate::stretch::{is_normal, press_after, restores, running_after};
 use crate::walk::{Walked, walk};
@@ -29,7 +32,7 @@ use wakes::Marked;
 #[derive(Drop)]
 pub struct Marks {
     sets: Sets,
-    // Room for the alerts that are looked at in a moment.
+    // Those that were looked at in the last moment that looked at any.
     looked: Marked,
     target: Option<u32>,
     first: Option<u32>,
@@ -49,6 +52,7 @@ impl Model for Marks {
 
     ghost view = { λ m. record {
       sets = m.sets;
+      looked = m.looked;
       target = m.target;
       first = m.first;
       changed = m.changed;
@@ -71,7 +75,7 @@ impl Marks {
         book.sealed();
         let alerts = book.alerts().len();
         Ok(Marks {
-            sets: Sets::new(alloc, alerts)?,
+            sets: Sets::new(alloc, book)?,
             looked: Marked::new(alloc, alerts)?,
             target: None,
             first: None,
@@ -105,6 +109,7 @@ impl Marks {
         ensures { self.new ≡ other.now }
     {
         self.sets.copy_from(&other.sets);
+        self.looked.copy_from(&other.looked);
         self.target = other.target;
         self.first = other.first;
         self.changed = other.changed;
@@ -114,7 +119,8 @@ impl Marks {
     }
 
     /// Takes one moment more, of 100 ms: which alerts are up and which wait in it, the keys of the moment, and whether
-    /// phase 1 starts with it. Its cost is two looks at each alert beside that of `step_among`.
+    /// phase 1 starts with it. Its cost is two looks at each alert, a few at each that is up, waits or is marked, and a few
+    /// writes for each mark that changes; where one does, a look for each 64 alerts up to the first that is shown then.
     pub fn step(
         &mut self,
         book: &Book,
@@ -153,18 +159,23 @@ impl Marks {
             → is_shown self.new a ≡ (not (strikes self.old keys.now a)
             && not (is_cancelled self.new a)) }
     {
-        self.step_by(book, up, waiting, None, keys, enters_one);
+        let (actions, held_since) = self.doing(keys, enters_one);
+        take_all(&mut self.looked, &self.sets, up, waiting);
+        self.step_by(book, up, waiting, &actions, held_since);
     }
 
-    /// Takes one moment more like `step`, where each alert that is up or waits is near. Its cost is two writes and a look for
-    /// each 64 alerts, a few looks at each that is near and each of which something is marked, and a write for each mark that
-    /// changes; where one does, a look at each alert up to the first that is shown then, or at each where none is.
-    pub fn step_among(
+    /// Takes one moment more like `step`, where each alert that is up or waits is near, and each that isn't in `turned` is up
+    /// and waits as in the moment before. It looks at those of `turned`, and where CLR, RCL or EMER CANC is pressed or what
+    /// was cancelled is restored, at each that is near or marked too. Its cost is a write and a look for each 64 alerts, a
+    /// few looks at each of these, and a few writes for each mark that changes; where one does, a look for each 64 alerts up
+    /// to the first that is shown then.
+    pub fn step_turned(
         &mut self,
         book: &Book,
         up: &[bool],
         waiting: &[bool],
         near: &Marked,
+        turned: &Marked,
         keys: &Keys,
         enters_one: bool,
     )
@@ -174,71 +185,72 @@ impl Marks {
         requires near_room { room near.now ≡ room_for (length (the_book book.now).alerts) }
         requires up_near { AreAmong up.now near.now }
         requires waiting_near { AreAmong waiting.now near.now }
+        requires turned_room { room turned.now ≡ room_for (length (the_book book.now).alerts) }
         requires moments { CanGoOn self.old }
         ensures fits { MarksFit (the_book book.now) self.new }
         ensures moments { self.new.moments ≡ self.old.moments + 1 }
         // Whatever the moments before were, all is as the definitions say of all of them.
         ensures stands { (c : Cockpit) (k : ℕ) → IsCrewOf (the_book book.now) c
             → SeesCrew c k up.now waiting.now keys.now enters_one
+            → ((a : ℕ) → a < length (the_book book.now).alerts → is_marked turned.now a ≡ false
+            → IsStill c k a)
             → MarksStand (the_book book.now) c k self.old
             → MarksStand (the_book book.now) c (suc k) self.new }
         ensures changed { (self.new.changed ≡ false) ↔ (self.new.sets ≡ self.old.sets) }
-
-        // An alert that was cleared, and neither was recalled nor waits: without a press of RCL it stays hidden, and with
-        // one it is shown where it is up and not cancelled. In a replay each cleared alert is one of these: it is active.
-        ensures hidden { is_pressed keys.now Rcl ≡ false → (a : ℕ)
-            → OnlyCleared self.old waiting.now a
-            → is_shown self.new a ≡ false }
-        ensures restored { is_pressed keys.now Rcl ≡ true → (a : ℕ)
-            → OnlyCleared self.old waiting.now a
-            → is_shown self.new a ≡ (slice_index_or up.now a false
-            && not (is_cancelled self.new a)) }
-
-        // An alert that waits: with a press of RCL it is shown where CLR doesn't strike it in this moment, and it isn't
-        // cancelled.
-        ensures recalled { is_pressed keys.now Rcl ≡ true → (a : ℕ)
-            → slice_index_or waiting.now a false ≡ true
-            → is_shown self.new a ≡ (not (strikes self.old keys.now a)
-            && not (is_cancelled self.new a)) }
+        ensures looked { (a : ℕ) → is_marked turned.now a ≡ true
+            → is_marked self.new.looked a ≡ true }
+        ensures kept { (a : ℕ) → is_marked self.new.looked a ≡ false
+            → mark_at self.new.sets a ≡ mark_at self.old.sets a }
     {
-        self.step_by(book, up, waiting, Some(near), keys, enters_one);
+        let (actions, held_since) = self.doing(keys, enters_one);
+        take(&mut self.looked, &self.sets, near, turned, actions.act());
+        self.step_by(book, up, waiting, &actions, held_since);
     }
 
-    // Takes one moment more, where it may be known which alerts are near.
+    // What the crew and the flight do in the moment, and since when RCL is held in it.
+    #[inline(always)]
+    fn doing(&self, keys: &Keys, enters_one: bool) -> (Actions, Option<u64>)
+        ensures does { result.0 ≡ actions_of keys.now result.0.restores }
+        ensures sees { (b : plain.Book) (c : Cockpit) (k : ℕ) (ups waits : List Bool)
+            → SeesCrew c k ups waits keys.now enters_one
+            → MarksStand b c k self.now
+            → SeesActions c k result.0 × (result.1 ≡ running_since c.rcl_held (suc k)) }
+    {
+        let held_since = running_after(self.held_since, keys.held(Key::Rcl), self.moments);
+        let restores = restores(held_since, self.moments, enters_one);
+        (actions_of(keys, restores), held_since)
+    }
+
+    // Takes one moment more in which the crew and the flight do this, RCL is held since then, and those are looked at that
+    // are taken already.
     fn step_by(
         &mut self,
         book: &Book,
         up: &[bool],
         waiting: &[bool],
-        near: Option<&Marked>,
-        keys: &Keys,
-        enters_one: bool,
+        actions: &Actions,
+        held_since: Option<u64>,
     )
         requires fits { MarksFit (the_book book.now) self.old }
         requires up { length up.now ≡ length (the_book book.now).alerts }
         requires waiting { length waiting.now ≡ length (the_book book.now).alerts }
-        requires near { IfSome near (λ n. HoldsNear (length (the_book book.now).alerts) up.now
-            waiting.now n.now) }
         requires moments { CanGoOn self.old }
-        ensures { TakesMoment (the_book book.now) up.now waiting.now keys.now enters_one self.old
+        ensures { WalksMoment (the_book book.now) up.now waiting.now actions.now held_since self.old
             self.new }
     {
-        let held_since = running_after(self.held_since, keys.held(Key::Rcl), self.moments);
-        let actions = actions_of(keys, restores(held_since, self.moments, enters_one));
-        take(&mut self.looked, near, up, waiting);
         let walked = walk(
             &mut self.sets,
-            &mut self.looked,
+            &self.looked,
             book,
             up,
             waiting,
             self.first,
-            &actions,
+            actions,
         );
         self.end_moment(walked, actions.rcl, held_since);
     }
 
-    /// Takes one moment more like `step_among`, where each alert is up and waits as in the moment before. It looks at no
+    /// Takes one moment more like `step_turned`, where each alert is up and waits as in the moment before. It looks at no
     /// alert unless CLR, RCL or EMER CANC is pressed or what was cancelled is restored.
     pub fn step_still(
         &mut self,
@@ -264,11 +276,12 @@ impl Marks {
             → MarksStand (the_book book.now) c k self.old
             → MarksStand (the_book book.now) c (suc k) self.new }
         ensures changed { (self.new.changed ≡ false) ↔ (self.new.sets ≡ self.old.sets) }
+        ensures kept { (a : ℕ) → is_marked self.new.looked a ≡ false
+            → mark_at self.new.sets a ≡ mark_at self.old.sets a }
     {
-        let held_since = running_after(self.held_since, keys.held(Key::Rcl), self.moments);
-        let actions = actions_of(keys, restores(held_since, self.moments, enters_one));
+        let (actions, held_since) = self.doing(keys, enters_one);
         if actions.act() {
-            self.step_among(book, up, waiting, near, keys, enters_one);
+            self.step_turned(book, up, waiting, near, near, keys, enters_one);
             return;
         }
         let walked = Walked::unchanged(self.first);
@@ -330,6 +343,24 @@ impl Marks {
         self.quiet_press = press_after(self.quiet_press, rcl, walked.first.is_none(), self.moments);
         self.held_since = held_since;
         self.moments += 1;
+    }
+
+    /// The alerts that were looked at in the last moment that looked at any: the moment just stepped changed no mark of
+    /// another.
+    pub fn looked(&self) -> &Marked
+        ensures value { result.now ≡ self.now.looked }
+        ensures room { (b : plain.Book) → MarksFit b self.now
+            → room result.now ≡ room_for (length b.alerts) }
+    {
+        &self.looked
+    }
+
+    /// The places in the book's order of the alerts that are shown.
+    pub fn ranked(&self) -> &Marked
+        ensures { (b : plain.Book) → MarksFit b self.now
+            → TellsPlaces (order b) self.now.sets.shown result.now }
+    {
+        self.sets.ranked()
     }
 
     /// By alert, whether it is shown.

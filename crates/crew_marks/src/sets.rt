@@ -1,24 +1,34 @@
 // The marks of all alerts.
-ghost use Rattle.std.specs.Prelude.{◌≡◌, ◌↔◌, ℕ, ◌<◌, ◌^◌, ◌||◌, ◌==◌, true, false, length, replicate, slice_index_or, if◌then◌else◌, IfOk};
+ghost use Rattle.std.specs.Prelude.{◌≡◌, ◌↔◌, ℕ, ◌<◌, ◌||◌, ◌==◌, true, false, length, replicate, find, slice_index_or, if◌then◌else◌, IfOk};
 ghost use Rattle.std.specs.Box.{boxed_slice_items};
+ghost use Rattle.ecam_spec.specs.Screen.{order};
 ghost use Rattle.wakes.specs.Marks as numbers;
 ghost use Rattle.wakes.specs.Marks.{room};
+ghost use Rattle.book_model.specs.Sealed.{the_book};
+ghost use Rattle.crew_marks.specs.Ranks.{TellsPlaces};
 ghost use Rattle.crew_marks.specs.MarkSets.{mark_at, set_mark, is_marked, is_touched, room_for, HasMark, AreMany};
 ghost use Rattle.crew_marks.specs.MarkStep.{mark_after};
 
 use crate::mark::{Actions, Mark, Sight};
+use crate::ranks::{order_of, ranks_of};
+use book_model::Book;
 use std::alloc::{AllocError, Global};
 use std::boxed::BoxedSlice;
 use std::marker::Model;
 use wakes::Marked;
 
-/// By alert: whether it is cleared, cancelled, recalled, and shown.
+/// The order in which the alerts are shown, and by alert: whether it is cleared, cancelled, recalled, and shown.
 #[derive(Drop)]
 pub struct Sets {
+    // The alerts in the order in which they are shown, and by alert its place in it.
+    order: BoxedSlice<u32>,
+    ranks: BoxedSlice<u32>,
     cleared: BoxedSlice<bool>,
     cancelled: BoxedSlice<bool>,
     recalled: BoxedSlice<bool>,
     shown: BoxedSlice<bool>,
+    // The places in the order of those that are shown, so that the first is found without a look at the others.
+    ranked: Marked,
     // Those that are any of these, so that a walk finds them without a look at the others.
     marked: Marked,
     // Whether the crew made something of it, so that one look more finds one that is shown as long as it is up.
@@ -27,11 +37,12 @@ pub struct Sets {
 
 impl Model for Sets {
     ghost use Rattle.std.specs.Box.{boxed_slice_items};
-    ghost use Rattle.crew_marks.specs.MarkSets.{MarkSets, AreMarked, TellTouched};
+    ghost use Rattle.crew_marks.specs.MarkSets.{MarkSets, AreMarked, TellTouched, AreRanked};
 
     ghost Value = { MarkSets };
 
     ghost view = { λ s. record {
+      order = boxed_slice_items s.order;
       cleared = boxed_slice_items s.cleared;
       cancelled = boxed_slice_items s.cancelled;
       recalled = boxed_slice_items s.recalled;
@@ -39,32 +50,49 @@ impl Model for Sets {
     } };
 
     ghost invariant = { λ s. AreMarked (record {
+      order = boxed_slice_items s.order;
       cleared = boxed_slice_items s.cleared;
       cancelled = boxed_slice_items s.cancelled;
       recalled = boxed_slice_items s.recalled;
       shown = boxed_slice_items s.shown;
     }) s.marked × TellTouched (record {
+      order = boxed_slice_items s.order;
       cleared = boxed_slice_items s.cleared;
       cancelled = boxed_slice_items s.cancelled;
       recalled = boxed_slice_items s.recalled;
       shown = boxed_slice_items s.shown;
-    }) (boxed_slice_items s.touched) };
+    }) (boxed_slice_items s.touched) × AreRanked (record {
+      order = boxed_slice_items s.order;
+      cleared = boxed_slice_items s.cleared;
+      cancelled = boxed_slice_items s.cancelled;
+      recalled = boxed_slice_items s.recalled;
+      shown = boxed_slice_items s.shown;
+    }) (boxed_slice_items s.ranks) s.ranked };
 }
 
 impl Sets {
-    /// The marks of so many alerts, none of which is marked.
-    pub fn new(alloc: Global, alerts: usize) -> Result<Sets, AllocError>
-        requires { alerts < 2 ^ 32 }
-        ensures cleared { IfOk result (λ s. s.cleared ≡ replicate alerts false) }
-        ensures cancelled { IfOk result (λ s. s.cancelled ≡ replicate alerts false) }
-        ensures recalled { IfOk result (λ s. s.recalled ≡ replicate alerts false) }
-        ensures shown { IfOk result (λ s. s.shown ≡ replicate alerts false) }
+    /// The marks of a book's alerts, none of which is marked.
+    pub fn new(alloc: Global, book: &Book) -> Result<Sets, AllocError>
+        ensures order { IfOk result (λ s. s.order ≡ order (the_book book.now)) }
+        ensures cleared { IfOk result (λ s. s.cleared
+            ≡ replicate (length (the_book book.now).alerts) false) }
+        ensures cancelled { IfOk result (λ s. s.cancelled
+            ≡ replicate (length (the_book book.now).alerts) false) }
+        ensures recalled { IfOk result (λ s. s.recalled
+            ≡ replicate (length (the_book book.now).alerts) false) }
+        ensures shown { IfOk result (λ s. s.shown
+            ≡ replicate (length (the_book book.now).alerts) false) }
     {
+        book.sealed();
+        let alerts = book.alerts().len();
         Ok(Sets {
+            order: order_of(alloc, book)?,
+            ranks: ranks_of(alloc, book)?,
             cleared: none(alloc, alerts)?,
             cancelled: none(alloc, alerts)?,
             recalled: none(alloc, alerts)?,
             shown: none(alloc, alerts)?,
+            ranked: Marked::new(alloc, alerts)?,
             marked: Marked::new(alloc, alerts)?,
             touched: none(alloc, alerts)?,
         })
@@ -92,6 +120,8 @@ impl Sets {
         self.cancelled[alert] = mark.cancelled;
         self.recalled[alert] = mark.recalled;
         self.shown[alert] = mark.shown;
+        let rank = self.ranks[alert] as usize;
+        put(&mut self.ranked, rank, mark.shown);
         put(&mut self.marked, alert, mark.is_marked());
         self.touched[alert] = mark.is_touched();
     }
@@ -123,6 +153,7 @@ impl Sets {
 
     /// No alert is marked any more.
     pub fn clear(&mut self)
+        ensures order { self.new.order ≡ self.old.order }
         ensures cleared { self.new.cleared ≡ replicate (length self.old.cleared) false }
         ensures cancelled { self.new.cancelled ≡ replicate (length self.old.cancelled) false }
         ensures recalled { self.new.recalled ≡ replicate (length self.old.recalled) false }
@@ -132,31 +163,24 @@ impl Sets {
         unset(&mut self.cancelled);
         unset(&mut self.recalled);
         unset(&mut self.shown);
+        self.ranked.clear();
         self.marked.clear();
         unset(&mut self.touched);
     }
 
-    /// The marks of others, of which there are as many.
+    /// The marks of others of the same book.
     pub fn copy_from(&mut self, other: &Sets)
-        requires { (n : ℕ) × AreMany self.old n × AreMany other.now n }
+        requires many { (n : ℕ) × AreMany self.old n × AreMany other.now n }
+        requires order { self.old.order ≡ other.now.order }
         ensures { self.new ≡ other.now }
     {
-        self.cleared
-            .as_mut_slice()
-            .copy_from_slice(other.cleared.as_slice());
-        self.cancelled
-            .as_mut_slice()
-            .copy_from_slice(other.cancelled.as_slice());
-        self.recalled
-            .as_mut_slice()
-            .copy_from_slice(other.recalled.as_slice());
-        self.shown
-            .as_mut_slice()
-            .copy_from_slice(other.shown.as_slice());
+        copy(&mut self.cleared, &other.cleared);
+        copy(&mut self.cancelled, &other.cancelled);
+        copy(&mut self.recalled, &other.recalled);
+        copy(&mut self.shown, &other.shown);
+        self.ranked.copy_from(&other.ranked);
         self.marked.copy_from(&other.marked);
-        self.touched
-            .as_mut_slice()
-            .copy_from_slice(other.touched.as_slice());
+        copy(&mut self.touched, &other.touched);
     }
 
     /// Puts those that are marked into a set.
@@ -167,6 +191,26 @@ impl Sets {
             ≡ (numbers.is_marked set.old a || is_marked (mark_at self.now a)) }
     {
         set.join(&self.marked);
+    }
+
+    /// The first alert, in order, that is shown. Its cost is a look for each 64 alerts up to it.
+    pub fn first(&self) -> Option<u32>
+        ensures { result ≡ find (λ a. slice_index_or self.now.shown a false) self.now.order }
+    {
+        let end = self.order.len();
+        let rank = self.ranked.next_or(0, end);
+        if rank < end {
+            Some(self.order[rank])
+        } else {
+            None
+        }
+    }
+
+    /// The places in the order of the alerts that are shown.
+    pub fn ranked(&self) -> &Marked
+        ensures { TellsPlaces self.now.order self.now.shown result.now }
+    {
+        &self.ranked
     }
 
     /// Which alerts are cleared.
@@ -212,6 +256,14 @@ fn unset(flags: &mut BoxedSlice<bool>)
         ≡ replicate (length (boxed_slice_items flags.old)) false }
 {
     flags.as_mut_slice().fill(false);
+}
+
+// Takes over as many other flags.
+fn copy(flags: &mut BoxedSlice<bool>, others: &BoxedSlice<bool>)
+    requires { length (boxed_slice_items flags.old) ≡ length (boxed_slice_items others.now) }
+    ensures { boxed_slice_items flags.new ≡ boxed_slice_items others.now }
+{
+    flags.as_mut_slice().copy_from_slice(others.as_slice());
 }
 
 // Puts a number in or takes it out.

@@ -1,12 +1,11 @@
 // One moment of the marks of all alerts.
-ghost use Rattle.std.specs.Prelude.{◌≡◌, ◌↔◌, ℕ, ◌<◌, false, length, find, slice_index_or, All};
+ghost use Rattle.std.specs.Prelude.{◌≡◌, ◌↔◌, ◌<◌, false, length, find, slice_index_or};
 ghost use Rattle.ecam_spec.specs.Levels.{is_caution_level};
 ghost use Rattle.ecam_spec.specs.Screen.{order};
-ghost use Rattle.wakes.specs.Marks.{room};
 ghost use Rattle.book_model.specs.Sealed.{the_book};
-ghost use Rattle.crew_marks.specs.MarkSets.{mark_at, set_mark, room_for, HasMark, AreMany};
+ghost use Rattle.crew_marks.specs.MarkSets.{mark_at, set_mark, HasMark, AreMany};
 ghost use Rattle.crew_marks.specs.MarkStep.{mark_after, sight_of};
-ghost use Rattle.crew_marks.specs.Looked.{AreAmong};
+ghost use Rattle.crew_marks.specs.Looked.{StepsLooked};
 
 use crate::looked::step_looked;
 use crate::mark::{Actions, Sight};
@@ -37,13 +36,12 @@ impl Walked {
     }
 }
 
-/// Steps the marks by one moment, where the target is the first alert that is shown before it, and those that are up or wait
-/// are among those that are looked at. Its cost is a write and a look for each 64 alerts, a few looks at each of these and at
-/// each that is marked, a write for each mark that changes, and where one does, a look at each up to the first that is shown
-/// then, or at each where none is.
+/// Steps the marks of those that are looked at by one moment, where the target is the first alert that is shown before it.
+/// The others keep theirs. Its cost is a look for each 64 alerts, a few looks at each of these, a few writes for each mark
+/// that changes, and where one does, a look for each 64 alerts up to the first that is shown then.
 pub fn walk(
     sets: &mut Sets,
-    looked: &mut Marked,
+    looked: &Marked,
     book: &Book,
     up: &[bool],
     waiting: &[bool],
@@ -51,43 +49,24 @@ pub fn walk(
     actions: &Actions,
 ) -> Walked
     requires many { AreMany sets.old (length (the_book book.now).alerts) }
-    requires room { room looked.old ≡ room_for (length (the_book book.now).alerts) }
+    requires order { sets.old.order ≡ order (the_book book.now) }
     requires up { length up.now ≡ length (the_book book.now).alerts }
     requires waiting { length waiting.now ≡ length (the_book book.now).alerts }
-    requires looks_up { AreAmong up.now looked.old }
-    requires looks_waiting { AreAmong waiting.now looked.old }
     requires target { target
         ≡ find (λ a. slice_index_or sets.old.shown a false) (order (the_book book.now)) }
     ensures many { AreMany sets.new (length (the_book book.now).alerts) }
-    ensures room { room looked.new ≡ room looked.old }
-    ensures marks { (a : ℕ) → a < length (the_book book.now).alerts → mark_at sets.new a
-        ≡ mark_after (mark_at sets.old a) (sight_of (the_book book.now) up.now waiting.now target a)
-        actions.now }
+    ensures steps { StepsLooked (the_book book.now) up.now waiting.now looked.now target actions.now
+        sets.old sets.new }
     ensures first { result.first
         ≡ find (λ a. slice_index_or sets.new.shown a false) (order (the_book book.now)) }
     ensures changed { (result.changed ≡ false) ↔ (sets.new ≡ sets.old) }
 {
-    sets.join_to(looked);
     let changed = step_looked(sets, looked, book, up, waiting, target, actions);
     if !changed {
         return Walked::unchanged(target);
     }
-    let first = first_shown(sets, book.order());
+    let first = sets.first();
     Walked { first, changed }
-}
-
-// The first alert in order that is shown.
-fn first_shown(sets: &Sets, order: &[u32]) -> Option<u32>
-    requires { All (λ a. a < length sets.now.shown) order.now }
-    ensures { result ≡ find (λ a. slice_index_or sets.now.shown a false) order.now }
-{
-    let shown = sets.shown();
-    for place in order {
-        if shown[*place as usize] {
-            return Some(*place);
-        }
-    }
-    None
 }
 
 /// Steps the mark of one alert, and answers whether that changed it. Its cost is two looks where the crew does nothing and

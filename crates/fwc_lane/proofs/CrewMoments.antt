@@ -1,6 +1,8 @@
 -- What the alerts and the keys of a moment are for the marks, for the lights with the sound, and for the selection.
 use Rattle.std.proofs.Common.{◌≡◌, ℕ, zero, suc, ◌<◌, ◌≤◌, Bool, true, false, not, ◌&&◌, List, length, get_or, filter, refl, sym, ap, subst, ◌∙◌, arith, eqb, ltb, inl, inr}
-use Rattle.std.proofs.lemmas.Bool.{cases_lt, lt-ltb}
+use Rattle.std.specs.List.{list_any}
+use Rattle.std.proofs.lemmas.Bool.{cases_lt, lt-ltb, eqb-true}
+use Rattle.std.proofs.lemmas.Map.Views.{any-filter_same}
 use Rattle.std.proofs.lemmas.List.{get_or_past}
 use Rattle.ecam_spec.specs.declared.kinds.Key.TheVariants.{Clr, Rcl, Emer, Mw, Mc}
 use Rattle.ecam_spec.specs.Past.{previous, historically_within}
@@ -17,14 +19,16 @@ use Rattle.ecam_spec.proofs.CrewSteps.{shown-flags}
 use Rattle.ecam_kinds.specs.declared.keys.Keys.{Keys}
 use Rattle.ecam_kinds.specs.KeyState.{KeysStand}
 use Rattle.alert_truth.specs.Alerts.{Tells, waiting, up}
-use Rattle.alert_truth.specs.TruthsState.{Unchanged}
+use Rattle.alert_truth.specs.TruthsState.{Unchanged, StaysAt}
+use Rattle.attention.specs.Calling.{is_shown}
 use Rattle.attention.specs.State as lighted
 use Rattle.attention.specs.State.{AreOfBook, Brings}
 use Rattle.crew_marks.specs.CrewMarks.{CrewMarks}
-use Rattle.crew_marks.specs.MarkSets.{MarkSets}
+use Rattle.crew_marks.specs.declared.mark.Mark.{Mark}
+use Rattle.crew_marks.specs.MarkSets.{MarkSets, mark_at}
 use Rattle.crew_marks.specs.MarksState as crewed
 use Rattle.crew_marks.specs.MarksState.{IsCrewOf, SeesCrew, MarksStand}
-use Rattle.fwc_lane.specs.CrewStands.{IsShownAsBefore}
+use Rattle.fwc_lane.specs.CrewStands.{IsShownAsBefore, IsUpAsBefore}
 use Rattle.fwc_lane.proofs.Showing.{waiting-is, up-is}
 use Rattle.fwc_lane.proofs.FlagSteps.{left-true}
 
@@ -109,7 +113,7 @@ module _ (b : Book) (m : ℕ → Moment) (k : ℕ) (same : Unchanged b (conditio
   unfolding cockpit up_in waiting_in present_in starred_in active_in situation.active_knowing situation.present_knowing situation.inhibited condition_in
   still-crew = record { up = same.up; waiting = same.waiting }
 
-  up-before : (j : ℕ) → k ≡ suc j → (i : ℕ) → i < length b.alerts → up_in b m i k ≡ up_in b m i j
+  pub up-before : (j : ℕ) → k ≡ suc j → (i : ℕ) → i < length b.alerts → up_in b m i k ≡ up_in b m i j
   unfolding previous up_in waiting_in present_in starred_in active_in situation.active_knowing situation.present_knowing situation.inhibited condition_in
   up-before j e i lt = same.up i lt ∙ ap (previous (up_in b m i)) e
 
@@ -118,6 +122,37 @@ module _ (b : Book) (m : ℕ → Moment) (k : ℕ) (same : Unchanged b (conditio
   still-lights shows = record {
     up = λ j e i. elim (cases_lt i (length b.alerts)) [ inl lt ↦ up-before j e i lt | inr past ↦ never-up b m i past k ∙ sym (never-up b m i past j) ];
     shown = shows;
+  }
+
+-- an alert that doesn't turn
+module _ (b : Book) (m : ℕ → Moment) (k a : ℕ) (stays : StaysAt b (condition_in b m) (phase_in b m) k a) where
+  pub still-alert : crewed.IsStill (cockpit b m) k a
+  unfolding cockpit up_in waiting_in present_in starred_in active_in situation.active_knowing situation.present_knowing situation.inhibited condition_in
+  still-alert = record { up = stays.up; waiting = stays.waiting }
+
+  pub up-stayed : IsUpAsBefore b m k a
+  unfolding previous up_in waiting_in present_in starred_in active_in situation.active_knowing situation.present_knowing situation.inhibited condition_in
+  up-stayed j e = stays.up ∙ ap (previous (up_in b m a)) e
+
+-- one whose mark didn't turn
+module _ (b : Book) (m : ℕ → Moment) (k a : ℕ) where
+  -- it is among those that are shown where its flag is set
+  among : (flags : List Bool) (j : ℕ) → ((x : ℕ) → x < length b.alerts → get_or flags x false ≡ is_shown_in b m x j)
+      → is_shown (attention b m) j a ≡ (get_or flags a false && list_any (λ x. eqb x a) (order b))
+  unfolding attention
+  among flags j told =
+      ap (list_any (λ x. eqb x a)) (shown-flags b m (λ x. get_or flags x false) j told)
+      ∙ any-filter_same (λ x. eqb x a) (λ x. get_or flags x false) (get_or flags a false) (λ x e. ap (λ y. get_or flags y false) (eqb-true x a e)) (order b)
+
+  pub stays-lit : (old new : CrewMarks) → MarksStand b (cockpit b m) k old → MarksStand b (cockpit b m) (suc k) new → mark_at new.sets a ≡ mark_at old.sets a
+      → IsUpAsBefore b m k a → lighted.StaysAt (attention b m) k a
+  unfolding attention
+  stays-lit old new before after same ups = record {
+    up = ups;
+    shown = λ j e.
+        among new.sets.shown k (shown-told b m k new after)
+        ∙ ap (λ (x : Mark). x.shown && list_any (λ y. eqb y a) (order b)) same
+        ∙ sym (among old.sets.shown j (shown-told b m j old (subst (λ n. MarksStand b (cockpit b m) n old) e before)));
   }
 
 -- where no mark changed, what is shown is as it was

@@ -1,7 +1,6 @@
 -- What is kept of the conditions fits where only what the last moment left besides is another.
 use Rattle.std.proofs.Common.{◌≡◌, ◌∙◌, Bool, length}
 use Rattle.ecam_spec.specs.Book.{Book}
-use Rattle.book_model.specs.Conditions.{places}
 use Rattle.ecam_kinds.specs.declared.keys.Keys.{Keys}
 use Rattle.fwc_lane.specs.declared.terms.Terms.{Terms}
 use Rattle.fwc_lane.specs.TermsFit.{TermsFit}

@@ -27,7 +27,7 @@ use Rattle.condition_codes.specs.Places.{nodes_before}
 use Rattle.condition_codes.specs.declared.codes.CodeTable.{CodeTable}
 use Rattle.condition_codes.specs.declared.askers.Asker.{Asker}
 use Rattle.fwc_lane.specs.TermsFit.{AreWoken}
-use Rattle.fwc_lane.specs.Visits.{marked_nodes, IsCounted}
+use Rattle.fwc_lane.specs.Visits.{marked_nodes}
 use Rattle.fwc_lane.specs.Waking.{CanTurn, TurnsEach, MarksEach, Kept, is_listed, is_asking}
 use Rattle.fwc_lane.proofs.FlagSteps.{left-false, right-false}
 use Rattle.fwc_lane.proofs.Askers.{nodes-apart, one-of}

@@ -1,5 +1,5 @@
 // What the crew makes of a moment: the marks, the lights and the sound, and the selection.
-ghost use Rattle.std.specs.Prelude.{◌≡◌, ◌+◌, ◌==◌, ◌&&◌, ℕ, suc, false, not, nat_lt};
+ghost use Rattle.std.specs.Prelude.{◌≡◌, ◌+◌, ◌<◌, ◌==◌, ◌&&◌, ℕ, suc, false, length, not, nat_lt};
 ghost use Rattle.ecam_spec.specs.Book as plain;
 ghost use Rattle.ecam_spec.specs.History.{Moment};
 ghost use Rattle.ecam_spec.specs.Situation.{strokes_in, phase_in, condition_in};
@@ -14,7 +14,9 @@ ghost use Rattle.attention.specs.State.{AttentionFits, AttentionStands};
 ghost use Rattle.attention.specs.State as lighting;
 ghost use Rattle.system_display.specs.Selecting.{SelectorFits};
 ghost use Rattle.system_display.specs.Selecting as selecting;
-ghost use Rattle.fwc_lane.specs.CrewStands.{CrewStands, IsShownAsBefore};
+ghost use Rattle.wakes.specs.Marks.{is_marked};
+ghost use Rattle.crew_marks.specs.MarkSets.{mark_at};
+ghost use Rattle.fwc_lane.specs.CrewStands.{CrewStands, IsShownAsBefore, IsUpAsBefore, OthersAsBefore};
 
 use crate::flags::is_either;
 use alert_truth::Truths;
@@ -39,8 +41,8 @@ fn enters(ticked: bool, was: u8, phase: u8) -> bool
     phase == 1 && ticked && was != 1
 }
 
-// Steps the crew's marks. Where no alert turned it looks at none, unless the crew does something, and else at the near ones
-// and those that are marked.
+// Steps the crew's marks. Where no alert turned it looks at none, unless the crew does something, and else at those that
+// turned; where it does, at the near ones and those that are marked too.
 fn step_marks(marks: &mut Marks, truths: &Truths, book: &Book, keys: &Keys, enters_one: bool)
     requires truths { TruthsFit (the_book book.now) truths.now }
     requires marks { MarksFit (the_book book.now) marks.old }
@@ -55,13 +57,22 @@ fn step_marks(marks: &mut Marks, truths: &Truths, book: &Book, keys: &Keys, ente
         → MarksStand (the_book book.now) (cockpit (the_book book.now) m) k marks.old
         → MarksStand (the_book book.now) (cockpit (the_book book.now) m) (suc k) marks.new }
     ensures kept { marks.new.changed ≡ false → marks.new.sets ≡ marks.old.sets }
+    // Of the alerts that weren't looked at none is up that wasn't, or was and isn't, nor did its mark turn.
+    ensures up { (m : ℕ → Moment) (k : ℕ)
+        → TruthsStand (the_book book.now) (condition_in (the_book book.now) m)
+        (phase_in (the_book book.now) m) (suc k) truths.now
+        → (a : ℕ) → a < length (the_book book.now).alerts
+        → is_marked marks.new.looked a ≡ false → IsUpAsBefore (the_book book.now) m k a }
+    ensures others { (a : ℕ) → is_marked marks.new.looked a ≡ false
+        → mark_at marks.new.sets a ≡ mark_at marks.old.sets a }
 {
     if truths.changed() {
-        marks.step_among(
+        marks.step_turned(
             book,
             truths.up(),
             truths.waiting(),
             truths.near(),
+            truths.turned(),
             keys,
             enters_one,
         );
@@ -78,7 +89,7 @@ fn step_marks(marks: &mut Marks, truths: &Truths, book: &Book, keys: &Keys, ente
 }
 
 // Steps the lights and the sound. Where no alert turned, nor any mark, it looks at none, unless a press acknowledges, and
-// else at those that are near or were up, and at a press at those whose onset is open.
+// else at those of which the marks were looked at, and at a press at those whose onset is open.
 fn step_attention(
     attention: &mut Attention,
     marks: &Marks,
@@ -98,13 +109,14 @@ fn step_attention(
         → KeysStand (strokes_in (the_book book.now) m) k keys.now
         → MarksStand (the_book book.now) (cockpit (the_book book.now) m) (suc k) marks.now
         → (marks.now.changed ≡ false → IsShownAsBefore (the_book book.now) m k)
+        → OthersAsBefore (the_book book.now) m k marks.now.looked
         → AttentionStands (the_book book.now) (screen.attention (the_book book.now) m) k
         attention.old
         → AttentionStands (the_book book.now) (screen.attention (the_book book.now) m) (suc k)
         attention.new }
 {
     if is_either(truths.changed(), marks.changed()) {
-        attention.step_among(book, truths.up(), marks.shown(), truths.near(), keys);
+        attention.step_turned(book, truths.up(), marks.shown(), marks.looked(), keys);
         return;
     }
     attention.step_still(book, truths.up(), marks.shown(), keys);

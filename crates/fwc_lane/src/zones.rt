@@ -18,7 +18,7 @@ use crate::scene::{Scene, Turned};
 use book_model::Book;
 use ecam_kinds::{Picture, ROWS};
 use status_page::status_rows_among;
-use warning_display::{LeftCount, fill_flags, fill_lamps, fill_left, fill_right};
+use warning_display::{LeftCount, fill_flags, fill_lamps, fill_left_ranked, fill_right};
 
 // Whether anything that the left zone shows turned.
 fn left_turned(turned: Turned) -> bool
@@ -49,9 +49,10 @@ pub fn draw_left(
     if !left_turned(turned) {
         return was;
     }
-    fill_left(
+    fill_left_ranked(
         book,
         scene.marks.shown(),
+        scene.marks.ranked(),
         scene.lines,
         scene.memos,
         scene.marks.normal(),

@@ -35,25 +35,12 @@ fn next_among(near: &Marked, active: &[bool], from: usize) -> usize
         ≡ filter (flagged active.now) (below from) }
     ensures active { result < length active.now → flagged active.now result ≡ true }
 {
-    let mut next = next_near(near, from, active.len());
+    let mut next = near.next_or(from, active.len());
     while next < active.len() {
         if active[next] {
             return next;
         }
-        next = next_near(near, next + 1, active.len());
+        next = near.next_or(next + 1, active.len());
     }
     next
-}
-
-// The first near alert from one on, or how many there are.
-fn next_near(near: &Marked, from: usize, many: usize) -> usize
-    requires { from ≤ many }
-    ensures from { from ≤ result }
-    ensures end { result ≤ many }
-    ensures none { (a : ℕ) → from ≤ a → a < result → is_marked near.now a ≡ false }
-{
-    match near.first_from(from) {
-        Some(alert) => alert.min(many),
-        None => many,
-    }
 }

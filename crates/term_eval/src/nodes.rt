@@ -81,10 +81,10 @@ impl Nodes {
     }
 
     /// Node `node` of a condition, whose nodes start at `first` and have these links, is an atom, which has this link and
-    /// says so in a moment: it is told, and with it each node right above one that turned, up to a temporal one, which is then
-    /// to be looked at. `false` says that no temporal node is to be looked at that wasn't, and that the condition's first node
-    /// tells what it told; `true` that a temporal node is to be looked at, or that the first node turned. Its cost is a look at
-    /// each of these nodes.
+    /// says so in a moment: it is told, and with it each node right above one that turned, up to a temporal one, which is
+    /// then to be looked at. `false` says that no temporal node is to be looked at that wasn't, and that the condition's
+    /// first node tells what it told; `true` that a temporal node is to be looked at, or that the first node turned. Its
+    /// cost is a look at each of these nodes.
     #[inline(always)]
     pub fn turn(
         &mut self,

@@ -1,75 +1,80 @@
-use Rattle.std.proofs.Common.{◌≡◌, ◌+◌, ℕ, suc, false, length, get_or, refl, sym, ◌∙◌, ap, arith}
-use Rattle.std.proofs.lemmas.List.{length-set}
+use Rattle.std.proofs.Common.{◌≡◌, ◌≢◌, ℕ, suc, ◌+◌, ◌≤◌, ◌&&◌, true, false, length, get_or, slice_get, Some, inl, inr, sym, ◌∙◌, ap, subst, arith}
+use Rattle.std.proofs.lemmas.Bool.{cases_lt, cases_eq, ne_eqb}
+use Rattle.std.proofs.lemmas.Option.{get_or_from_slice_get}
 use Rattle.ecam_spec.specs.Lamps as lamps
-use Rattle.attention.specs.Watches.{watch_after}
-use Rattle.attention.proofs.Walking.{HalfWalked, HalfSifted, half-start, half-read, half-more, half-on, calls-shown, calls-hidden, all-walked, all-called, sift-start, sift-on, sift-more}
-use Rattle.attention.proofs.Idling.{idle-row}
+use Rattle.wakes.specs.Marks.{is_marked}
+use Rattle.attention.specs.Watches.{calling, watch_after, AreWatched}
+use Rattle.attention.specs.Moments.{IsMoment}
+use Rattle.attention.specs.Walked.{IsStepped, IsLeft}
+use Rattle.attention.proofs.CallLaws.{calls-kept}
+use Rattle.attention.proofs.Walking.{get-same, get-other, left-on, stepped-on, marks-same}
 use Rattle.attention.proofs.walk.walk.Goals as goal
-use Rattle.attention.proofs.walk.walk.Goals.{then-moment-i, else-moment-i}
+use Rattle.attention.proofs.walk.walk.Goals.{After-next_or-i-in-loop-i}
 
-pub loop-i-init : goal.loop-i-init
-loop-i-init c = record {
-  most = c.next_or-i.ensures.end;
-  here = c.next_or-i.ensures.marked;
-  sifted = sift-on c.args.watches.now c.args.busy.now c.args.busy.now 0 c.next_or-i.result (omega arith) (sift-start c.args.watches.now c.args.busy.now c.args.busy.now c.requires.busy);
-  open_room = refl;
-  still_open = c.requires.still_open;
-  half = λ a k moment up kept.
-      let n = length c.args.alerts.now in
-      let shown = λ (j : ℕ). get_or c.args.moment.now.shown.now j false in
-      let start : HalfWalked a k n 0 shown c.args.watches.now c.none-calls.result =
-      rw c.none-calls.ensures (half-start a k n shown c.args.watches.now kept) in
-      half-on a k n shown 0 c.next_or-i.result c.args.watches.now c.none-calls.result (omega arith) c.next_or-i.ensures.end c.requires.watches
-      (idle-row a k n 0 c.next_or-i.result c.args.moment.now.presses c.args.watches.now c.args.busy.now
-      c.next_or-i.ensures.end moment.presses c.requires.busy c.requires.pressed up kept c.next_or-i.ensures.none)
-      start;
-}
+module _ (c : After-next_or-i-in-loop-i) where
+  long : length c.loop-i.watches ≡ length c.args.alerts.now
+  long = c.loop-i.auto.watches ∙ c.requires.watches
+
+  -- the alert whose turn it is
+  own : (a : lamps.Attention) (k : ℕ) → IsMoment a k c.args.alerts.now c.args.moment.now → AreWatched a k (length c.args.alerts.now) c.args.watches.now
+      → IsStepped a k c.loop-i.i (get_or c.args.moment.now.shown.now c.loop-i.i false) c.keep.new.watches c.put.new.self
+  own a k moment kept =
+      let i = c.loop-i.i in
+      let level = moment.listed.level i c.index-alerts-i.result c.loop-i-test.true c.index-alerts-i.is in
+      let sound = moment.listed.sound i c.index-alerts-i.result c.loop-i-test.true c.index-alerts-i.is in
+      let pressed = c.acknowledge-pressed.ensures a k moment.presses ∙ ap (λ l. lamps.acknowledges a l k) level in
+      let read = get_or_from_slice_get c.loop-i.watches i (watch_after a i k) _ ((c.loop-i.invariant.left i (inr (omega arith))).watch ∙ kept i c.loop-i-test.true) in
+      let stepped : c.next-watch.result ≡ watch_after a i (suc k) = c.next-watch.ensures a i k (moment.up i c.loop-i-test.true) pressed moment.number read in
+      let calls : c.calls.result ≡ lamps.calls a i k = c.calls.ensures ∙ ap calling stepped ∙ sym (calls-kept a k i) in
+      record {
+        watch =
+            ap (λ ws. slice_get ws i) c.keep.ensures.watches
+            ∙ get-same c.loop-i.watches i c.next-watch.result (omega (arith, long, c.loop-i-test.true))
+            ∙ ap Some stepped;
+        marks = c.put.ensures.own ∙ marks-same _ _ _ _ _ _ level sound (ap (λ b. get_or c.args.moment.now.shown.now i false && b) calls);
+      }
+
+  others : (j : ℕ) → j ≢ c.loop-i.i → IsLeft j c.loop-i.watches c.loop-i.callers c.keep.new.watches c.put.new.self
+  others j apart = record {
+    watch = ap (λ ws. slice_get ws j) c.keep.ensures.watches ∙ get-other c.loop-i.watches c.loop-i.i j c.next-watch.result apart;
+    marks = c.put.ensures.others j (ne_eqb j c.loop-i.i apart);
+  }
 
 pub loop-i-preserved : goal.loop-i-preserved
 loop-i-preserved c =
-    let n = length c.args.alerts.now in
     let i = c.loop-i.i in
-    let j = c.next_or-i-in-loop-i.result in
-    let long : length c.loop-i.watches ≡ n = c.loop-i.auto.watches ∙ c.requires.watches in
-    let sifted : HalfSifted (i + 1) c.keep.new.watches c.args.busy.now c.sift.new.busy =
-    sift-more c.loop-i.watches c.args.busy.now c.loop-i.busy i c.next-watch.result c.keep.new.watches c.sift.new.busy
-    (omega (arith, long, c.loop-i-test.true)) c.keep.ensures.watches
-    (c.loop-i.invariant.here c.loop-i-test.true) c.sift.ensures.room c.sift.ensures.marks c.loop-i.invariant.sifted in
+    let next = c.next_or-i-in-loop-i in
     record {
-      most = c.next_or-i-in-loop-i.ensures.end;
-      here = c.next_or-i-in-loop-i.ensures.marked;
-      sifted = sift-on c.keep.new.watches c.args.busy.now c.sift.new.busy (i + 1) j c.next_or-i-in-loop-i.ensures.from sifted;
+      most = next.ensures.end;
+      here = next.ensures.marked;
       open_room = c.keep.ensures.room ∙ c.loop-i.invariant.open_room;
+      callers = c.put.ensures.room _ c.loop-i.invariant.callers;
       still_open = c.keep.ensures.still_open c.loop-i.invariant.still_open;
-      half = λ a k moment up kept.
-          let shown = λ (m : ℕ). get_or c.args.moment.now.shown.now m false in
-          let here = c.loop-i.invariant.half a k moment up kept in
-          let read = half-read a k n shown i c.loop-i.watches c.loop-i.calls _ c.loop-i-test.true here in
-          let level = moment.level i c.index-alerts-i.result c.loop-i-test.true c.index-alerts-i.is in
-          let sound = moment.sound i c.index-alerts-i.result c.loop-i-test.true c.index-alerts-i.is in
-          let pressed = c.acknowledge-pressed.ensures a k moment.presses ∙ ap (λ l. lamps.acknowledges a l k) level in
-          let stepped : c.next-watch.result ≡ watch_after a i (suc k) = c.next-watch.ensures a i k (moment.up i c.loop-i-test.true) pressed moment.number read in
-          let on : HalfWalked a k n (i + 1) shown c.keep.new.watches c.if-moment-i.calls =
-          half-more a k n shown i c.loop-i.watches _ c.loop-i.calls c.if-moment-i.calls c.next-watch.result
-          c.loop-i-test.true long c.keep.ensures.watches stepped
-          (elim c.if-moment-i.branch [
-            | then-moment-i w ↦ rw w.calls-is (calls-shown a k n shown i w.with-calls.result w.if-moment-i.true (w.with-calls.ensures a k i _ level sound stepped here.calls))
-            | else-moment-i w ↦ rw w.calls-is (calls-hidden a k n shown i c.loop-i.calls w.if-moment-i.false here.calls)
-          ])
-          here in
-          let kept_long : length c.keep.new.watches ≡ n =
-          ap length c.keep.ensures.watches ∙ length-set c.loop-i.watches i c.next-watch.result ∙ long in
-          half-on a k n shown (i + 1) j c.keep.new.watches c.if-moment-i.calls c.next_or-i-in-loop-i.ensures.from c.next_or-i-in-loop-i.ensures.end kept_long
-          (idle-row a k n (i + 1) j c.args.moment.now.presses c.args.watches.now c.args.busy.now
-          c.next_or-i-in-loop-i.ensures.end moment.presses c.requires.busy c.requires.pressed up kept
-          (λ m low below. sym (sifted.left m low) ∙ c.next_or-i-in-loop-i.ensures.none m low below))
-          on;
+      stepped = λ a k j moment kept low is. elim (cases_eq j i) [
+        | inl e ↦
+            subst (λ m. IsStepped a k m (get_or c.args.moment.now.shown.now m false) c.keep.new.watches c.put.new.self) (sym e)
+            (own c a k moment kept)
+        | inr apart ↦ elim (cases_lt j i) [
+          | inl before ↦ stepped-on a k j _ _ _ _ _ (c.loop-i.invariant.stepped a k j moment kept before is) (others c j apart)
+          | inr after ↦
+              let past : i + 1 ≤ j = elim (cases_lt i j) [ inl more ↦ omega (arith, more) | inr same ↦ absurd (apart (omega (arith, after, same))) ] in
+              absurd (let clash : true ≡ false = sym is ∙ next.ensures.none j past low in cc)
+        ]
+      ];
+      left = λ j which.
+          left-on j _ _ _ _ _ _ (c.loop-i.invariant.left j (elim which [ inl off ↦ inl off | inr far ↦ inr (omega (arith, far, next.ensures.from)) ]))
+          (others c j
+          (λ e. elim which [
+            | inl off ↦
+                let clash : true ≡ false =
+                sym (c.loop-i.invariant.here c.loop-i-test.true) ∙ ap (is_marked c.args.looked.now) (sym e) ∙ off in
+                cc
+            | inr far ↦ absurd (let x : ⊥ = omega (arith, far, e, next.ensures.from) in x)
+          ]));
     }
 
-pub returns-clause-watches : goal.returns-clause-watches
-returns-clause-watches c = λ a k moment up kept.
-    all-walked a k (length c.args.alerts.now) _ c.loop-i.i c.loop-i.watches c.loop-i.calls c.loop-i-test.false (c.loop-i.invariant.half a k moment up kept)
+pub returns-clause-looked : goal.returns-clause-looked
+returns-clause-looked c = λ a k i moment kept within is. c.loop-i.invariant.stepped a k i moment kept (omega (arith, within, c.loop-i-test.false)) is
 
-pub returns-clause-calls : goal.returns-clause-calls
-returns-clause-calls c = λ a k moment up kept.
-    all-called a k (length c.args.alerts.now) _ c.loop-i.i c.loop-i.watches c.loop-i.calls (omega (arith, c.loop-i-test.false, c.loop-i.invariant.most)) (c.loop-i.invariant.half a k moment up kept)
+pub returns-clause-others : goal.returns-clause-others
+returns-clause-others c = λ i off. c.loop-i.invariant.left i (inl off)

@@ -5,7 +5,7 @@ use Rattle.alert_truth.proofs.stars.Stars.clear.Goals as goal
 
 pub returns-clause-stands : goal.returns-clause-stands
 returns-clause-stands c = λ b active fits.
-    let new : Stars = record { found = c.args.self.now.found; primaries = c.fill.new.self; starred = c.fill-2.new.self; up = c.fill-3.new.self; turned = false } in
+    let new : Stars = record { listers = c.args.self.now.listers; asked = c.args.self.now.asked; primaries = c.fill.new.self; starred = c.fill-2.new.self; up = c.fill-3.new.self; turned = false } in
     let count = length b.alerts in
     let primary : new.primaries.items ≡ replicate (vec_len c.args.self.now.primaries) None = c.fill.ensures.items (λ y same. search rules) in
     let starred : new.starred.items ≡ replicate (vec_len c.args.self.now.starred) false = c.fill-2.ensures.items (λ y same. search rules) in
@@ -17,7 +17,7 @@ returns-clause-stands c = λ b active fits.
 
 pub returns-clause-away : goal.returns-clause-away
 returns-clause-away c = λ b fits.
-    let new : Stars = record { found = c.args.self.now.found; primaries = c.fill.new.self; starred = c.fill-2.new.self; up = c.fill-3.new.self; turned = false } in
+    let new : Stars = record { listers = c.args.self.now.listers; asked = c.args.self.now.asked; primaries = c.fill.new.self; starred = c.fill-2.new.self; up = c.fill-3.new.self; turned = false } in
     let count = length b.alerts in
     let primary : new.primaries.items ≡ replicate (vec_len c.args.self.now.primaries) None = c.fill.ensures.items (λ y same. search rules) in
     let starred : new.starred.items ≡ replicate (vec_len c.args.self.now.starred) false = c.fill-2.ensures.items (λ y same. search rules) in
@@ -25,4 +25,4 @@ returns-clause-away c = λ b fits.
     let one : vec_len c.args.self.now.primaries ≡ count = omega (arith, fits.primaries, c.args.self.now.primaries.ok.0) in
     let two : vec_len c.args.self.now.starred ≡ count = omega (arith, fits.starred, c.args.self.now.starred.ok.0) in
     let three : vec_len c.args.self.now.up ≡ count = omega (arith, fits.up, c.args.self.now.up.ok.0) in
-    blank-away new count fits.settled (primary ∙ ap (λ n. replicate n None) one) (starred ∙ ap (λ n. replicate n false) two) (up ∙ ap (λ n. replicate n false) three)
+    blank-away new count (primary ∙ ap (λ n. replicate n None) one) (starred ∙ ap (λ n. replicate n false) two) (up ∙ ap (λ n. replicate n false) three)

@@ -1,129 +1,130 @@
-use Rattle.std.proofs.Common.{◌≡◌, ◌<◌, ◌+◌, suc, None, false, length, get_or, All, refl, sym, ap, ◌∙◌, subst, arith, add-one}
-use Rattle.std.proofs.lemmas.List.{length-set}
+use Rattle.std.proofs.Common.{◌≡◌, ◌<◌, ◌+◌, ◌*◌, ◌/◌, suc, false, ◌||◌, None, cond, length, get_or, refl, sym, ap, ◌∙◌, subst, arith}
+use Rattle.std.specs.Prelude.{find}
 use Rattle.std.proofs.lemmas.Bool.{or_parts}
-use Rattle.wakes.specs.Marks.{room}
+use Rattle.wakes.specs.Marks.{is_marked, room}
+use Rattle.wakes.specs.declared.marked.Marked.{Marked}
+use Rattle.ecam_spec.specs.Situation.{primaries}
 use Rattle.book_model.specs.Sealed.{the_book}
-use Rattle.book_model.specs.View.{draft_of}
-use Rattle.book_model.proofs.BookLimits.{sizes}
 use Rattle.book_model.proofs.BookLists.{many-alerts}
-use Rattle.alert_truth.specs.Stars.{HasPlace}
+use Rattle.alert_truth.specs.Listed.{primary_of}
+use Rattle.alert_truth.specs.Stars.{HasPlace, Takes, IsUnasked}
 use Rattle.alert_truth.specs.declared.stars.Stars.{Stars}
-use Rattle.alert_truth.proofs.Secondaries.{secondaries-later}
-use Rattle.alert_truth.proofs.Starring.{IsHalfTaken, nothing-taken, half-on, place-of-alert, one-taken, one-noted, one-left, taken-fits, taken-stands}
-use Rattle.alert_truth.proofs.Nearing.{IsNearing, nearing-begins, nearing-on, nearing-away, nearing-kept, nearing-less, nearing-more, quiet-fits}
+use Rattle.alert_truth.proofs.Listings.{secondaries_of}
+use Rattle.alert_truth.proofs.Starring.{IsHalfTaken, half-on, place-of-alert, one-taken, taken-stands}
+use Rattle.alert_truth.proofs.Nearing.{IsNearing, nearing-begins, nearing-on, nearing-kept, nearing-less}
 use Rattle.alert_truth.proofs.stars.Stars.settle.Goals as goal
-use Rattle.alert_truth.proofs.stars.Stars.settle.Goals.{then-active-alert, else-active-alert+then-not-present-alert, else-active-alert+else-not-present-alert}
+use Rattle.alert_truth.proofs.stars.Stars.settle.Goals.{then-not-present-alert, else-not-present-alert}
 
 pub loop-alert-init : goal.loop-alert-init
 loop-alert-init c =
     let b = the_book c.args.book.now in
     let on = c.args.active.now in
-    let start : Stars = record c.args.self.now { turned = false } in
-    let begun : IsNearing on c.args.present.now c.args.waiting.now c.args.self.now start c.args.near.now 0
-    = nearing-begins on c.args.present.now c.args.waiting.now c.args.self.now c.args.near.now c.requires.active c.requires.present c.requires.waiting c.requires.away in
+    let first = c.args.self.now in
+    let asked = c.ask.new.asked in
+    let start : Stars = record first { asked = asked; turned = false } in
+    let fits = c.requires.fits in
     record {
       most = c.next_or-alert.ensures.end;
+      asks = c.next_or-alert.ensures.marked;
       places = refl;
-      half =
-          half-on b on (secondaries-later (draft_of c.args.book.now) c.sealed.ensures.faultless) start 0 c.next_or-alert.result (omega arith)
-          (omega (arith, c.next_or-alert.ensures.end, c.requires.active_places, many-alerts c.args.book.now))
-          (λ a from below. nearing-away on c.args.present.now c.args.waiting.now c.args.self.now start c.args.near.now 0 begun a (c.next_or-alert.ensures.none a from below))
-          (nothing-taken b on start (quiet-fits b c.args.self.now c.requires.fits));
-      nearing = nearing-on on c.args.present.now c.args.waiting.now c.args.self.now start c.args.near.now 0 c.next_or-alert.result (omega arith) begun;
+      moved_places = refl;
+      moved = λ a off. (off, refl);
+      half = half-on b on first asked start 0 c.next_or-alert.result (omega arith) c.next_or-alert.ensures.none (record {
+        fits = record {
+          listers = fits.listers;
+          asked = c.ask.ensures.room ∙ fits.asked;
+          primaries = fits.primaries;
+          starred = fits.starred;
+          up = fits.up;
+        };
+        keeps = refl;
+        taken = λ a below. absurd (omega (arith, below));
+        unasked = λ a off. record { primaries = refl; starred = refl; up = refl };
+        left = λ a from. record { primaries = refl; starred = refl; up = refl };
+      });
+      nearing =
+          nearing-on on c.args.present.now c.args.waiting.now first start c.args.near.now 0 c.next_or-alert.result (omega arith)
+          (nearing-begins on c.args.present.now c.args.waiting.now first asked c.args.near.now c.requires.active c.requires.present c.requires.waiting c.requires.away);
     }
 
-pub star-requires : goal.star-requires
-star-requires c =
-    place-of-alert (the_book c.args.book.now) c.args.active.now c.loop-alert.self c.loop-alert.alert c.loop-alert.alert
+pub ask-requires-clause-asked : goal.ask-requires-clause-asked
+ask-requires-clause-asked c = c.requires.fits.asked ∙ ap (λ n. 64 * (n / 64 + 1)) (many-alerts c.args.book.now)
+
+pub primary-primary-requires : goal.primary-primary-requires
+primary-primary-requires c =
+    let few = many-alerts c.args.book.now in
+    (the_book c.args.book.now, c.loop-alert.invariant.half.fits.listers, c.requires.active_places ∙ sym few, omega (arith, c.loop-alert-test.true, c.requires.active_places, few))
+
+pub star-requires-clause-place : goal.star-requires-clause-place
+star-requires-clause-place c =
+    place-of-alert (the_book c.args.book.now) c.args.active.now c.args.self.now c.ask.new.asked c.loop-alert.self c.loop-alert.alert
     (omega (arith, c.loop-alert-test.true, c.requires.active_places, many-alerts c.args.book.now)) c.loop-alert.invariant.half
-
-pub overflow_cast-alert : goal.overflow_cast-alert
-overflow_cast-alert c = omega (arith, c.loop-alert-test.true, c.requires.active_places, (sizes c.args.book.now c.sealed.ensures).alerts)
-
-pub note-requires-clause-places : goal.note-requires-clause-places
-note-requires-clause-places c =
-    let places : length c.args.book.now.alerts.items ≡ length c.star.new.self.found.items =
-    sym (ap length c.star.ensures.found ∙ length-set c.loop-alert.self.found.items c.loop-alert.alert None ∙ c.loop-alert.invariant.half.found_places ∙ many-alerts c.args.book.now) in
-    subst (λ n. All (λ s. s < n) c.secondaries.result.now) places c.secondaries.ensures.within
-
-pub note-requires-clause-room : goal.note-requires-clause-room
-note-requires-clause-room c =
-    let places : length c.star.new.self.found.items ≡ length c.args.book.now.alerts.items =
-    ap length c.star.ensures.found ∙ length-set c.loop-alert.self.found.items c.loop-alert.alert None ∙ c.loop-alert.invariant.half.found_places ∙ many-alerts c.args.book.now in
-    omega (arith, places, c.loop-alert.invariant.places, c.requires.room)
 
 pub loop-alert-preserved : goal.loop-alert-preserved
 loop-alert-preserved c =
-    let d = c.args.book.now in
-    let b = the_book d in
-    let i = c.loop-alert.alert in
+    let b = the_book c.args.book.now in
     let on = c.args.active.now in
-    let near = c.loop-alert.near in
+    let shows = c.args.present.now in
+    let waits = c.args.waiting.now in
     let first = c.args.self.now in
+    let asked = c.ask.new.asked in
+    let i = c.loop-alert.alert in
+    let near = c.loop-alert.near in
     let now = c.loop-alert.self in
     let next = c.star.new.self in
-    let within : i < length b.alerts = omega (arith, c.loop-alert-test.true, c.requires.active_places, many-alerts d) in
-    let later = secondaries-later (draft_of d) c.sealed.ensures.faultless in
-    let has : HasPlace i now = place-of-alert b on now i i within c.loop-alert.invariant.half in
-    let settled : IsHalfTaken b on next (suc i) i = one-taken b on later now next i within c.star.ensures c.loop-alert.invariant.half in
-    let half : IsHalfTaken b on c.if-active-alert.self (suc i) (i + 1) =
-    elim c.if-active-alert.branch [
-      | then-active-alert w ↦
-          subst (λ s. IsHalfTaken b on s (suc i) (i + 1)) (sym w.self-is)
-          (one-noted b on later next (record next { found = w.note.new.found }) w.secondaries.result.now i
-          w.secondaries.ensures.value w.if-active-alert.true refl refl refl w.note.ensures.places w.note.ensures.noted settled)
-      | else-active-alert+then-not-present-alert w ↦ subst (λ s. IsHalfTaken b on s (suc i) (i + 1)) (sym w.self-is) (one-left b on later next i w.if-active-alert.false settled)
-      | else-active-alert+else-not-present-alert w ↦ subst (λ s. IsHalfTaken b on s (suc i) (i + 1)) (sym w.self-is) (one-left b on later next i w.if-active-alert.false settled)
+    let primary = primary_of b on i in
+    let was = c.loop-alert.invariant in
+    let within : i < length b.alerts = omega (arith, c.loop-alert-test.true, c.requires.active_places, many-alerts c.args.book.now) in
+    let takes : Takes i (get_or on i false) primary now next
+    = subst (λ o. Takes i (get_or on i false) o now next) (c.primary-primary.ensures b was.half.fits.listers within) c.star.ensures.takes in
+    let has : HasPlace i now = place-of-alert b on first asked now i within was.half in
+    let none : get_or on i false ≡ false → primary ≡ None = λ off. ap (λ f. cond f (find (λ p. get_or on p false) (primaries b i)) None) off in
+    let half : IsHalfTaken b on first next asked (suc i) = one-taken b on first asked now next i within (was.asks c.loop-alert-test.true) takes was.half in
+    let keeps = half.keeps in
+    let stays : room c.if-not-present-alert.near ≡ room near =
+    elim c.if-not-present-alert.branch [
+      | then-not-present-alert w ↦ ap (λ (m : Marked). room m) w.near-is ∙ w.unmark.ensures.room
+      | else-not-present-alert w ↦ ap (λ (m : Marked). room m) w.near-is
     ] in
-    let stays : room c.if-active-alert.near ≡ room near =
-    elim c.if-active-alert.branch [
-      | then-active-alert w ↦ ap room w.near-is ∙ w.note.ensures.room
-      | else-active-alert+then-not-present-alert w ↦ ap room w.near-is ∙ w.unmark.ensures.room
-      | else-active-alert+else-not-present-alert w ↦ ap room w.near-is
+    let nearing : IsNearing on shows waits first next c.if-not-present-alert.near (suc i) =
+    elim c.if-not-present-alert.branch [
+      | then-not-present-alert w ↦
+          let quiet = or_parts (get_or shows i false || get_or on i false) (get_or waits i false) w.if-not-present-alert.true in
+          let away = or_parts (get_or shows i false) (get_or on i false) quiet.0 in
+          subst (λ (m : Marked). IsNearing on shows waits first next m (suc i)) (sym w.near-is)
+          (nearing-less on shows waits first now next near i primary has takes none was.nearing w.unmark.new.self w.unmark.ensures.marks away.1 away.0 quiet.1)
+      | else-not-present-alert w ↦
+          subst (λ (m : Marked). IsNearing on shows waits first next m (suc i)) (sym w.near-is)
+          (nearing-kept on shows waits first now next near i primary has takes none was.nearing)
     ] in
-    let nearing : IsNearing on c.args.present.now c.args.waiting.now first c.if-active-alert.self c.if-active-alert.near (suc i) =
-    elim c.if-active-alert.branch [
-      | then-active-alert w ↦
-          subst (λ s. IsNearing on c.args.present.now c.args.waiting.now first s c.if-active-alert.near (suc i)) (sym w.self-is)
-          (subst (λ m. IsNearing on c.args.present.now c.args.waiting.now first (record next { found = w.note.new.found }) m (suc i)) (sym w.near-is)
-          (nearing-more on c.args.present.now c.args.waiting.now first now next near i has c.star.ensures c.loop-alert.invariant.nearing
-          (record next { found = w.note.new.found }) w.secondaries.result.now w.note.new.near w.if-active-alert.true refl refl refl refl w.note.ensures.noted w.note.ensures.near))
-      | else-active-alert+then-not-present-alert w ↦
-          let quiet = or_parts (get_or c.args.present.now i false) (get_or c.args.waiting.now i false) w.if-not-present-alert.true in
-          subst (λ s. IsNearing on c.args.present.now c.args.waiting.now first s c.if-active-alert.near (suc i)) (sym w.self-is)
-          (subst (λ m. IsNearing on c.args.present.now c.args.waiting.now first next m (suc i)) (sym w.near-is)
-          (nearing-less on c.args.present.now c.args.waiting.now first now next near i has c.star.ensures c.loop-alert.invariant.nearing
-          w.unmark.new.self w.unmark.ensures.marks w.if-active-alert.false quiet.0 quiet.1))
-      | else-active-alert+else-not-present-alert w ↦
-          subst (λ s. IsNearing on c.args.present.now c.args.waiting.now first s c.if-active-alert.near (suc i)) (sym w.self-is)
-          (subst (λ m. IsNearing on c.args.present.now c.args.waiting.now first next m (suc i)) (sym w.near-is)
-          (nearing-kept on c.args.present.now c.args.waiting.now first now next near i has c.star.ensures c.loop-alert.invariant.nearing w.if-active-alert.false))
-    ] in
-    let all : IsHalfTaken b on c.if-active-alert.self (i + 1) (i + 1) = subst (λ n. IsHalfTaken b on c.if-active-alert.self n (i + 1)) (sym (add-one i)) half in
-    let far : IsNearing on c.args.present.now c.args.waiting.now first c.if-active-alert.self c.if-active-alert.near (i + 1) =
-    subst (λ n. IsNearing on c.args.present.now c.args.waiting.now first c.if-active-alert.self c.if-active-alert.near n) (sym (add-one i)) nearing in
-    let order = c.next_or-alert-in-loop-alert.ensures.from in
+    let found = c.next_or-alert-in-loop-alert.ensures in
     record {
-      most = c.next_or-alert-in-loop-alert.ensures.end;
-      places = stays ∙ c.loop-alert.invariant.places;
+      most = found.end;
+      asks = λ inside. sym (ap (λ (m : Marked). is_marked m c.next_or-alert-in-loop-alert.result) keeps) ∙ found.marked inside;
+      places = stays ∙ was.places;
+      moved_places = c.star.ensures.room ∙ was.moved_places;
+      moved = λ a off.
+          let here = c.star.ensures.moved a off in
+          let before = was.moved a here.0 in
+          (before.0, here.1 ∙ before.1);
       half =
-          half-on b on later c.if-active-alert.self (i + 1) c.next_or-alert-in-loop-alert.result order
-          (omega (arith, c.next_or-alert-in-loop-alert.ensures.end, c.requires.active_places, many-alerts d))
-          (λ a from below.
-          nearing-away on c.args.present.now c.args.waiting.now first c.if-active-alert.self c.if-active-alert.near (i + 1) far a (c.next_or-alert-in-loop-alert.ensures.none a from below))
-          all;
-      nearing = nearing-on on c.args.present.now c.args.waiting.now first c.if-active-alert.self c.if-active-alert.near (i + 1) c.next_or-alert-in-loop-alert.result order far;
+          half-on b on first asked next (suc i) c.next_or-alert-in-loop-alert.result (omega (arith, found.from))
+          (λ a from below. sym (ap (λ (m : Marked). is_marked m a) keeps) ∙ found.none a (omega (arith, from)) below) half;
+      nearing = nearing-on on shows waits first next c.if-not-present-alert.near (suc i) c.next_or-alert-in-loop-alert.result (omega (arith, found.from)) nearing;
     }
 
-pub returns-clause-fits : goal.returns-clause-fits
-returns-clause-fits c =
-    let b = the_book c.args.book.now in
-    let end : c.loop-alert.alert ≡ length b.alerts = omega (arith, c.loop-alert-test.false, c.loop-alert.invariant.most, c.requires.active_places, many-alerts c.args.book.now) in
-    taken-fits b c.args.active.now c.loop-alert.self c.loop-alert.alert end c.loop-alert.invariant.half
-
 pub returns-clause-stands : goal.returns-clause-stands
-returns-clause-stands c = λ active k tells.
+returns-clause-stands c = λ active k was tells still.
     let b = the_book c.args.book.now in
-    let end : c.loop-alert.alert ≡ length b.alerts = omega (arith, c.loop-alert-test.false, c.loop-alert.invariant.most, c.requires.active_places, many-alerts c.args.book.now) in
-    taken-stands b c.args.active.now c.loop-alert.self c.loop-alert.alert end c.loop-alert.invariant.half active k
-    (λ a within. tells a (omega (arith, many-alerts c.args.book.now)))
+    let few = many-alerts c.args.book.now in
+    let end : c.loop-alert.alert ≡ length b.alerts = omega (arith, c.loop-alert-test.false, c.loop-alert.invariant.most, c.requires.active_places, few) in
+    taken-stands b active c.args.active.now c.args.self.now c.loop-alert.self c.ask.new.asked c.args.moved.now k was
+    (λ a within. tells a (omega (arith, within, few))) (λ a within off. still a (omega (arith, within, few)) off)
+    (λ a off. subst (λ n. IsUnasked (secondaries_of b) c.args.moved.now n a) (sym few) (c.ask.ensures.asked a off))
+    (subst (λ n. IsHalfTaken b c.args.active.now c.args.self.now c.loop-alert.self c.ask.new.asked n) end c.loop-alert.invariant.half)
+
+pub returns-clause-turned : goal.returns-clause-turned
+returns-clause-turned c =
+    let end : c.loop-alert.alert ≡ length c.args.book.now.alerts.items = omega (arith, c.loop-alert-test.false, c.loop-alert.invariant.most, c.requires.active_places) in
+    let tells = c.loop-alert.invariant.nearing.turned in
+    (λ e a within. tells.0 e a (omega (arith, within, end)), λ same. tells.1 (λ a below. same a (omega (arith, below, end))))

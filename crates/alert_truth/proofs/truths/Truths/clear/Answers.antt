@@ -3,7 +3,7 @@ use Rattle.std.proofs.lemmas.List.{length-replicate, get_or-replicate}
 use Rattle.std.specs.Prelude.{is_some}
 use Rattle.wakes.specs.Due.{never}
 use Rattle.alert_truth.specs.Alerts.{active}
-use Rattle.alert_truth.proofs.Starring.{blank-at}
+use Rattle.alert_truth.proofs.Blank.{blank-at}
 use Rattle.alert_truth.proofs.Nearing.{none-near}
 use Rattle.alert_truth.proofs.Stepping.{nothing-stands}
 use Rattle.alert_truth.proofs.truths.Truths.clear.Goals as goal
@@ -26,6 +26,7 @@ returns-clause-fits c = λ b fits.
       active = ap length here ∙ length-replicate count false;
       waiting = ap length waits ∙ length-replicate count false;
       near_room = c.clear-3.ensures.room ∙ fits.near_room;
+      turned_room = c.clear-4.ensures.room ∙ fits.turned_room;
       due_room = fits.due_room;
       dues = ap length c.clear-2.ensures ∙ length-replicate (length old.dues) never ∙ fits.dues;
       room = c.clear.ensures.room ∙ fits.room;
@@ -34,8 +35,8 @@ returns-clause-fits c = λ b fits.
           ∙ sym (ap (λ (o : Option ℕ). is_some o && not (get_or c.fill-3.new.self.items a false)) (ap (λ xs. get_or xs a None) since ∙ get_or-replicate count a None None within));
       near =
           none-near _ (λ a. ap (λ xs. get_or xs a false) now ∙ blank-at count a false) (λ a. ap (λ xs. get_or xs a false) here ∙ blank-at count a false)
-          (λ a. ap (λ xs. get_or xs a false) waits ∙ blank-at count a false) (c.clear-4.ensures.away b fits.stars);
-      stars = c.clear-4.ensures.fits b fits.stars;
+          (λ a. ap (λ xs. get_or xs a false) waits ∙ blank-at count a false) (c.clear-5.ensures.away b fits.stars);
+      stars = c.clear-5.ensures.fits b fits.stars;
     }
 
 pub returns-clause-stands : goal.returns-clause-stands
@@ -51,4 +52,4 @@ returns-clause-stands c = λ b conditions phases fits.
     (c.fill-2.ensures.items (λ y same. search rules) ∙ ap (λ n. replicate n false) two)
     (c.fill-3.ensures.items (λ y same. search rules) ∙ ap (λ n. replicate n false) three)
     (c.fill-4.ensures.items (λ y same. search rules) ∙ ap (λ n. replicate n false) four)
-    (c.clear-4.ensures.stands b (active b conditions phases) fits.stars) refl
+    (c.clear-5.ensures.stands b (active b conditions phases) fits.stars) refl

@@ -7,17 +7,17 @@ use Rattle.book_model.proofs.BookLimits.{sizes}
 use Rattle.wakes.specs.Due.{never}
 use Rattle.alert_truth.specs.Alerts.{active}
 use Rattle.alert_truth.specs.TruthsState.{TruthsFit}
-use Rattle.alert_truth.proofs.Starring.{blank-at}
+use Rattle.alert_truth.proofs.Blank.{blank-at}
 use Rattle.alert_truth.proofs.Nearing.{none-near}
 use Rattle.alert_truth.proofs.Stepping.{nothing-stands}
 use Rattle.alert_truth.proofs.truths.Truths.new.Goals as goal
-use Rattle.alert_truth.proofs.truths.Truths.new.Goals.{In_ok-new-5}
+use Rattle.alert_truth.proofs.truths.Truths.new.Goals.{In_ok-new-6}
 
 -- there are as many places as alerts
-count : (c : In_ok-new-5) → length c.alerts-alerts.result.now ≡ length (the_book c.args.book.now).alerts
+count : (c : In_ok-new-6) → length c.alerts-alerts.result.now ≡ length (the_book c.args.book.now).alerts
 count c = ap length c.alerts-alerts.ensures.value ∙ sym (many-alerts c.args.book.now)
 
-fits : (c : In_ok-new-5) (turned : Bool) → TruthsFit (the_book c.args.book.now) (record { moments = 0; since = c.in_ok-vec.field-0; present = c.in_ok-vec-2.field-0; active = c.in_ok-vec-3.field-0; waiting = c.in_ok-vec-4.field-0; restless = c.in_ok-new.field-0; dues = c.in_ok-new-2.field-0; due = c.in_ok-new-3.field-0; near = c.in_ok-new-4.field-0; stars = c.in_ok-new-5.field-0; changing = false; changed = turned })
+fits : (c : In_ok-new-6) (turned : Bool) → TruthsFit (the_book c.args.book.now) (record { moments = 0; since = c.in_ok-vec.field-0; present = c.in_ok-vec-2.field-0; active = c.in_ok-vec-3.field-0; waiting = c.in_ok-vec-4.field-0; restless = c.in_ok-new.field-0; dues = c.in_ok-new-2.field-0; due = c.in_ok-new-3.field-0; near = c.in_ok-new-4.field-0; turned = c.in_ok-new-5.field-0; stars = c.in_ok-new-6.field-0; changing = false; changed = turned })
 fits c turned = record {
   since = omega (arith, c.in_ok-vec.ensures.len, count c);
   present = omega (arith, c.in_ok-vec-2.ensures.len, count c);
@@ -30,14 +30,15 @@ fits c turned = record {
       (ap (λ xs. get_or xs a None) (c.in_ok-vec.ensures.items_if_clones_equal (λ y same. search rules)) ∙ get_or-replicate (length c.alerts-alerts.result.now) a None None (omega (arith, within, count c))));
   due_room = c.in_ok-new-3.ensures.size ∙ ap (λ n. 64 * (n / 64 + 1)) (count c);
   dues = ap length c.in_ok-new-2.ensures ∙ length-replicate (length c.alerts-alerts.result.now) never ∙ count c;
+  turned_room = c.in_ok-new-5.ensures.size ∙ ap (λ n. 64 * (n / 64 + 1)) (count c);
   near_room = c.in_ok-new-4.ensures.size ∙ ap (λ n. 64 * (n / 64 + 1)) (count c);
   near =
       none-near _
       (λ a. ap (λ xs. get_or xs a false) (c.in_ok-vec-2.ensures.items_if_clones_equal (λ y same. search rules)) ∙ blank-at (length c.alerts-alerts.result.now) a false)
       (λ a. ap (λ xs. get_or xs a false) (c.in_ok-vec-3.ensures.items_if_clones_equal (λ y same. search rules)) ∙ blank-at (length c.alerts-alerts.result.now) a false)
       (λ a. ap (λ xs. get_or xs a false) (c.in_ok-vec-4.ensures.items_if_clones_equal (λ y same. search rules)) ∙ blank-at (length c.alerts-alerts.result.now) a false)
-      c.in_ok-new-5.ensures.away;
-  stars = c.in_ok-new-5.ensures.fits (the_book c.args.book.now) (sym (count c));
+      c.in_ok-new-6.ensures.away;
+  stars = c.in_ok-new-6.ensures.fits;
 }
 
 pub returns-clause-fits : goal.returns-clause-fits
@@ -51,7 +52,7 @@ returns-clause-stands c = λ conditions phases.
     (c.in_ok-vec-2.ensures.items_if_clones_equal (λ y same. search rules))
     (c.in_ok-vec-3.ensures.items_if_clones_equal (λ y same. search rules))
     (c.in_ok-vec-4.ensures.items_if_clones_equal (λ y same. search rules))
-    (c.in_ok-new-5.ensures.stands b (active b conditions phases) (sym (count c))) refl
+    (c.in_ok-new-6.ensures.stands (active b conditions phases)) refl
 
 pub new-requires : goal.new-requires
 new-requires c = omega (arith, ap length c.alerts-alerts.ensures.value, (sizes c.args.book.now c.alerts-alerts.ensures.sealed).alerts)
@@ -64,3 +65,6 @@ new-requires-3 c = omega (arith, ap length c.alerts-alerts.ensures.value, (sizes
 
 pub new-requires-4 : goal.new-requires-4
 new-requires-4 c = omega (arith, ap length c.alerts-alerts.ensures.value, (sizes c.args.book.now c.alerts-alerts.ensures.sealed).alerts)
+
+pub new-requires-5 : goal.new-requires-5
+new-requires-5 c = omega (arith, ap length c.alerts-alerts.ensures.value, (sizes c.args.book.now c.alerts-alerts.ensures.sealed).alerts)

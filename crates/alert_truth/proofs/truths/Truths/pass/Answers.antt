@@ -3,7 +3,7 @@ use Rattle.book_model.specs.Sealed.{the_book}
 use Rattle.book_model.proofs.BookLists.{many-alerts}
 use Rattle.alert_truth.specs.TruthsState.{HalfStand}
 use Rattle.alert_truth.proofs.Nearing.{quiet-fits, quiet-near}
-use Rattle.alert_truth.proofs.Stepping.{moment-ends, still-stars, still-starred}
+use Rattle.alert_truth.proofs.Stepping.{moment-ends, still-stars, still-starred, still-at}
 use Rattle.alert_truth.proofs.truths.Truths.pass.Goals as goal
 
 pub returns-clause-fits : goal.returns-clause-fits
@@ -17,6 +17,7 @@ returns-clause-fits c =
       waiting = fits.waiting;
       near_room = fits.near_room;
       due_room = fits.due_room;
+      turned_room = fits.turned_room;
       room = fits.room;
       dues = ap length c.pass.ensures ∙ fits.dues;
       restless = fits.restless;
@@ -34,3 +35,4 @@ returns-clause-stands c = λ conditions phases k half.
     (add-one old.moments) c.pass.ensures refl refl refl refl c.requires.changing (c.requires.changed ∙ sym c.requires.changing)
     (still-stars b conditions phases k old.stars still all.stars)
     (λ e. still-starred b conditions phases k still, λ same. refl)
+    (λ a within off. still-at b conditions phases k still a within)

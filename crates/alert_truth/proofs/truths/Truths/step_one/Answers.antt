@@ -26,6 +26,7 @@ stays-requires c =
       restless = omega (arith, c.requires.fits.room, c.requires.alert, few);
       dues = omega (arith, c.requires.fits.dues, few);
       near = omega (arith, c.requires.fits.near_room, c.requires.alert, few);
+      turned = omega (arith, c.requires.fits.turned_room, c.requires.alert, few);
     }
 
 pub index-requires : goal.index-requires
@@ -45,6 +46,7 @@ note-requires c =
       restless = omega (arith, c.requires.fits.room, c.requires.alert, few);
       dues = omega (arith, c.requires.fits.dues, few);
       near = omega (arith, c.requires.fits.near_room, c.requires.alert, few);
+      turned = omega (arith, c.requires.fits.turned_room, c.requires.alert, few);
     }
 
 -- what the book has of the alert
@@ -92,9 +94,10 @@ module _ (c : After-note) (conditions : ℕ → Signal) (phases : ℕ → ℕ) (
 
 pub returns-clause-stands : goal.returns-clause-stands
 returns-clause-stands c = λ conditions phases k cond phase half.
-    half-step (the_book c.args.book.now) conditions phases k c.args.alert c.since_when-since.result c.is_present-present.result c.is_active-active.result c.confirmed_at-due.result c.args.self.now c.note.new.self c.note.ensures
+    half-step (the_book c.args.book.now) conditions phases k c.args.alert c.since_when-since.result c.is_present-present.result c.is_active-active.result c.confirmed_at-due.result c.args.self.now c.note.new.self c.note.ensures.notes
     (within c conditions phases k cond phase half) (since c conditions phases k cond phase half) (is_present c conditions phases k cond phase half) (is_active c conditions phases k cond phase half)
-    (c.confirmed_at-due.ensures ∙ ap (λ n. confirmed_at n c.since_when-since.result c.is_present-present.result) (sym (confirm_of c))) half
+    (c.confirmed_at-due.ensures ∙ ap (λ n. confirmed_at n c.since_when-since.result c.is_present-present.result) (sym (confirm_of c)))
+    c.note.ensures.turns half
 
 pub returns-clause-answer : goal.returns-clause-answer
 returns-clause-answer c = λ conditions phases k cond phase half. is_active c conditions phases k cond phase half
@@ -123,4 +126,4 @@ returns-then-stays-clause-answer c = λ conditions phases k cond phase half. con
 pub returns-clause-fits : goal.returns-clause-fits
 returns-clause-fits c =
     notes-fits (the_book c.args.book.now) c.args.alert c.since_when-since.result c.is_present-present.result c.is_active-active.result c.confirmed_at-due.result c.args.self.now c.note.new.self
-    (omega (arith, c.requires.alert, many-alerts c.args.book.now)) c.note.ensures c.requires.fits
+    (omega (arith, c.requires.alert, many-alerts c.args.book.now)) c.note.ensures.notes c.requires.fits

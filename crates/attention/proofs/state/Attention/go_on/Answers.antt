@@ -1,6 +1,6 @@
 use Rattle.std.proofs.Common.{suc, ◌+◌, Some, refl, ◌∙◌, ap}
 use Rattle.attention.proofs.StandsOn.{stands-next}
-use Rattle.attention.proofs.Resting.{watch-rests, calls-rest}
+use Rattle.attention.proofs.Resting.{watch-rests, callers-rest, calls-rest}
 use Rattle.attention.proofs.Steady.{steady-on, steady-tells}
 use Rattle.attention.proofs.state.Attention.go_on.Goals as goal
 
@@ -13,4 +13,5 @@ returns-clause-stands c = λ b a k nothing stands.
     stands.fits
     (ap (λ n. n + 1) stands.moments)
     (λ i h. stands.watches i h ∙ ap Some (watch-rests a k nothing i))
+    (callers-rest a k nothing _ c.args.self.now.callers (stands.callers k refl))
     (calls-rest a k nothing c.args.self.now.calls (stands.calls k refl))

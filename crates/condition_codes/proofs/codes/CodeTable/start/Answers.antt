@@ -1,4 +1,4 @@
-use Rattle.std.proofs.Common.{◌≡◌, suc, ◌+◌, ◌<◌, length, ap, ◌∙◌, arith, add-one}
+use Rattle.std.proofs.Common.{arith}
 use Rattle.condition_codes.proofs.Linking.{many-starts, start-read}
 use Rattle.condition_codes.proofs.codes.CodeTable.start.Goals as goal
 

@@ -1,4 +1,4 @@
-use Rattle.std.proofs.Common.{◌≡◌, ◌-◌, [], ◌∷◌, ◌++◌, ◌≤◌, ◌^◌, length, take, drop, refl, sym, ap, ◌∙◌, arith}
+use Rattle.std.proofs.Common.{◌≡◌, ◌-◌, [], ◌∷◌, ◌++◌, length, take, drop, refl, sym, ap, ◌∙◌, arith}
 use Rattle.book_model.specs.View.{tree_in, placed_of}
 use Rattle.term_eval.specs.Code.{code, owners, IsCode}
 use Rattle.term_eval.specs.Links.{links_from}

@@ -1,4 +1,4 @@
-use Rattle.std.proofs.Common.{◌∙◌, ap, length}
+use Rattle.std.proofs.Common.{ap, length}
 use Rattle.condition_codes.specs.Pieces.{links_of, owners_of}
 use Rattle.condition_codes.proofs.Appending.{codes-none}
 use Rattle.condition_codes.proofs.Owning.{each-none, slots-none}

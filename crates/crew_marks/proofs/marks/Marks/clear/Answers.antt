@@ -6,6 +6,7 @@ pub returns-clause-fits : goal.returns-clause-fits
 returns-clause-fits c = rw (← c.self.view_is) (λ b fits.
     blank-fits b _
     (record {
+      order = c.clear.ensures.order ∙ fits.ordered;
       cleared = c.clear.ensures.cleared ∙ ap (λ n. replicate n false) fits.many.cleared;
       cancelled = c.clear.ensures.cancelled ∙ ap (λ n. replicate n false) fits.many.cancelled;
       recalled = c.clear.ensures.recalled ∙ ap (λ n. replicate n false) fits.many.recalled;
@@ -21,6 +22,7 @@ pub returns-clause-stands : goal.returns-clause-stands
 returns-clause-stands c = rw (← c.self.view_is) (λ b cockpit fits.
     blank-stands b _
     (record {
+      order = c.clear.ensures.order ∙ fits.ordered;
       cleared = c.clear.ensures.cleared ∙ ap (λ n. replicate n false) fits.many.cleared;
       cancelled = c.clear.ensures.cancelled ∙ ap (λ n. replicate n false) fits.many.cancelled;
       recalled = c.clear.ensures.recalled ∙ ap (λ n. replicate n false) fits.many.recalled;
