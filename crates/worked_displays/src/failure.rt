@@ -1,8 +1,10 @@
 // A failure from its first moment to its recall: a system whose reservoir runs low, the pressure that falls with it, the line
 // that is done, CLR, STS and RCL; and a value that is gone.
 use super::{book_of, is_printed, is_zone, short};
+use book_model::Book;
 use ecam_kinds::{Picture, ROWS};
 use status_page::{fill_status, status_rows};
+use std::process::Abort;
 use std::test::Fail;
 use system_display::{Choice, fill_page};
 use warning_display::{fill_flags, fill_left, fill_right};
@@ -156,62 +158,96 @@ const MOMENTS: [Moment; 9] = [
 
 // Which of L1, L2, R1, FL, S01 and S02 are told as changed, at the asterisks.
 fn are_told(changed: &[bool; ROWS], letters: &[u8]) -> bool {
-    let places: [usize; 6] = [0, 1, 7, 14, 15, 16];
+    let told = [
+        changed[0],
+        changed[1],
+        changed[7],
+        changed[14],
+        changed[15],
+        changed[16],
+    ];
     for i in 0..6 {
-        if changed[places[i]] != (letters.get(i) == Some(&b'*')) {
+        if told[i] != (letters.get(i) == Some(&b'*')) {
             return false;
         }
     }
     true
 }
 
+// Whether a moment's zones, flags and display are shown, and its changes told.
+fn shows(rt: &impl Abort, picture: &Picture, changed: &[bool; ROWS], k: usize, moment: &Moment) {
+    let (_, _, _, _, _, _, left, right, flags, display, told) = moment;
+    assert!(rt; is_zone(picture, 0, 7, left), "moment {k}");
+    assert!(rt; is_zone(picture, 7, 7, right), "moment {k}");
+    assert!(rt; is_printed(&picture.rows[14], flags), "moment {k}");
+    assert!(rt; is_zone(picture, 15, 18, display), "moment {k}");
+    assert!(rt; are_told(changed, told), "moment {k}");
+}
+
+// Fills the left zone, the right zone and the flags by a moment.
+fn fill_warnings(
+    rt: &impl Abort,
+    book: &Book,
+    picture: &mut Picture,
+    changed: &mut [bool; ROWS],
+    moment: &Moment,
+) {
+    let (first, second, shown, stands, _, _, _, _, _, _, _) = moment;
+    assert_eq!(rt; book.alerts().len(), 2);
+    assert_eq!(rt; book.line_count(), 1);
+    assert_eq!(rt; book.memos().len(), 0);
+    let beyond = fill_left(
+        book,
+        &[*shown, false],
+        &[*stands],
+        &[],
+        false,
+        picture,
+        changed,
+    );
+    let starred = fill_right(book, &[false, *second], &[], picture, changed);
+    let many = status_rows(book, &[*first, *second], &[false, false]);
+    fill_flags(beyond, starred, many, picture, changed);
+}
+
+// Fills the system display by a moment.
+fn fill_display(
+    rt: &impl Abort,
+    book: &Book,
+    picture: &mut Picture,
+    changed: &mut [bool; ROWS],
+    moment: &Moment,
+) {
+    let (first, second, _, _, pressure, choice, _, _, _, _, _) = moment;
+    assert_eq!(rt; book.alerts().len(), 2);
+    assert_eq!(rt; book.params().len(), 3);
+    let values = [None, None, short(*pressure)];
+    match choice {
+        Choice::Auto => fill_page(book, None, &values, picture, changed),
+        Choice::Page(page) => {
+            assert!(rt; *page < book.pages().len());
+            fill_page(book, Some(*page), &values, picture, changed);
+        }
+        Choice::Status(page) => {
+            let active = [*first, *second];
+            fill_status(book, &active, &[false, false], *page, picture, changed);
+        }
+    }
+}
+
+fn all_moments(rt: &impl Abort, book: &Book) {
+    let mut picture = Picture::blank();
+    for (k, moment) in MOMENTS.iter().enumerate() {
+        let mut changed = [false; ROWS];
+        fill_warnings(rt, book, &mut picture, &mut changed, moment);
+        fill_display(rt, book, &mut picture, &mut changed, moment);
+        shows(rt, &picture, &changed, k, moment);
+    }
+}
+
 #[test]
 fn a_failure_is_shown_moment_by_moment(rt: HostRuntime) -> Result<(), Fail> {
     let book = book_of(rt.alloc(), BOOK)?;
-    let mut picture = Picture::blank();
-    for (k, moment) in MOMENTS.iter().enumerate() {
-        let (first, second, shown, stands, pressure, choice, left, right, flags, display, told) =
-            moment;
-        assert_eq!(rt; book.alerts().len(), 2);
-        assert_eq!(rt; book.line_count(), 1);
-        assert_eq!(rt; book.memos().len(), 0);
-        assert_eq!(rt; book.params().len(), 3);
-        let active = [*first, *second];
-        let cancelled = [false, false];
-        let values = [None, None, short(*pressure)];
-        let mut changed = [false; ROWS];
-        let beyond = fill_left(
-            &book,
-            &[*shown, false],
-            &[*stands],
-            &[],
-            false,
-            &mut picture,
-            &mut changed,
-        );
-        let starred = fill_right(&book, &[false, *second], &[], &mut picture, &mut changed);
-        let many = status_rows(&book, &active, &cancelled);
-        fill_flags(beyond, starred, many, &mut picture, &mut changed);
-        match choice {
-            Choice::Auto => fill_page(&book, None, &values, &mut picture, &mut changed),
-            Choice::Page(page) => {
-                assert!(rt; *page < book.pages().len());
-                fill_page(&book, Some(*page), &values, &mut picture, &mut changed);
-            }
-            Choice::Status(page) => fill_status(
-                &book,
-                &active,
-                &cancelled,
-                *page,
-                &mut picture,
-                &mut changed,
-            ),
-        }
-        assert!(rt; is_zone(&picture, 0, 7, left), "moment {k}");
-        assert!(rt; is_zone(&picture, 7, 7, right), "moment {k}");
-        assert!(rt; is_printed(&picture.rows[14], flags), "moment {k}");
-        assert!(rt; is_zone(&picture, 15, 18, display), "moment {k}");
-        assert!(rt; are_told(&changed, told), "moment {k}");
-    }
+    all_moments(&rt, &book);
     Ok(())
 }

@@ -6,6 +6,7 @@ ghost use Rattle.system_display.specs.Selecting.{SelectorFits};
 use super::book_of;
 use book_model::Book;
 use ecam_kinds::{Key, Keys};
+use std::process::Abort;
 use std::test::Fail;
 use system_display::{Choice, Selector};
 
@@ -114,65 +115,73 @@ fn right_rows(book: &Book, rows: &[(&[u8], u8, &[u8], bool)]) -> usize
     rows.len()
 }
 
+// The strokes of the first moment, how many moments they are, what is chosen, and whether the first changes it.
+type Struck = (&'static [u8], u8, &'static [u8], bool);
+
+const STRUCK: [Struck; 42] = [
+    (b"", 1, b"--", false),
+    // STS shows one page further with each press, and after CLR the first
+    (b"S", 1, b"S0", true),
+    (b"S", 1, b"S1", true),
+    (b"S", 4, b"S2", true),
+    (b"C", 2, b"--", true),
+    (b"S", 1, b"S0", true),
+    // EMER CANC shows the first, and STS after it the second
+    (b"E", 1, b"S0", false),
+    (b"S", 1, b"S1", true),
+    (b"S", 1, b"S2", true),
+    (b"E", 1, b"S0", true),
+    (b"S", 1, b"S1", true),
+    (b"C", 1, b"--", true),
+    // of a warning, and of nothing, it selects nothing
+    (b"W", 1, b"--", false),
+    (b"N", 1, b"--", false),
+    (b"S", 1, b"S0", true),
+    (b"W", 1, b"S0", false),
+    (b"S", 1, b"S1", true),
+    // STS comes before CLR, and CLR before EMER CANC
+    (b"CS", 1, b"S2", true),
+    (b"EC", 1, b"--", true),
+    (b"ES", 1, b"S0", true),
+    // of two pages the first, and none that the book doesn't have
+    (b"2", 3, b"P1", true),
+    (b"32", 1, b"P1", false),
+    (b"4", 1, b"P1", false),
+    (b"45", 1, b"P1", false),
+    (b"4C", 1, b"--", true),
+    (b"S3", 1, b"P2", true),
+    (b"S", 1, b"S0", true),
+    // ALL shows each page for a second, and the last one stays
+    (b"A", 10, b"P0", true),
+    (b"", 10, b"P1", true),
+    (b"", 5, b"P2", true),
+    (b"a", 12, b"P2", false),
+    (b"C", 1, b"--", true),
+    // held again, it begins with the first, and no other key selects
+    (b"A", 10, b"P0", true),
+    (b"C", 10, b"P1", true),
+    (b"1", 10, b"P2", true),
+    // behind the last page it shows the first again
+    (b"", 10, b"P0", true),
+    (b"", 5, b"P1", true),
+    // released and pressed in one moment it is held on
+    (b"aA", 5, b"P1", false),
+    (b"", 1, b"P2", true),
+    // and pressed and released in one it isn't held
+    (b"a", 1, b"P2", false),
+    (b"S", 1, b"S0", true),
+    (b"Aa", 1, b"S0", false),
+];
+
+fn select(rt: &impl Abort, book: &Book) {
+    let before = Selector::new();
+    assert!(rt; before.choice() == Choice::Auto && !before.changed());
+    assert_eq!(rt; right_rows(book, &STRUCK), 42);
+}
+
 #[test]
 fn keys_select(rt: HostRuntime) -> Result<(), Fail> {
     let book = book_of(rt.alloc(), BOOK)?;
-    let rows: [(&[u8], u8, &[u8], bool); 42] = [
-        (b"", 1, b"--", false),
-        // STS shows one page further with each press, and after CLR the first
-        (b"S", 1, b"S0", true),
-        (b"S", 1, b"S1", true),
-        (b"S", 4, b"S2", true),
-        (b"C", 2, b"--", true),
-        (b"S", 1, b"S0", true),
-        // EMER CANC shows the first, and STS after it the second
-        (b"E", 1, b"S0", false),
-        (b"S", 1, b"S1", true),
-        (b"S", 1, b"S2", true),
-        (b"E", 1, b"S0", true),
-        (b"S", 1, b"S1", true),
-        (b"C", 1, b"--", true),
-        // of a warning, and of nothing, it selects nothing
-        (b"W", 1, b"--", false),
-        (b"N", 1, b"--", false),
-        (b"S", 1, b"S0", true),
-        (b"W", 1, b"S0", false),
-        (b"S", 1, b"S1", true),
-        // STS comes before CLR, and CLR before EMER CANC
-        (b"CS", 1, b"S2", true),
-        (b"EC", 1, b"--", true),
-        (b"ES", 1, b"S0", true),
-        // of two pages the first, and none that the book doesn't have
-        (b"2", 3, b"P1", true),
-        (b"32", 1, b"P1", false),
-        (b"4", 1, b"P1", false),
-        (b"45", 1, b"P1", false),
-        (b"4C", 1, b"--", true),
-        (b"S3", 1, b"P2", true),
-        (b"S", 1, b"S0", true),
-        // ALL shows each page for a second, and the last one stays
-        (b"A", 10, b"P0", true),
-        (b"", 10, b"P1", true),
-        (b"", 5, b"P2", true),
-        (b"a", 12, b"P2", false),
-        (b"C", 1, b"--", true),
-        // held again, it begins with the first, and no other key selects
-        (b"A", 10, b"P0", true),
-        (b"C", 10, b"P1", true),
-        (b"1", 10, b"P2", true),
-        // behind the last page it shows the first again
-        (b"", 10, b"P0", true),
-        (b"", 5, b"P1", true),
-        // released and pressed in one moment it is held on
-        (b"aA", 5, b"P1", false),
-        (b"", 1, b"P2", true),
-        // and pressed and released in one it isn't held
-        (b"a", 1, b"P2", false),
-        (b"S", 1, b"S0", true),
-        (b"Aa", 1, b"S0", false),
-    ];
-    let before = Selector::new();
-    assert!(rt; before.choice() == Choice::Auto && !before.changed());
-    assert_eq!(rt; right_rows(&book, &rows), 42);
+    select(&rt, &book);
     Ok(())
 }

@@ -6,6 +6,7 @@ ghost use Rattle.system_display.specs.Selecting.{SelectorFits, CanGoOn};
 use super::{are_told, book_of, is_display};
 use book_model::Book;
 use ecam_kinds::{Key, Keys, Picture, ROWS};
+use std::process::Abort;
 use std::test::Fail;
 use system_display::{Choice, Selector, fill_page};
 
@@ -37,9 +38,26 @@ fn step(
     }
 }
 
-#[test]
-fn all_shows_each_page_for_a_second(rt: HostRuntime) -> Result<(), Fail> {
-    let book = book_of(rt.alloc(), BOOK)?;
+// The row of the title in a moment, and whether it is told as changed.
+fn title_in(moment: u64) -> (&'static [u8], &'static [u8]) {
+    match moment {
+        0 => (b"W P1", b"*"),
+        1..=9 => (b"W P1", b"-"),
+        10 => (b"W P2", b"*"),
+        11..=19 => (b"W P2", b"-"),
+        20 => (b"W P3", b"*"),
+        _ => (b"W P3", b"-"),
+    }
+}
+
+fn shows_title(rt: &impl Abort, moment: u64, picture: &Picture, changed: &[bool; ROWS]) {
+    let (title, told) = title_in(moment);
+    assert!(rt; is_display(picture, title), "moment {moment}");
+    assert!(rt; are_told(changed, 15, told), "moment {moment}");
+}
+
+// Holds ALL for 25 moments, and one moment more.
+fn hold_all(rt: &impl Abort, book: &Book) {
     let mut selector = Selector::new();
     let mut keys = Keys::new();
     let mut picture = Picture::blank();
@@ -49,17 +67,14 @@ fn all_shows_each_page_for_a_second(rt: HostRuntime) -> Result<(), Fail> {
             keys.release(Key::All);
         }
         let mut changed = [false; ROWS];
-        step(&mut selector, &book, &mut keys, &mut picture, &mut changed);
-        let (title, told): (&[u8], &[u8]) = match moment {
-            0 => (b"W P1", b"*"),
-            1..=9 => (b"W P1", b"-"),
-            10 => (b"W P2", b"*"),
-            11..=19 => (b"W P2", b"-"),
-            20 => (b"W P3", b"*"),
-            _ => (b"W P3", b"-"),
-        };
-        assert!(rt; is_display(&picture, title), "moment {moment}");
-        assert!(rt; are_told(&changed, 15, told), "moment {moment}");
+        step(&mut selector, book, &mut keys, &mut picture, &mut changed);
+        shows_title(rt, moment, &picture, &changed);
     }
+}
+
+#[test]
+fn all_shows_each_page_for_a_second(rt: HostRuntime) -> Result<(), Fail> {
+    let book = book_of(rt.alloc(), BOOK)?;
+    hold_all(&rt, &book);
     Ok(())
 }

@@ -7,6 +7,7 @@ use super::{book_of, flags_of, is_display};
 use book_model::Book;
 use ecam_kinds::{Key, Keys, Picture, ROWS};
 use status_page::{fill_status, status_rows};
+use std::process::Abort;
 use std::test::Fail;
 use system_display::{Choice, Selector};
 
@@ -25,7 +26,9 @@ const BOOK: &str = "version = 1\nsystems = [\"HYD\", \"ELEC\"]\n\
 
 // Which alerts are active, which cancelled, the number of the page, how many rows there are on all pages, and the rows of
 // the page.
-const PAGES: [(&[u8; 9], &[u8; 9], u32, u32, &[u8]); 17] = [
+type Page = (&'static [u8; 9], &'static [u8; 9], u32, u32, &'static [u8]);
+
+const PAGES: [Page; 17] = [
     (b"---------", b"012345678", 0, 0, b"G NORMAL"),
     (
         b"01--4----",
@@ -136,33 +139,32 @@ W S33/W S60/C S02/C S07/C S11/C S16",
     ),
 ];
 
+// Fills the status page by a row of PAGES, and fills it again, which changes nothing.
+fn status_page(rt: &impl Abort, book: &Book, picture: &mut Picture, row: usize, wanted: &Page) {
+    let (active, cancelled, page, many, shown) = wanted;
+    let active = flags_of(active);
+    let cancelled = flags_of(cancelled);
+    assert_eq!(rt; book.alerts().len(), 9);
+    let mut changed = [false; ROWS];
+    fill_status(book, &active, &cancelled, *page, picture, &mut changed);
+    assert_eq!(rt; status_rows(book, &active, &cancelled), *many, "page {row}");
+    assert!(rt; is_display(picture, shown), "page {row}");
+    let mut again = [false; ROWS];
+    fill_status(book, &active, &cancelled, *page, picture, &mut again);
+    assert!(rt; again == [false; ROWS], "page {row}");
+}
+
+fn all_status_pages(rt: &impl Abort, book: &Book) {
+    let mut picture = Picture::blank();
+    for (row, wanted) in PAGES.iter().enumerate() {
+        status_page(rt, book, &mut picture, row, wanted);
+    }
+}
+
 #[test]
 fn status_pages_show_their_rows(rt: HostRuntime) -> Result<(), Fail> {
     let book = book_of(rt.alloc(), BOOK)?;
-    let mut picture = Picture::blank();
-    for (row, (active, cancelled, page, many, shown)) in PAGES.iter().enumerate() {
-        let active = flags_of(active);
-        let cancelled = flags_of(cancelled);
-        assert_eq!(rt; book.alerts().len(), 9);
-        let mut changed = [false; ROWS];
-        fill_status(
-            &book,
-            &active,
-            &cancelled,
-            *page,
-            &mut picture,
-            &mut changed,
-        );
-        assert_eq!(rt;
-            status_rows(&book, &active, &cancelled),
-            *many,
-            "page {row}"
-        );
-        assert!(rt; is_display(&picture, shown), "page {row}");
-        let mut again = [false; ROWS];
-        fill_status(&book, &active, &cancelled, *page, &mut picture, &mut again);
-        assert!(rt; again == [false; ROWS], "page {row}");
-    }
+    all_status_pages(&rt, &book);
     Ok(())
 }
 
@@ -215,26 +217,29 @@ fn strike(selector: &mut Selector, book: &Book, letter: u8) -> Option<u32>
     }
 }
 
+// Fills the status page that is shown, if one is, with nineteen rows on two pages.
+fn show(rt: &impl Abort, book: &Book, page: Option<u32>, picture: &mut Picture) {
+    assert_eq!(rt; book.alerts().len(), 9);
+    let active = flags_of(b"01--456--");
+    if let Some(page) = page {
+        let mut changed = [false; ROWS];
+        fill_status(book, &active, &[false; 9], page, picture, &mut changed);
+    }
+}
+
+fn all_struck(rt: &impl Abort, book: &Book) {
+    let mut selector = Selector::new();
+    let mut picture = Picture::blank();
+    for (row, (letter, shown)) in STRUCK.iter().enumerate() {
+        let page = strike(&mut selector, book, *letter);
+        show(rt, book, page, &mut picture);
+        assert!(rt; is_display(&picture, shown), "row {row}");
+    }
+}
+
 #[test]
 fn the_key_goes_round(rt: HostRuntime) -> Result<(), Fail> {
     let book = book_of(rt.alloc(), BOOK)?;
-    let mut selector = Selector::new();
-    let mut picture = Picture::blank();
-    let active = flags_of(b"01--456--");
-    for (row, (letter, shown)) in STRUCK.iter().enumerate() {
-        assert_eq!(rt; book.alerts().len(), 9);
-        if let Some(page) = strike(&mut selector, &book, *letter) {
-            let mut changed = [false; ROWS];
-            fill_status(
-                &book,
-                &active,
-                &[false; 9],
-                page,
-                &mut picture,
-                &mut changed,
-            );
-        }
-        assert!(rt; is_display(&picture, shown), "row {row}");
-    }
+    all_struck(&rt, &book);
     Ok(())
 }

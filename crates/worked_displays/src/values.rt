@@ -1,7 +1,9 @@
 // A page by its values: both ends of their range, negative, five digits wide, a discrete, none, each with a unit and
 // without; a page without rows; and no page.
 use super::{are_told, book_of, is_display, short};
+use book_model::Book;
 use ecam_kinds::{Picture, ROWS};
+use std::process::Abort;
 use std::test::Fail;
 use system_display::fill_page;
 
@@ -107,23 +109,30 @@ G QTY                       -12345/C RESERVE",
     (None, None, None, b"-", b"*-----"),
 ];
 
+// Fills the page by a row of SHOWN.
+fn shown(rt: &impl Abort, book: &Book, picture: &mut Picture, row: usize, wanted: &Shown) {
+    let (page, number, bit, shown, told) = wanted;
+    assert_eq!(rt; book.params().len(), 2);
+    let values = [short(*number), short(*bit)];
+    let mut changed = [false; ROWS];
+    if let Some(page) = page {
+        assert!(rt; *page < book.pages().len());
+    }
+    fill_page(book, *page, &values, picture, &mut changed);
+    assert!(rt; is_display(picture, shown), "row {row}");
+    assert!(rt; are_told(&changed, 15, told), "row {row}");
+}
+
+fn all_shown(rt: &impl Abort, book: &Book) {
+    let mut picture = Picture::blank();
+    for (row, wanted) in SHOWN.iter().enumerate() {
+        shown(rt, book, &mut picture, row, wanted);
+    }
+}
+
 #[test]
 fn a_page_shows_its_values(rt: HostRuntime) -> Result<(), Fail> {
     let book = book_of(rt.alloc(), BOOK)?;
-    let mut picture = Picture::blank();
-    for (row, (page, number, bit, shown, told)) in SHOWN.iter().enumerate() {
-        assert_eq!(rt; book.params().len(), 2);
-        let values = [short(*number), short(*bit)];
-        let mut changed = [false; ROWS];
-        match page {
-            None => fill_page(&book, None, &values, &mut picture, &mut changed),
-            Some(page) => {
-                assert!(rt; *page < book.pages().len());
-                fill_page(&book, Some(*page), &values, &mut picture, &mut changed);
-            }
-        }
-        assert!(rt; is_display(&picture, shown), "row {row}");
-        assert!(rt; are_told(&changed, 15, told), "row {row}");
-    }
+    all_shown(&rt, &book);
     Ok(())
 }

@@ -1,7 +1,9 @@
 // The left zone with more titles than rows, with more lines than rows, with exactly as many, calm with NORMAL or a memo; and the
 // right zone with systems in the book's order, and more rows than fit.
 use super::{are_told, book_of, flags_of, is_printed, is_zone};
+use book_model::Book;
 use ecam_kinds::{Picture, ROWS};
+use std::process::Abort;
 use std::test::Fail;
 use warning_display::{LeftCount, fill_flags, fill_left, fill_right};
 
@@ -46,7 +48,14 @@ const DONE: &str = "version = 1\nsystems = [\"HYD\"]\n\
 [[alert]]\nname = \"g_rsvr\"\ntitle = \"HYD G RSVR LO LVL\"\nsystem = \"HYD\"\nlevel = 1\nwhen = \"g_lo\"\nline = [{ text = \"LINE 1\", done = \"pump_off\" }, { text = \"LINE 2\" }, { text = \"LINE 3\" }, { text = \"LINE 4\" }, { text = \"LINE 5\" }, { text = \"LINE 6\" }, { text = \"LINE 7\" }]\n";
 
 // Which alerts are shown; then the left zone, the flags, and which rows changed.
-const TITLED: [(&[u8; 9], &[u8], &[u8], &[u8]); 5] = [
+type Titled = (
+    &'static [u8; 9],
+    &'static [u8],
+    &'static [u8],
+    &'static [u8],
+);
+
+const TITLED: [Titled; 5] = [
     (
         b"123456789",
         b"A ALERT 1/A ALERT 2/A ALERT 3/A ALERT 4/A ALERT 5/A ALERT 6/A ALERT 7",
@@ -71,7 +80,17 @@ const TITLED: [(&[u8; 9], &[u8], &[u8], &[u8]); 5] = [
 
 // Whether the alert is shown, which lines stand, whether the left memo holds, and NORMAL; then the left zone, whether more
 // rows stand than it has, and which rows changed.
-const LINED: [(bool, [bool; 7], bool, bool, &[u8], bool, &[u8]); 7] = [
+type Lined = (
+    bool,
+    [bool; 7],
+    bool,
+    bool,
+    &'static [u8],
+    bool,
+    &'static [u8],
+);
+
+const LINED: [Lined; 7] = [
     (
         true,
         [true, true, true, true, true, true, true],
@@ -138,7 +157,9 @@ const LINED: [(bool, [bool; 7], bool, bool, &[u8], bool, &[u8]); 7] = [
 ];
 
 // Whether the first line is done; then the left zone, the flags, and which rows changed.
-const WHILE_DONE: [(bool, &[u8], &[u8], &[u8]); 3] = [
+type WhileDone = (bool, &'static [u8], &'static [u8], &'static [u8]);
+
+const WHILE_DONE: [WhileDone; 3] = [
     (
         false,
         b"A HYD G RSVR LO LVL/C LINE 1/C LINE 2/C LINE 3/C LINE 4/C LINE 5/C LINE 6",
@@ -161,7 +182,9 @@ const WHILE_DONE: [(bool, &[u8], &[u8], &[u8]); 3] = [
 
 // Which alerts are starred, and which right memos hold; then the right zone, how many rows stand beyond it, and which rows
 // changed.
-const RIGHT: [([bool; 4], [bool; 6], &[u8], u32, &[u8]); 5] = [
+type Right = ([bool; 4], [bool; 6], &'static [u8], u32, &'static [u8]);
+
+const RIGHT: [Right; 5] = [
     (
         [false, false, false, false],
         [false, false, false, false, false, false],
@@ -199,95 +222,127 @@ const RIGHT: [([bool; 4], [bool; 6], &[u8], u32, &[u8]); 5] = [
     ),
 ];
 
+// Fills the left zone by a row of TITLED.
+fn titled(rt: &impl Abort, book: &Book, picture: &mut Picture, row: usize, wanted: &Titled) {
+    let (shown, rows, flags, told) = wanted;
+    let shown = flags_of(shown);
+    assert_eq!(rt; book.alerts().len(), 9);
+    assert_eq!(rt; book.line_count(), 0);
+    assert_eq!(rt; book.memos().len(), 0);
+    let mut changed = [false; ROWS];
+    let count = fill_left(book, &shown, &[], &[], false, picture, &mut changed);
+    assert!(rt; is_zone(picture, 0, 7, rows), "row {row}");
+    assert!(rt; are_told(&changed, 0, told), "row {row}");
+    fill_flags(count, 0, 0, picture, &mut changed);
+    assert!(rt; is_printed(&picture.rows[14], flags), "row {row}");
+}
+
+fn all_titled(rt: &impl Abort, book: &Book) {
+    let mut picture = Picture::blank();
+    for (row, wanted) in TITLED.iter().enumerate() {
+        titled(rt, book, &mut picture, row, wanted);
+    }
+}
+
 #[test]
 fn titles_beyond_the_seventh_row_are_counted(rt: HostRuntime) -> Result<(), Fail> {
     let book = book_of(rt.alloc(), TITLES)?;
-    let mut picture = Picture::blank();
-    for (row, (shown, rows, flags, told)) in TITLED.iter().enumerate() {
-        let shown = flags_of(shown);
-        assert_eq!(rt; book.alerts().len(), 9);
-        assert_eq!(rt; book.line_count(), 0);
-        assert_eq!(rt; book.memos().len(), 0);
-        let mut changed = [false; ROWS];
-        let count = fill_left(&book, &shown, &[], &[], false, &mut picture, &mut changed);
-        assert!(rt; is_zone(&picture, 0, 7, rows), "row {row}");
-        assert!(rt; are_told(&changed, 0, told), "row {row}");
-        fill_flags(count, 0, 0, &mut picture, &mut changed);
-        assert!(rt; is_printed(&picture.rows[14], flags), "row {row}");
-    }
+    all_titled(&rt, &book);
     Ok(())
+}
+
+// Fills the left zone by a row of LINED.
+fn lined(rt: &impl Abort, book: &Book, picture: &mut Picture, row: usize, wanted: &Lined) {
+    let (shown, lines, memo, normal, rows, more, told) = wanted;
+    assert_eq!(rt; book.alerts().len(), 1);
+    assert_eq!(rt; book.line_count(), lines.len());
+    assert_eq!(rt; book.memos().len(), 2);
+    let mut changed = [false; ROWS];
+    let memos = [*memo, true];
+    let count = fill_left(
+        book,
+        &[*shown],
+        lines,
+        &memos,
+        *normal,
+        picture,
+        &mut changed,
+    );
+    let wanted = LeftCount {
+        beyond: 0,
+        more: *more,
+    };
+    assert!(rt; count == wanted, "row {row}");
+    assert!(rt; is_zone(picture, 0, 7, rows), "row {row}");
+    assert!(rt; are_told(&changed, 0, told), "row {row}");
+    assert!(rt; is_zone(picture, 7, 7, b"-"), "row {row}");
+}
+
+fn all_lined(rt: &impl Abort, book: &Book) {
+    let mut picture = Picture::blank();
+    for (row, wanted) in LINED.iter().enumerate() {
+        lined(rt, book, &mut picture, row, wanted);
+    }
 }
 
 #[test]
 fn lines_stand_under_their_title(rt: HostRuntime) -> Result<(), Fail> {
     let book = book_of(rt.alloc(), LINES)?;
-    let mut picture = Picture::blank();
-    for (row, (shown, lines, memo, normal, rows, more, told)) in LINED.iter().enumerate() {
-        assert_eq!(rt; book.alerts().len(), 1);
-        assert_eq!(rt; book.line_count(), lines.len());
-        assert_eq!(rt; book.memos().len(), 2);
-        let mut changed = [false; ROWS];
-        let memos = [*memo, true];
-        let count = fill_left(
-            &book,
-            &[*shown],
-            lines,
-            &memos,
-            *normal,
-            &mut picture,
-            &mut changed,
-        );
-        let wanted = LeftCount {
-            beyond: 0,
-            more: *more,
-        };
-        assert!(rt; count == wanted, "row {row}");
-        assert!(rt; is_zone(&picture, 0, 7, rows), "row {row}");
-        assert!(rt; are_told(&changed, 0, told), "row {row}");
-        assert!(rt; is_zone(&picture, 7, 7, b"-"), "row {row}");
-    }
+    all_lined(&rt, &book);
     Ok(())
+}
+
+// Fills the left zone by a row of WHILE_DONE.
+fn while_done(rt: &impl Abort, book: &Book, picture: &mut Picture, row: usize, wanted: &WhileDone) {
+    let (done, rows, flags, told) = wanted;
+    let lines = [!*done, true, true, true, true, true, true];
+    assert_eq!(rt; book.alerts().len(), 1);
+    assert_eq!(rt; book.line_count(), lines.len());
+    assert_eq!(rt; book.memos().len(), 0);
+    let mut changed = [false; ROWS];
+    let count = fill_left(book, &[true], &lines, &[], false, picture, &mut changed);
+    assert!(rt; is_zone(picture, 0, 7, rows), "row {row}");
+    assert!(rt; are_told(&changed, 0, told), "row {row}");
+    fill_flags(count, 0, 0, picture, &mut changed);
+    assert!(rt; is_printed(&picture.rows[14], flags), "row {row}");
+}
+
+fn all_while_done(rt: &impl Abort, book: &Book) {
+    let mut picture = Picture::blank();
+    for (row, wanted) in WHILE_DONE.iter().enumerate() {
+        while_done(rt, book, &mut picture, row, wanted);
+    }
 }
 
 #[test]
 fn a_line_that_is_done_makes_room(rt: HostRuntime) -> Result<(), Fail> {
     let book = book_of(rt.alloc(), DONE)?;
-    let mut picture = Picture::blank();
-    for (row, (done, rows, flags, told)) in WHILE_DONE.iter().enumerate() {
-        let lines = [!*done, true, true, true, true, true, true];
-        assert_eq!(rt; book.alerts().len(), 1);
-        assert_eq!(rt; book.line_count(), lines.len());
-        assert_eq!(rt; book.memos().len(), 0);
-        let mut changed = [false; ROWS];
-        let count = fill_left(
-            &book,
-            &[true],
-            &lines,
-            &[],
-            false,
-            &mut picture,
-            &mut changed,
-        );
-        assert!(rt; is_zone(&picture, 0, 7, rows), "row {row}");
-        assert!(rt; are_told(&changed, 0, told), "row {row}");
-        fill_flags(count, 0, 0, &mut picture, &mut changed);
-        assert!(rt; is_printed(&picture.rows[14], flags), "row {row}");
-    }
+    all_while_done(&rt, &book);
     Ok(())
+}
+
+// Fills the right zone by a row of RIGHT.
+fn starred(rt: &impl Abort, book: &Book, picture: &mut Picture, row: usize, wanted: &Right) {
+    let (starred, memos, rows, beyond, told) = wanted;
+    assert_eq!(rt; book.alerts().len(), starred.len());
+    assert_eq!(rt; book.memos().len(), memos.len());
+    let mut changed = [false; ROWS];
+    let count = fill_right(book, starred, memos, picture, &mut changed);
+    assert_eq!(rt; count, *beyond, "row {row}");
+    assert!(rt; is_zone(picture, 7, 7, rows), "row {row}");
+    assert!(rt; are_told(&changed, 7, told), "row {row}");
+}
+
+fn all_starred(rt: &impl Abort, book: &Book) {
+    let mut picture = Picture::blank();
+    for (row, wanted) in RIGHT.iter().enumerate() {
+        starred(rt, book, &mut picture, row, wanted);
+    }
 }
 
 #[test]
 fn systems_stand_in_the_books_order(rt: HostRuntime) -> Result<(), Fail> {
     let book = book_of(rt.alloc(), SYSTEMS)?;
-    let mut picture = Picture::blank();
-    for (row, (starred, memos, rows, beyond, told)) in RIGHT.iter().enumerate() {
-        assert_eq!(rt; book.alerts().len(), starred.len());
-        assert_eq!(rt; book.memos().len(), memos.len());
-        let mut changed = [false; ROWS];
-        let count = fill_right(&book, starred, memos, &mut picture, &mut changed);
-        assert_eq!(rt; count, *beyond, "row {row}");
-        assert!(rt; is_zone(&picture, 7, 7, rows), "row {row}");
-        assert!(rt; are_told(&changed, 7, told), "row {row}");
-    }
+    all_starred(&rt, &book);
     Ok(())
 }

@@ -1,7 +1,7 @@
 // What a pair shows and tells of the worked records, event by event.
-ghost use Rattle.std.specs.Prelude.{◌<◌};
+ghost use Rattle.std.specs.Prelude.{◌<◌, []};
 ghost use Rattle.book_model.specs.Sealed.{the_book};
-ghost use Rattle.fwc_pair.specs.PairState.{PairFits};
+ghost use Rattle.fwc_pair.specs.PairState.{PairFits, PairStands};
 
 use crate::books::TWO;
 use crate::outside::{file, lines_of};
@@ -11,7 +11,8 @@ use book_model::{Book, LoadError};
 use book_reader::read_book;
 use ecam_io::{MemoryShelf, Shelf};
 use ecam_kinds::{Colour, Event, ROWS, Row};
-use fwc_pair::Pair;
+use fwc_lane::Lane;
+use fwc_pair::{Pair, Standing};
 use itoa::Buffer;
 use record_lines::LineReader;
 use std::alloc::{AllocError, Global};
@@ -118,17 +119,50 @@ fn play(alloc: Global, pair: &mut Pair, book: &Book, record: &str) -> Result<Vec
 
 // Plays a worked record, and asks where each alert stands at its end.
 fn does(rt: &impl Abort, alloc: Global, worked: Worked) -> Result<(), Fail> {
-    let (book, record_text, shown, _, standings) = worked;
+    let (book, record, shown, _, standings) = worked;
     let book = book_of(alloc, book)?;
     let mut pair = Pair::new(alloc, &book)?;
-    let played = play(alloc, &mut pair, &book, record_text)?;
+    let told = tells(rt, alloc, &mut pair, &book, record, shown, standings);
+    give_up(pair);
+    told
+}
+
+// What a pair shows of a record, and where each alert stands at its end.
+fn tells(
+    rt: &impl Abort,
+    alloc: Global,
+    pair: &mut Pair,
+    book: &Book,
+    record: &str,
+    shown: &str,
+    standings: &[Standing],
+) -> Result<(), Fail>
+    requires { PairFits (the_book book.now) pair.old }
+{
+    let played = play(alloc, pair, book, record)?;
     assert_eq!(rt; played.as_slice(), shown.as_bytes());
+    stands(rt, pair, book, standings)
+}
+
+// Where each alert of a book stands.
+fn stands(rt: &impl Abort, pair: &Pair, book: &Book, standings: &[Standing]) -> Result<(), Fail>
+    requires { PairFits (the_book book.now) pair.now }
+{
     assert_eq!(rt; book.alerts().len(), standings.len());
     for (alert, standing) in standings.iter().enumerate() {
-        assert_eq!(rt; pair.standing(&book, alert), *standing);
+        assert_eq!(rt; pair.standing(book, alert), *standing);
     }
     Ok(())
 }
+
+// Gives up the memory of a pair. Each of its lanes stands alone, so that no proof goes through all that it owns.
+fn give_up(pair: Pair) {
+    let Pair { one, two, .. } = pair;
+    give_up_lane(one);
+    give_up_lane(two);
+}
+
+fn give_up_lane(_lane: Lane) {}
 
 #[test]
 fn what_a_pair_shows(rt: HostRuntime) -> Result<(), Fail> {
@@ -143,27 +177,57 @@ fn what_a_pair_shows(rt: HostRuntime) -> Result<(), Fail> {
 
 // What a computer that is down holds has no bearing: it is overwritten from a pair of another history, and takes over from
 // the other computer when it comes up.
-#[test]
-fn a_down_computer_is_forgotten(rt: HostRuntime) -> Result<(), Fail> {
-    let alloc = rt.alloc();
-    let book = book_of(alloc, TWO)?;
-    let mut other = Pair::new(alloc, &book)?;
-    play(alloc, &mut other, &book, "W 0 0000081d/T/P CLR/T/P RCL/E/")?;
-    let mut pair = Pair::new(alloc, &book)?;
-    pair.event(&book, &Event::Fail(2));
+fn forgets(
+    rt: &impl Abort,
+    alloc: Global,
+    book: &Book,
+    other: &mut Pair,
+    pair: &mut Pair,
+) -> Result<(), Fail>
+    requires other { PairFits (the_book book.now) other.old }
+    requires fits { PairFits (the_book book.now) pair.old }
+    requires stands { PairStands (the_book book.now) [] pair.old }
+{
+    play(alloc, other, book, "W 0 0000081d/T/P CLR/T/P RCL/E/")?;
+    pair.event(book, &Event::Fail(2));
     pair.two.copy_from(&other.one);
     let shown = play(
         alloc,
-        &mut pair,
-        &book,
+        pair,
+        book,
         "W 0 80000c1d/T/P CLR/T/P CLR/P RCL/T/P RCL/U 2/F 1/T/E/",
     )?;
     assert_eq!(rt;
         shown.as_slice(),
         b"@0/L1 A ALERT X/L2 A ALERT Y/@1/L1 A ALERT Y/L2 -/@2/L1 A ALERT X/@3/L2 A ALERT Y/".as_slice()
     );
-    pair.restart(&book);
-    let again = play(alloc, &mut pair, &book, "T/W 0 0000041d/T/E/")?;
+    pair.restart(book);
+    let again = play(alloc, pair, book, "T/W 0 0000041d/T/E/")?;
     assert_eq!(rt; again.as_slice(), b"@1/L1 A ALERT X/".as_slice());
     Ok(())
+}
+
+// The same of a new pair, beside another.
+fn forgets_another(
+    rt: &impl Abort,
+    alloc: Global,
+    book: &Book,
+    other: &mut Pair,
+) -> Result<(), Fail>
+    requires { PairFits (the_book book.now) other.old }
+{
+    let mut pair = Pair::new(alloc, book)?;
+    let told = forgets(rt, alloc, book, other, &mut pair);
+    give_up(pair);
+    told
+}
+
+#[test]
+fn a_down_computer_is_forgotten(rt: HostRuntime) -> Result<(), Fail> {
+    let alloc = rt.alloc();
+    let book = book_of(alloc, TWO)?;
+    let mut other = Pair::new(alloc, &book)?;
+    let told = forgets_another(&rt, alloc, &book, &mut other);
+    give_up(other);
+    told
 }

@@ -1,7 +1,7 @@
 use Rattle.std.proofs.Common.{◌≡◌}
 use Rattle.book_model.specs.Sealed.{the_book}
 use Rattle.system_display.specs.Selecting.{SelectorFits}
-use Rattle.worked_displays.proofs.status_pages.the_key_goes_round.Given as goal
+use Rattle.worked_displays.proofs.status_pages.all_struck.Given as goal
 
 abbrev pub invariant-loop-row : goal.invariant-loop-row
 invariant-loop-row g l = record {
