@@ -103,25 +103,73 @@ fn turn(
 /// Who is up, who is shown, the keys; then whether MASTER WARN and MASTER CAUT are lit, and the sound.
 type Row = (u8, u8, u8, bool, bool, Sound);
 
+// Whether MASTER WARN and MASTER CAUT are lit, and the sound.
+type Lit = (bool, bool, Sound);
+
+// One row, after another.
+fn row_holds(
+    rt: &impl Abort,
+    attention: &mut Attention,
+    other: &mut Attention,
+    book: &Book,
+    row: usize,
+    told: Row,
+    before: Lit,
+)
+    requires fits { AttentionFits (the_book book.now) attention.old }
+    requires other { AttentionFits (the_book book.now) other.old }
+    requires goes_on { CanGoOn attention.old }
+    requires five { length book.now.alerts.items ≡ 5 }
+    ensures fits { AttentionFits (the_book book.now) attention.new }
+    ensures other { AttentionFits (the_book book.now) other.new }
+    ensures moments { attention.new.moments ≤ attention.old.moments + 1 }
+{
+    let (up, shown, pressed, warn, caut, sound) = told;
+    turn(attention, other, book, up, shown, pressed);
+    let lit = (attention.warn(), attention.caut(), attention.sound());
+    assert_eq!(rt; lit, (warn, caut, sound), "row {row}");
+    let changed = pressed != START && before != lit;
+    assert_eq!(rt; attention.changed(), changed, "row {row}");
+}
+
+// All rows, one after another.
+fn each_row_holds(
+    rt: &impl Abort,
+    attention: &mut Attention,
+    other: &mut Attention,
+    book: &Book,
+    rows: &[Row],
+)
+    requires fits { AttentionFits (the_book book.now) attention.old }
+    requires other { AttentionFits (the_book book.now) other.old }
+    requires begun { attention.old.moments ≡ 0 }
+    requires five { length book.now.alerts.items ≡ 5 }
+    requires few { length rows.now ≤ 64 }
+{
+    let mut before = (false, false, Sound::Quiet);
+    for row in 0..rows.len() {
+        row_holds(rt, attention, other, book, row, rows[row], before);
+        let (_, _, _, warn, caut, sound) = rows[row];
+        before = (warn, caut, sound);
+    }
+}
+
+// The same of two computers of a book.
+fn rows_hold_by(rt: &impl Abort, alloc: Global, book: &Book, rows: &[Row]) -> Result<(), Fail>
+    requires { length rows.now ≤ 64 }
+{
+    assert_eq!(rt; book.alerts().len(), 5);
+    let mut attention = Attention::new(alloc, book)?;
+    let mut other = Attention::new(alloc, book)?;
+    each_row_holds(rt, &mut attention, &mut other, book, rows);
+    Ok(())
+}
+
 fn rows_hold(rt: &impl Abort, alloc: Global, rows: &[Row]) -> Result<(), Fail>
     requires { length rows.now ≤ 64 }
 {
     let book = small_book(alloc)?;
-    assert_eq!(rt; book.alerts().len(), 5);
-    let mut attention = Attention::new(alloc, &book)?;
-    let mut other = Attention::new(alloc, &book)?;
-    let mut before = (false, false, Sound::Quiet);
-    for row in 0..rows.len() {
-        let (up, shown, pressed, warn, caut, sound) = rows[row];
-        turn(&mut attention, &mut other, &book, up, shown, pressed);
-        assert_eq!(rt; attention.warn(), warn, "row {row}");
-        assert_eq!(rt; attention.caut(), caut, "row {row}");
-        assert_eq!(rt; attention.sound(), sound, "row {row}");
-        let changed = pressed != START && before != (warn, caut, sound);
-        assert_eq!(rt; attention.changed(), changed, "row {row}");
-        before = (warn, caut, sound);
-    }
-    Ok(())
+    rows_hold_by(rt, alloc, &book, rows)
 }
 
 #[test]

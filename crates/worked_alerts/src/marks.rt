@@ -1,5 +1,5 @@
 // What the crew makes of the alerts, moment by moment. The expected values follow from the rules by hand.
-ghost use Rattle.std.specs.Prelude.{◌≡◌, ◌+◌, ◌≤◌, length, vec_len, IfOk, OnOk};
+ghost use Rattle.std.specs.Prelude.{◌≡◌, ◌+◌, ◌*◌, ◌≤◌, length, vec_len, IfOk, OnOk};
 ghost use Rattle.book_model.specs.Sealed.{the_book};
 ghost use Rattle.crew_marks.specs.CrewMarks.{CanGoOn};
 ghost use Rattle.crew_marks.specs.MarksState.{MarksFit};
@@ -114,34 +114,85 @@ fn same_sets(row: &[u8], other: &[u8]) -> bool {
 /// stands NORMAL.
 type Row = (&'static [u8], u8, &'static [u8], bool);
 
-fn rows_hold(rt: &impl Abort, alloc: Global, book: &Book, rows: &[Row]) -> Result<(), Fail>
+// The moments of a row.
+fn play(
+    alloc: Global,
+    marks: &mut Marks,
+    other: &mut Marks,
+    book: &Book,
+    keys: &mut Keys,
+    told: Row,
+) -> Result<(), AllocError>
+    requires fits { MarksFit (the_book book.now) marks.old }
+    requires other { MarksFit (the_book book.now) other.old }
+    requires few { marks.old.moments ≤ 256 * 64 }
+    ensures fits { OnOk result (MarksFit (the_book book.now) marks.new) }
+    ensures other { OnOk result (MarksFit (the_book book.now) other.new) }
+    ensures moments { OnOk result (marks.new.moments ≤ marks.old.moments + 255) }
+{
+    let (letters, times, expected, _) = told;
+    if times == 0 {
+        marks.clear();
+        *keys = Keys::new();
+    }
+    strike(keys, letters);
+    for _time in 0..times {
+        // another computer takes the moment, and lends its marks back
+        other.copy_from(marks);
+        step(alloc, other, book, keys, letters, expected)?;
+        marks.copy_from(other);
+        keys.tick();
+    }
+    Ok(())
+}
+
+// Whether the marks are those of a row, and are changed where the sets of the row before were others.
+fn agree(rt: &impl Abort, marks: &Marks, row: usize, told: Row, before: &[u8]) {
+    let (_, times, expected, normal) = told;
+    assert_eq!(rt; marks.shown().len(), LETTERS.len());
+    assert!(rt; are(marks, expected, normal), "row {row}");
+    let changed = times == 1 && !same_sets(expected, before);
+    assert_eq!(rt; marks.changed(), changed, "row {row}");
+}
+
+// All rows, one after another.
+fn each_row_holds(
+    rt: &impl Abort,
+    alloc: Global,
+    marks: &mut Marks,
+    other: &mut Marks,
+    book: &Book,
+    rows: &[Row],
+) -> Result<(), Fail>
+    requires fits { MarksFit (the_book book.now) marks.old }
+    requires other { MarksFit (the_book book.now) other.old }
+    requires begun { marks.old.moments ≡ 0 }
+    requires few { length rows.now ≤ 64 }
+{
+    let mut keys = Keys::new();
+    let mut before: &[u8] = b"";
+    for row in 0..rows.len() {
+        play(alloc, marks, other, book, &mut keys, rows[row])?;
+        agree(rt, marks, row, rows[row], before);
+        before = rows[row].2;
+    }
+    Ok(())
+}
+
+// The same of two computers of a book.
+fn rows_hold_by(rt: &impl Abort, alloc: Global, book: &Book, rows: &[Row]) -> Result<(), Fail>
     requires { length rows.now ≤ 64 }
 {
     let mut marks = Marks::new(alloc, book)?;
     let mut other = Marks::new(alloc, book)?;
-    let mut keys = Keys::new();
-    let mut before: &[u8] = b"";
-    for row in 0..rows.len() {
-        let (letters, times, expected, normal) = rows[row];
-        if times == 0 {
-            marks.clear();
-            keys = Keys::new();
-        }
-        strike(&mut keys, letters);
-        for _time in 0..times {
-            // another computer takes the moment, and lends its marks back
-            other.copy_from(&marks);
-            step(alloc, &mut other, book, &keys, letters, expected)?;
-            marks.copy_from(&other);
-            keys.tick();
-        }
-        assert_eq!(rt; marks.shown().len(), LETTERS.len());
-        assert!(rt; are(&marks, expected, normal), "row {row}");
-        let changed = times == 1 && !same_sets(expected, before);
-        assert_eq!(rt; marks.changed(), changed, "row {row}");
-        before = expected;
-    }
-    Ok(())
+    each_row_holds(rt, alloc, &mut marks, &mut other, book, rows)
+}
+
+fn rows_hold(rt: &impl Abort, alloc: Global, rows: &[Row]) -> Result<(), Fail>
+    requires { length rows.now ≤ 64 }
+{
+    let book = small_book(alloc)?;
+    rows_hold_by(rt, alloc, &book, rows)
 }
 
 #[test]
@@ -161,9 +212,7 @@ fn cleared_alerts_come_back_by_a_press_of_rcl(rt: HostRuntime) -> Result<(), Fai
         (b"", 1, b"x - | x - - - x", false),
         (b"", 1, b"yx - | yx - - - x", false),
     ];
-    let alloc = rt.alloc();
-    let book = small_book(alloc)?;
-    rows_hold(&rt, alloc, &book, &rows)
+    rows_hold(&rt, rt.alloc(), &rows)
 }
 
 #[test]
@@ -194,9 +243,7 @@ fn cancelled_cautions_come_back_by_a_long_recall(rt: HostRuntime) -> Result<(), 
         (b"E", 1, b"- - | - - x - x", false),
         (b"", 1, b"x - | - - x - -", false),
     ];
-    let alloc = rt.alloc();
-    let book = small_book(alloc)?;
-    rows_hold(&rt, alloc, &book, &rows)
+    rows_hold(&rt, rt.alloc(), &rows)
 }
 
 #[test]
@@ -221,9 +268,7 @@ fn cancellations_end_but_for_those_of_the_moment(rt: HostRuntime) -> Result<(), 
         (b"E", 1, b"yx - | y - x - x", false),
         (b"", 1, b"yx - | yx - - - y", false),
     ];
-    let alloc = rt.alloc();
-    let book = small_book(alloc)?;
-    rows_hold(&rt, alloc, &book, &rows)
+    rows_hold(&rt, rt.alloc(), &rows)
 }
 
 #[test]
@@ -249,7 +294,5 @@ fn waiting_alerts_are_shown_by_a_press_of_rcl(rt: HostRuntime) -> Result<(), Fai
         (b"E", 1, b"- y | - - y y y", false),
         (b"1", 1, b"- y | y - - y -", false),
     ];
-    let alloc = rt.alloc();
-    let book = small_book(alloc)?;
-    rows_hold(&rt, alloc, &book, &rows)
+    rows_hold(&rt, rt.alloc(), &rows)
 }

@@ -7,6 +7,8 @@ use super::small_book;
 use alert_truth::Truths;
 use book_model::Book;
 use ecam_kinds::Phase;
+use std::alloc::Global;
+use std::process::Abort;
 use std::test::Fail;
 
 // One moment, in which the conditions marked by an `x` hold.
@@ -143,13 +145,18 @@ fn agree(truths: &mut Truths, other: &mut Truths, book: &Book, rows: &[Row]) -> 
     true
 }
 
+// The same of the rows above, by two computers of a book.
+fn rows_agree(rt: &impl Abort, alloc: Global, book: &Book) -> Result<(), Fail> {
+    let mut truths = Truths::new(alloc, book)?;
+    let mut other = Truths::new(alloc, book)?;
+    let agree = agree(&mut truths, &mut other, book, &ROWS);
+    assert!(rt; agree);
+    Ok(())
+}
+
 #[test]
 fn alerts_are_what_the_rules_say(rt: HostRuntime) -> Result<(), Fail> {
     let alloc = rt.alloc();
     let book = small_book(alloc)?;
-    let mut truths = Truths::new(alloc, &book)?;
-    let mut other = Truths::new(alloc, &book)?;
-    let agree = agree(&mut truths, &mut other, &book, &ROWS);
-    assert!(rt; agree);
-    Ok(())
+    rows_agree(&rt, alloc, &book)
 }
