@@ -18,6 +18,7 @@ ghost use Rattle.ecam_kinds.specs.KeyState.{KeysStand};
 ghost use Rattle.param_table.specs.TableState.{ParamsStand};
 
 use crate::begin::begin_moment;
+use crate::blank::{lists_of, parts_of};
 use crate::counts::FlagCounts;
 use crate::crew::{enters_one, step_crew};
 use crate::drawing::draw;
@@ -123,14 +124,8 @@ impl Lane {
         ensures moments { IfOk result (λ l. l.moments ≡ 0) }
         ensures unvisited { IfOk result (λ l. l.terms.cells.visits ≡ 0) }
     {
-        let params = Params::new(alloc, book)?;
-        let values = vec![in alloc; None; book.params().len()]?;
-        let turned = vec![in alloc; false; book.params().len()]?;
-        let truths = Truths::new(alloc, book)?;
-        let marks = Marks::new(alloc, book)?;
-        let attention = Attention::new(alloc, book)?;
-        let lines = vec![in alloc; false; book.line_count()]?;
-        let memos = vec![in alloc; false; book.memos().len()]?;
+        let (values, turned, lines, memos) = lists_of(alloc, book)?;
+        let (marks, attention, params, truths) = parts_of(alloc, book)?;
         Ok(Lane {
             params,
             values,

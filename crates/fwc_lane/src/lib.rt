@@ -9,6 +9,7 @@
 
 mod alerts;
 mod begin;
+mod blank;
 mod conditions;
 mod counts;
 mod crew;
