@@ -60,6 +60,14 @@ impl Pair {
         })
     }
 
+    /// Gives back the memory of both lanes, one lane after the other. Where a pair is dropped in place, a proof has to go
+    /// through each list of both lanes at once, so whoever owns a pair calls this at its end.
+    pub fn give_up(self) {
+        let Pair { one, two, .. } = self;
+        give_up_lane(one);
+        give_up_lane(two);
+    }
+
     /// Forgets all events. Costs a write for each thing that the two lanes keep.
     pub fn restart(&mut self, book: &Book)
         requires { PairFits (the_book book.now) self.old }
@@ -314,3 +322,6 @@ impl Pair {
         }
     }
 }
+
+// The memory of a lane.
+fn give_up_lane(_lane: Lane) {}

@@ -16,7 +16,6 @@ use book_model::{Book, BookFault, LoadError};
 use book_reader::read_book;
 use ecam_io::Shelf;
 use ecam_spec::limits::BOOK_BYTES;
-use fwc_lane::Lane;
 use fwc_pair::Pair;
 use std::alloc::{AllocError, Global};
 
@@ -37,22 +36,14 @@ pub(crate) struct Loaded {
     pub(crate) pair: Pair,
 }
 
-// Gives up the memory of a loaded book. It and each of its parts stand alone, so that no proof goes through all of them.
+// Gives up the memory of a loaded book, part by part, so that no proof goes through all of them.
 pub(crate) fn give_up(loaded: Loaded) {
     let Loaded { book, pair } = loaded;
     give_up_book(book);
-    give_up_pair(pair);
+    pair.give_up();
 }
 
 fn give_up_book(_book: Book) {}
-
-fn give_up_pair(pair: Pair) {
-    let Pair { one, two, .. } = pair;
-    give_up_lane(one);
-    give_up_lane(two);
-}
-
-fn give_up_lane(_lane: Lane) {}
 
 // Why no book stands ready.
 #[derive(Clone, Copy, Debug, PartialEq, Eq)]

@@ -1,4 +1,7 @@
 // What is reported of the flights of worked records. A slash stands for the end of a line.
+ghost use Rattle.book_model.specs.Sealed.{the_book};
+ghost use Rattle.fwc_pair.specs.PairState.{PairFits};
+
 use book_checker::seal;
 use book_model::{Book, LoadError};
 use book_reader::read_book;
@@ -123,17 +126,26 @@ fn reports(
 ) -> Result<(), Fail> {
     let book = book_of(alloc, book)?;
     let mut pair = Pair::new(alloc, &book)?;
-    let mut report = Report::new(alloc, &book)?;
+    let told = tells(rt, alloc, &book, &mut pair, record, want);
+    pair.give_up();
+    told
+}
+
+// The same by a pair of the book.
+fn tells(
+    rt: &impl Abort,
+    alloc: Global,
+    book: &Book,
+    pair: &mut Pair,
+    record: &str,
+    want: &str,
+) -> Result<(), Fail>
+    requires { PairFits (the_book book.now) pair.old }
+{
+    let mut report = Report::new(alloc, book)?;
     let mut shelf = open_record(alloc, record)?;
     let mut out = MemorySink::new(alloc, Vec::new(alloc), 4096, 65536)?;
-    let shown = run_view(
-        &book,
-        &mut pair,
-        &mut report,
-        4294967295,
-        &mut shelf,
-        &mut out,
-    );
+    let shown = run_view(book, pair, &mut report, 4294967295, &mut shelf, &mut out);
     assert!(rt; shown.is_ok());
     let want = lines_of(alloc, want)?;
     assert_eq!(rt; out.bytes(), want.as_bytes());

@@ -11,7 +11,6 @@ use book_model::{Book, LoadError};
 use book_reader::read_book;
 use ecam_io::{MemoryShelf, Shelf};
 use ecam_kinds::{Colour, Event, ROWS, Row};
-use fwc_lane::Lane;
 use fwc_pair::{Pair, Standing};
 use itoa::Buffer;
 use record_lines::LineReader;
@@ -123,7 +122,7 @@ fn does(rt: &impl Abort, alloc: Global, worked: Worked) -> Result<(), Fail> {
     let book = book_of(alloc, book)?;
     let mut pair = Pair::new(alloc, &book)?;
     let told = tells(rt, alloc, &mut pair, &book, record, shown, standings);
-    give_up(pair);
+    pair.give_up();
     told
 }
 
@@ -154,15 +153,6 @@ fn stands(rt: &impl Abort, pair: &Pair, book: &Book, standings: &[Standing]) -> 
     }
     Ok(())
 }
-
-// Gives up the memory of a pair. Each of its lanes stands alone, so that no proof goes through all that it owns.
-fn give_up(pair: Pair) {
-    let Pair { one, two, .. } = pair;
-    give_up_lane(one);
-    give_up_lane(two);
-}
-
-fn give_up_lane(_lane: Lane) {}
 
 #[test]
 fn what_a_pair_shows(rt: HostRuntime) -> Result<(), Fail> {
@@ -218,7 +208,7 @@ fn forgets_another(
 {
     let mut pair = Pair::new(alloc, book)?;
     let told = forgets(rt, alloc, book, other, &mut pair);
-    give_up(pair);
+    pair.give_up();
     told
 }
 
@@ -228,6 +218,6 @@ fn a_down_computer_is_forgotten(rt: HostRuntime) -> Result<(), Fail> {
     let book = book_of(alloc, TWO)?;
     let mut other = Pair::new(alloc, &book)?;
     let told = forgets_another(&rt, alloc, &book, &mut other);
-    give_up(other);
+    other.give_up();
     told
 }

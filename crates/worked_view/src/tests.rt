@@ -7,7 +7,6 @@ use book_checker::seal;
 use book_model::{Book, LoadError};
 use book_reader::read_book;
 use ecam_io::{MemoryFile, MemoryShelf, MemorySink, Shelf};
-use fwc_lane::Lane;
 use fwc_pair::Pair;
 use record_views::run_view;
 use std::alloc::{AllocError, Global};
@@ -90,21 +89,12 @@ fn all_counts(rt: &impl Abort, alloc: Global, book: &Book, pair: &mut Pair) -> R
     counts(rt, alloc, book, pair, "W 0 0000041d\nT\n", "")
 }
 
-// Gives up the memory of a pair. Each of its lanes stands alone, so that no proof goes through all that it owns.
-fn give_up(pair: Pair) {
-    let Pair { one, two, .. } = pair;
-    give_up_lane(one);
-    give_up_lane(two);
-}
-
-fn give_up_lane(_lane: Lane) {}
-
 #[test]
 fn ticks_with_a_red_row_are_counted(rt: HostRuntime) -> Result<(), Fail> {
     let alloc = rt.alloc();
     let book = book_of(alloc, WARNING)?;
     let mut pair = Pair::new(alloc, &book)?;
     let told = all_counts(&rt, alloc, &book, &mut pair);
-    give_up(pair);
+    pair.give_up();
     told
 }

@@ -1,4 +1,7 @@
 // A record and what the view writes of it, in memory.
+ghost use Rattle.book_model.specs.Sealed.{the_book};
+ghost use Rattle.fwc_pair.specs.PairState.{PairFits};
+
 use book_checker::seal;
 use book_model::{Book, LoadError};
 use book_reader::read_book;
@@ -59,7 +62,22 @@ pub(crate) fn words_of(
 ) -> Result<MemorySink, AllocError> {
     let book = book_of(alloc, book)?;
     let mut pair = Pair::new(alloc, &book)?;
-    let mut view = WordOut::new(alloc, &book)?;
+    let written = written_of(alloc, &book, &mut pair, record, room);
+    pair.give_up();
+    written
+}
+
+// The same by a pair of the book.
+fn written_of(
+    alloc: Global,
+    book: &Book,
+    pair: &mut Pair,
+    record: &str,
+    room: usize,
+) -> Result<MemorySink, AllocError>
+    requires { PairFits (the_book book.now) pair.old }
+{
+    let mut view = WordOut::new(alloc, book)?;
     let mut files = Vec::new(alloc);
     files.push(MemoryFile {
         name: String::from_str(alloc, "record")?,
@@ -68,6 +86,6 @@ pub(crate) fn words_of(
     let mut shelf = MemoryShelf::new(files, Vec::new(alloc), 4096);
     let mut out = MemorySink::new(alloc, Vec::new(alloc), 4096, room)?;
     let _ = shelf.open("record");
-    let _ = run_view(&book, &mut pair, &mut view, u32::MAX, &mut shelf, &mut out);
+    let _ = run_view(book, pair, &mut view, u32::MAX, &mut shelf, &mut out);
     Ok(out)
 }
