@@ -1,9 +1,10 @@
 // Advisories by a file of limits. A slash stands for the end of a line.
 use crate::books::{HYDRAULICS, LEVEL_FOUR};
 use crate::named::edited;
-use crate::outside::{does, file, lines_of, sound};
+use crate::outside::{does, file, lines_of, sound, two_files};
+use ecam_io::MemoryFile;
 use replay_core::Status;
-use std::alloc::Global;
+use std::alloc::{AllocError, Global};
 use std::process::Abort;
 use std::test::Fail;
 
@@ -33,6 +34,14 @@ const FAULTS: [(&str, &str, &str); 4] = [
     ("version = 1", "version =", "limits: A02 item 0\n"),
 ];
 
+// The files of a book, of a record, and of limits.
+fn three_files(alloc: Global, texts: (&str, &str, &[u8])) -> Result<Vec<MemoryFile>, AllocError> {
+    let record_text = lines_of(alloc, texts.1)?;
+    let mut files = two_files(alloc, texts.0, record_text.as_str())?;
+    files.push(file(alloc, "limits", texts.2)?)?;
+    Ok(files)
+}
+
 fn advises(
     rt: &impl Abort,
     alloc: Global,
@@ -40,12 +49,8 @@ fn advises(
     texts: (&str, &str, &[u8]),
     want: (Status, &str, &str),
 ) -> Result<(), Fail> {
-    let record_text = lines_of(alloc, texts.1)?;
     let output = lines_of(alloc, want.1)?;
-    let mut files = Vec::new(alloc);
-    files.push(file(alloc, "book", texts.0.as_bytes())?)?;
-    files.push(file(alloc, "record", record_text.as_bytes())?)?;
-    files.push(file(alloc, "limits", texts.2)?)?;
+    let files = three_files(alloc, texts)?;
     let want = (want.0, output.as_str(), want.2);
     does(rt, alloc, words, files, sound(), want)
 }

@@ -1,12 +1,12 @@
 // What comes of each failing call, one after another, of a record that ends at each byte, and of a book that is full.
-ghost use Rattle.std.specs.Prelude.{◌<◌};
+ghost use Rattle.std.specs.Prelude.{◌<◌, ◌≤◌};
 
 use crate::books::{ADVISORY, HYDRAULICS, LEVEL_FOUR};
-use crate::outside::{ONE_BLOCK, Outside, file, sound, words_of};
-use ecam_io::{MemoryShelf, MemorySink};
-use replay_core::{Status, ecam};
+use crate::outside::{Ending, ONE_BLOCK, Outside, ending_of, file, sound};
+use replay_core::Status;
 use std::alloc::{AllocError, Global};
 use std::fmt::Write as _;
+use std::process::Abort;
 use std::test::Fail;
 
 const RECORD: &str = "W 0 0000041d\nT\nE\n";
@@ -21,19 +21,11 @@ pub(crate) const FAILURE_SHOWN: &str =
     "@1\nL1 A HYD G RSVR LO LVL\nL2 C -G ENG 1 PUMP.....OFF\nFL W STS\nS01 W HYD\nS02 G GREEN PRESS                 3000 PSI\nMC A MASTER CAUT\nAU W SC\n@2\nR1 A *HYD\nS02 G GREEN PRESS                    0 PSI\n@3\nL2 -\n@4\nL1 -\nS01 -\nS02 -\nMC -\nAU -\n@5\nS01 A GREEN HYD\n@6\nL1 A HYD G RSVR LO LVL\nMC A MASTER CAUT\nEND 7\n";
 
 // How `replay` ends, what it writes, and what it tells.
-#[derive(Drop)]
-pub(crate) struct Ending {
-    pub(crate) status: Status,
-    pub(crate) written: Vec<u8>,
-    told: Vec<u8>,
-}
-
 pub(crate) fn replay(
     alloc: Global,
     book: &str,
     record_text: &[u8],
     outside: Outside<'_>,
-    tells_failing: &[u32],
 ) -> Result<Ending, AllocError>
     requires read { 0 < outside.read_piece }
     requires write { 0 < outside.write_piece }
@@ -41,21 +33,24 @@ pub(crate) fn replay(
     let mut files = Vec::new(alloc);
     files.push(file(alloc, "book", book.as_bytes())?)?;
     files.push(file(alloc, "record", record_text)?)?;
-    let failing = outside.reads_failing.to_vec(alloc)?;
-    let mut shelf = MemoryShelf::new(files, failing, outside.read_piece);
-    let failing = outside.writes_failing.to_vec(alloc)?;
-    let mut out = MemorySink::new(alloc, failing, outside.write_piece, outside.room)?;
-    let mut err = MemorySink::new(alloc, tells_failing.to_vec(alloc)?, 4096, 4096)?;
-    let words = words_of(alloc, " replay book record")?;
-    let status = ecam(alloc, &words, &mut shelf, &mut out, &mut err);
-    Ok(Ending {
-        status,
-        written: out.bytes().to_vec(alloc)?,
-        told: err.bytes().to_vec(alloc)?,
-    })
+    ending_of(alloc, " replay book record", files, outside)
 }
 
-// The 32 bytes are written one by one.
+// What comes of a replay whose write of this number fails. The 32 bytes are written one by one.
+fn stops_at_write(rt: &impl Abort, ending: &Ending, n: u32)
+    requires { 1 ≤ n }
+{
+    let (status, count, told) = if n < 33 {
+        (Status::WriteFault, n as usize - 1, "write fault\n")
+    } else {
+        (Status::Done, 32, "")
+    };
+    assert_eq!(rt; ending.status, status, "write {n}");
+    assert_eq!(rt; ending.written.len(), count, "write {n}");
+    assert!(rt; WHOLE.as_bytes().starts_with(&ending.written), "write {n}");
+    assert_eq!(rt; ending.told.as_slice(), told.as_bytes(), "write {n}");
+}
+
 #[test]
 fn each_write_fails(rt: HostRuntime) -> Result<(), Fail> {
     for n in 1..=33_u32 {
@@ -64,44 +59,45 @@ fn each_write_fails(rt: HostRuntime) -> Result<(), Fail> {
             write_piece: 1,
             ..sound()
         };
-        let ending = replay(rt.alloc(), ADVISORY, RECORD.as_bytes(), outside, &[])?;
-        let (status, count, told) = if n < 33 {
-            (Status::WriteFault, n as usize - 1, "write fault\n")
-        } else {
-            (Status::Done, 32, "")
-        };
-        assert_eq!(rt; ending.status, status, "write {n}");
-        assert_eq!(rt; ending.written.len(), count, "write {n}");
-        assert!(rt; WHOLE.as_bytes().starts_with(&ending.written), "write {n}");
-        assert_eq!(rt; ending.told.as_slice(), told.as_bytes(), "write {n}");
+        let ending = replay(rt.alloc(), ADVISORY, RECORD.as_bytes(), outside)?;
+        stops_at_write(&rt, &ending, n);
     }
-    let ending = replay(rt.alloc(), LEVEL_FOUR, b"E\n", sound(), &[1])?;
+    let outside = Outside {
+        tells_failing: &[1],
+        ..sound()
+    };
+    let ending = replay(rt.alloc(), LEVEL_FOUR, b"E\n", outside)?;
     assert_eq!(rt; ending.status, Status::BookRefused);
     assert_eq!(rt; ending.told.len(), 0);
     Ok(())
 }
 
-// In pieces of 7 bytes the book takes the calls 1 to 116, and the record the calls 117 to 131.
+// What comes of a replay whose opening or reading call of this number fails. In pieces of 7 bytes the book takes the calls 1
+// to 116, and the record the calls 117 to 131.
+fn stops_at_call(rt: &impl Abort, ending: &Ending, n: u32) {
+    let whole = FAILURE_SHOWN.as_bytes();
+    let (status, told) = if n < 132 {
+        (Status::ReadFault, "read fault\n")
+    } else {
+        (Status::Done, "")
+    };
+    assert_eq!(rt; ending.status, status, "call {n}");
+    assert_eq!(rt; ending.told.as_slice(), told.as_bytes(), "call {n}");
+    assert!(rt; whole.starts_with(&ending.written), "call {n}");
+    assert!(rt; n > 117 || ending.written.is_empty(), "call {n}");
+    assert_eq!(rt; ending.written.len() == whole.len(), n == 132, "call {n}");
+}
+
 #[test]
 fn each_open_and_each_read_fails(rt: HostRuntime) -> Result<(), Fail> {
-    let whole = FAILURE_SHOWN.as_bytes();
     for n in 1..=132_u32 {
         let outside = Outside {
             reads_failing: &[n],
             read_piece: 7,
             ..sound()
         };
-        let ending = replay(rt.alloc(), HYDRAULICS, FAILURE.as_bytes(), outside, &[])?;
-        let (status, told) = if n < 132 {
-            (Status::ReadFault, "read fault\n")
-        } else {
-            (Status::Done, "")
-        };
-        assert_eq!(rt; ending.status, status, "call {n}");
-        assert_eq!(rt; ending.told.as_slice(), told.as_bytes(), "call {n}");
-        assert!(rt; whole.starts_with(&ending.written), "call {n}");
-        assert!(rt; n > 117 || ending.written.is_empty(), "call {n}");
-        assert_eq!(rt; ending.written.len() == whole.len(), n == 132, "call {n}");
+        let ending = replay(rt.alloc(), HYDRAULICS, FAILURE.as_bytes(), outside)?;
+        stops_at_call(&rt, &ending, n);
     }
     Ok(())
 }
@@ -144,30 +140,44 @@ const CUTS: [(usize, usize, Status, &str, &str); 7] = [
     (17, 17, Status::Done, WHOLE, ""),
 ];
 
-#[test]
-fn a_cut_record_and_a_full_book(rt: HostRuntime) -> Result<(), Fail> {
-    let alloc = rt.alloc();
-    for (first, last, status, written, told) in CUTS {
-        for count in first..=last {
-            let mut record_text = Vec::new(alloc);
-            for byte in RECORD.as_bytes().iter().take(count) {
-                record_text.push(*byte)?;
-            }
-            let ending = replay(alloc, ADVISORY, &record_text, sound(), &[])?;
-            assert_eq!(rt; ending.status, status, "{count} bytes");
-            assert_eq!(rt;
-                ending.written.as_slice(),
-                written.as_bytes(),
-                "{count} bytes"
-            );
-            assert_eq!(rt; ending.told.as_slice(), told.as_bytes(), "{count} bytes");
-        }
+// What comes of the first so many bytes of the record.
+fn cut(alloc: Global, count: usize) -> Result<Ending, AllocError> {
+    let mut record_text = Vec::new(alloc);
+    for byte in RECORD.as_bytes().iter().take(count) {
+        record_text.push(*byte)?;
     }
+    replay(alloc, ADVISORY, &record_text, sound())
+}
+
+// Whether a replay of so many bytes ends so, writes this, and tells this.
+fn ends_so(rt: &impl Abort, ending: &Ending, count: usize, want: (Status, &str, &str)) {
+    let (status, written, told) = want;
+    assert_eq!(rt; ending.status, status, "{count} bytes");
+    assert_eq!(rt;
+        ending.written.as_slice(),
+        written.as_bytes(),
+        "{count} bytes"
+    );
+    assert_eq!(rt; ending.told.as_slice(), told.as_bytes(), "{count} bytes");
+}
+
+fn a_full_book(rt: &impl Abort, alloc: Global) -> Result<(), Fail> {
     let book = alerts(alloc, 1024)?;
-    let ending = replay(alloc, book.as_str(), RECORD.as_bytes(), sound(), &[])?;
+    let ending = replay(alloc, book.as_str(), RECORD.as_bytes(), sound())?;
     assert_eq!(rt; ending.status, Status::Done);
     let shown =
         b"@0\nL1 A ALERT 1\nL2 A ALERT 2\nL3 A ALERT 3\nL4 A ALERT 4\nL5 A ALERT 5\nL6 A ALERT 6\nL7 A ALERT 7\nFL W v OVF 1017\nEND 1\n";
     assert_eq!(rt; ending.written.as_slice(), shown.as_slice());
     Ok(())
+}
+
+#[test]
+fn a_cut_record_and_a_full_book(rt: HostRuntime) -> Result<(), Fail> {
+    for (first, last, status, written, told) in CUTS {
+        for count in first..=last {
+            let ending = cut(rt.alloc(), count)?;
+            ends_so(&rt, &ending, count, (status, written, told));
+        }
+    }
+    a_full_book(&rt, rt.alloc())
 }

@@ -3,9 +3,8 @@ use crate::books::{ADVISORY, HYDRAULICS, LEVEL_FOUR, SLOTS};
 use crate::checks::checks;
 use crate::each_failure::{FAILURE, FAILURE_SHOWN};
 use crate::named::NAMED;
-use crate::outside::{does, file, sound, words_of};
-use ecam_io::{MemoryShelf, MemorySink};
-use replay_core::{Status, ecam};
+use crate::outside::{does, ending_of, file, sound};
+use replay_core::Status;
 use std::alloc::Global;
 use std::process::Abort;
 use std::test::Fail;
@@ -14,14 +13,10 @@ use std::test::Fail;
 fn migrated(rt: &impl Abort, alloc: Global, book: &[u8]) -> Result<Vec<u8>, Fail> {
     let mut files = Vec::new(alloc);
     files.push(file(alloc, "book", book)?)?;
-    let mut shelf = MemoryShelf::new(files, Vec::new(alloc), 4096);
-    let mut out = MemorySink::new(alloc, Vec::new(alloc), 4096, 4096)?;
-    let mut err = MemorySink::new(alloc, Vec::new(alloc), 4096, 4096)?;
-    let words = words_of(alloc, " migrate book")?;
-    let status = ecam(alloc, &words, &mut shelf, &mut out, &mut err);
-    assert_eq!(rt; status, Status::Done);
-    assert_eq!(rt; err.bytes().len(), 0);
-    Ok(out.bytes().to_vec(alloc)?)
+    let ending = ending_of(alloc, " migrate book", files, sound())?;
+    assert_eq!(rt; ending.status, Status::Done);
+    assert_eq!(rt; ending.told.len(), 0);
+    Ok(ending.written)
 }
 
 // Written once more it stays the same text, and what is told of it is what is told of the book.

@@ -23,7 +23,7 @@ pub(crate) fn lines_of(alloc: Global, text: &str) -> Result<String, AllocError> 
 }
 
 // What fails of the outside: the calls of these numbers, where a read gives and a write takes so many bytes, and the
-// sink has so much room.
+// sink has so much room. What is told goes to a sink of its own, which takes 4096 bytes in one call.
 #[derive(Clone, Copy)]
 pub(crate) struct Outside<'a> {
     pub(crate) reads_failing: &'a [u32],
@@ -31,6 +31,7 @@ pub(crate) struct Outside<'a> {
     pub(crate) writes_failing: &'a [u32],
     pub(crate) write_piece: usize,
     pub(crate) room: usize,
+    pub(crate) tells_failing: &'a [u32],
 }
 
 // Nothing fails.
@@ -44,6 +45,7 @@ pub(crate) fn sound<'a>() -> Outside<'a>
         writes_failing: &[],
         write_piece: 4096,
         room: 4096,
+        tells_failing: &[],
     }
 }
 
@@ -75,7 +77,61 @@ pub(crate) fn words_of(alloc: Global, line: &str) -> Result<Vec<String>, AllocEr
     Ok(words)
 }
 
-// What a command with these files ends with and writes: the status, what is written, and what is told.
+// How a command ends, what it writes, and what it tells.
+#[derive(Drop)]
+pub(crate) struct Ending {
+    pub(crate) status: Status,
+    pub(crate) written: Vec<u8>,
+    pub(crate) told: Vec<u8>,
+}
+
+// The ending of a command by these files and sinks.
+fn ending_by(
+    alloc: Global,
+    words: &str,
+    shelf: &mut MemoryShelf,
+    out: &mut MemorySink,
+    err: &mut MemorySink,
+) -> Result<Ending, AllocError> {
+    let words = words_of(alloc, words)?;
+    let status = ecam(alloc, &words, shelf, out, err);
+    let written = out.bytes().to_vec(alloc)?;
+    let told = err.bytes().to_vec(alloc)?;
+    Ok(Ending {
+        status,
+        written,
+        told,
+    })
+}
+
+// The sinks for what is written, and for what is told.
+fn sinks_of(alloc: Global, outside: Outside<'_>) -> Result<(MemorySink, MemorySink), AllocError>
+    requires { 0 < outside.write_piece }
+{
+    let failing = outside.writes_failing.to_vec(alloc)?;
+    let out = MemorySink::new(alloc, failing, outside.write_piece, outside.room)?;
+    let failing = outside.tells_failing.to_vec(alloc)?;
+    let err = MemorySink::new(alloc, failing, 4096, 4096)?;
+    Ok((out, err))
+}
+
+// The ending of a command with these files.
+pub(crate) fn ending_of(
+    alloc: Global,
+    words: &str,
+    files: Vec<MemoryFile>,
+    outside: Outside<'_>,
+) -> Result<Ending, AllocError>
+    requires read { 0 < outside.read_piece }
+    requires write { 0 < outside.write_piece }
+{
+    let failing = outside.reads_failing.to_vec(alloc)?;
+    let mut shelf = MemoryShelf::new(files, failing, outside.read_piece);
+    let (mut out, mut err) = sinks_of(alloc, outside)?;
+    ending_by(alloc, words, &mut shelf, &mut out, &mut err)
+}
+
+// Whether a command with these files ends so, writes this, and tells this.
 pub(crate) fn does(
     rt: &impl Abort,
     alloc: Global,
@@ -87,22 +143,9 @@ pub(crate) fn does(
     requires read { 0 < outside.read_piece }
     requires write { 0 < outside.write_piece }
 {
-    let mut shelf = MemoryShelf::new(
-        files,
-        outside.reads_failing.to_vec(alloc)?,
-        outside.read_piece,
-    );
-    let mut out = MemorySink::new(
-        alloc,
-        outside.writes_failing.to_vec(alloc)?,
-        outside.write_piece,
-        outside.room,
-    )?;
-    let mut err = MemorySink::new(alloc, Vec::new(alloc), 4096, 4096)?;
-    let words = words_of(alloc, words)?;
-    let status = ecam(alloc, &words, &mut shelf, &mut out, &mut err);
-    assert_eq!(rt; status, want.0);
-    assert_eq!(rt; out.bytes(), want.1.as_bytes());
-    assert_eq!(rt; err.bytes(), want.2.as_bytes());
+    let ending = ending_of(alloc, words, files, outside)?;
+    assert_eq!(rt; ending.status, want.0);
+    assert_eq!(rt; ending.written.as_slice(), want.1.as_bytes());
+    assert_eq!(rt; ending.told.as_slice(), want.2.as_bytes());
     Ok(())
 }

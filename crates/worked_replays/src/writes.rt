@@ -24,7 +24,7 @@ fn writes(
             room: 400_000,
             ..sound()
         };
-        let ending = replay(alloc, files.0, files.1.as_bytes(), outside, &[])?;
+        let ending = replay(alloc, files.0, files.1.as_bytes(), outside)?;
         assert_eq!(rt; ending.status, status, "call {failing}");
         if status == Status::Done {
             assert_eq!(rt; ending.written.len(), count);
