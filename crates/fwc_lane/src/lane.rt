@@ -220,7 +220,7 @@ impl Lane {
     /// condition is due and no key acts, after one that left all at rest, costs a few looks and writes, besides what the
     /// end of a moment costs the parameters: it looks at no condition, alert, line, memo or row. After another such Tick,
     /// with no key between them and the phase not timed, it costs eight looks and eight counts in all, and where conditions
-    /// or sources wait for the moment, a few looks and writes at each.
+    /// or mailboxes wait for the moment, a few looks and writes at each.
     // (It stands in its caller, so that a word goes to its sources at once.)
     #[inline(always)]
     pub fn event(&mut self, book: &Book, event: &Event, one_up: bool, two_up: bool)

@@ -29,7 +29,7 @@ impl Lane {
     /// Whether it is known that nothing changes in the moment, after which these computers are up, since nothing did in the
     /// one before: no key came, the same computers were up in it, no condition is due, no parameter may have another value,
     /// and no word's freshness may end with it. Its cost is seven looks, and at most one more for each 64 parameters; where
-    /// conditions or sources wait for the moment, also one for each 64 and one at each that waits.
+    /// conditions or mailboxes wait for the moment, also one for each 64 and one at each that waits.
     #[inline(always)]
     pub(crate) fn idles(&self, book: &Book, one_up: bool, two_up: bool) -> bool
         requires fits { LaneFits (the_book book.now) self.now }

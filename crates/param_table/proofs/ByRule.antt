@@ -1,5 +1,5 @@
 -- The rules of all places, and what a source holds by its rule.
-use Rattle.std.proofs.Common.{◌≡◌, ℕ, ◌*◌, ◌≤◌, List, length, get_or, Option, Some, None, refl, sym, ap, ◌∙◌, subst, arith, inl, inr}
+use Rattle.std.proofs.Common.{◌≡◌, ℕ, ◌*◌, ◌≤◌, List, length, get_or, slice_index, Option, Some, None, refl, sym, ap, ◌∙◌, subst, arith, inl, inr}
 use Rattle.std.specs.Option.{option_map_or}
 use Rattle.std.proofs.lemmas.Bool.{cases_lt}
 use Rattle.std.proofs.lemmas.Option.{same_Some, none-some}
@@ -10,7 +10,7 @@ use Rattle.book_model.specs.SourcePlaces.{source_at}
 use Rattle.book_model.proofs.SourcePlaces.{no_source}
 use Rattle.param_table.specs.declared.rules.Rule.{Rule}
 use Rattle.param_table.specs.declared.mailbox.Mailbox.{Mailbox}
-use Rattle.param_table.specs.HeldValues.{nothing, unused, held_for, received_at}
+use Rattle.param_table.specs.HeldValues.{nothing, unused, held_for, received_at, mailbox_at, due_at}
 use Rattle.param_table.specs.Rules.{IsRule, RuleIs, AreRules}
 
 -- past the end there is neither a rule nor a source
@@ -41,3 +41,10 @@ by_none rules mailboxes q is = ap (λ o. option_map_or (λ (r : Rule). held_for 
 pub by_rule : (rules : List (Option Rule)) (mailboxes : List Mailbox) (q : ℕ) (r : Rule) → get_or rules q None ≡ Some r
     → received_at rules mailboxes q ≡ held_for (get_or mailboxes r.mailbox unused) r.stale
 by_rule rules mailboxes q r is = ap (λ o. option_map_or (λ (r : Rule). held_for (get_or mailboxes r.mailbox unused) r.stale) o nothing) is
+
+-- its mailbox, with which it is looked at
+pub mailbox_by_rule : (rules : List (Option Rule)) (q : ℕ) (r : Rule) → get_or rules q None ≡ Some r → mailbox_at rules q ≡ r.mailbox
+mailbox_by_rule rules q r is = ap (λ o. option_map_or (λ (t : Rule). t.mailbox) o 0) is
+
+pub due_by_rule : (rules : List (Option Rule)) (dues : List ℕ) (q : ℕ) (r : Rule) → get_or rules q None ≡ Some r → due_at rules dues q ≡ slice_index dues r.mailbox
+due_by_rule rules dues q r is = ap (slice_index dues) (mailbox_by_rule rules q r is)

@@ -1,9 +1,9 @@
 -- A word comes to a mailbox: what its sources hold by it, and which parameters are marked.
-use Rattle.std.proofs.Common.{◌≡◌, ◌≢◌, ◌⊎◌, ℕ, ◌+◌, ◌*◌, ◌/◌, ◌<◌, ◌≤◌, Bool, true, false, not, ltb, ◌==◌, ◌&&◌, ◌||◌, bit_and, bit_xor, length, get_or, set, slice_index, List, Option, Some, None, All, cond, refl, sym, ap, ◌∙◌, subst, arith, inl, inr}
+use Rattle.std.proofs.Common.{◌≡◌, ◌≢◌, ◌⊎◌, ℕ, ◌+◌, ◌/◌, ◌<◌, ◌≤◌, Bool, true, false, not, ltb, ◌==◌, ◌&&◌, ◌||◌, bit_and, bit_xor, length, get_or, set, slice_index, List, Option, Some, None, All, cond, refl, sym, ap, ◌∙◌, subst, arith, inl, inr}
 use Rattle.std.specs.List.{list_any, slice_range}
 use Rattle.std.proofs.lemmas.Bool.{cases_eq, and_parts, or_parts, eq-eqb, eqb-true, ne_eqb, false≢true}
 use Rattle.std.proofs.lemmas.Bool.Decides.{nat_tests}
-use Rattle.std.proofs.lemmas.Option.{same_Some, none-some}
+use Rattle.std.proofs.lemmas.Option.{same_Some}
 use Rattle.std.proofs.lemmas.List.{get_or-set_same, get_or-set_other, length-set}
 use Rattle.std.proofs.lemmas.List.Folds.{list_any_none}
 use Rattle.ecam_spec.specs.declared.kinds.Kind.{Kind}
@@ -13,7 +13,8 @@ use Rattle.ecam_spec.specs.Value.{reading}
 use Rattle.wakes.specs.Marks.{is_marked, room}
 use Rattle.book_model.specs.View.{source_of}
 use Rattle.book_model.specs.SourcePlaces.{parameter_with, source_at}
-use Rattle.book_model.proofs.SourcePlaces.{place_within, sound_source}
+use Rattle.book_model.proofs.SourcePlaces.{sound_source}
+use Rattle.param_table.specs.declared.received.Received.{Received}
 use Rattle.param_table.specs.declared.mailbox.Hearers.{Hearers}
 use Rattle.param_table.specs.declared.mailbox.Listener.{Listener}
 use Rattle.param_table.specs.declared.mailbox.Mailbox.{Mailbox}
@@ -21,14 +22,15 @@ use Rattle.param_table.specs.declared.routing.Routing.{Routing}
 use Rattle.param_table.specs.declared.rules.Rule.{Rule}
 use Rattle.param_table.specs.declared.held.Held.{Held}
 use Rattle.param_table.specs.Masks.{may_say, mask_of, modes_of}
-use Rattle.param_table.specs.Rules.{IsRule, RuleIs}
+use Rattle.param_table.specs.Rules.{RuleIs}
 use Rattle.param_table.specs.Routes.{listener_of, IsListener, AreListeners, Tells, AreRouted}
-use Rattle.param_table.specs.HeldValues.{unused, given, renewed, held_for, received_at, all_fresh, hearers_of, delivered, says_same, keeps_saying, put_off}
-use Rattle.param_table.specs.HeldState.{AreListed, IsDue, AreDue, Renews}
+use Rattle.param_table.specs.HeldValues.{unused, given, renewed, held_for, received_at, all_fresh, hearers_of, delivered, says_same, keeps_saying, due_at}
+use Rattle.param_table.specs.HeldState.{IsDue, AreDue, Renews}
 use Rattle.param_table.specs.TableState.{HeldFits}
 use Rattle.param_table.proofs.Masks.{reading-same, says-nothing}
-use Rattle.param_table.proofs.Listeners.{found, any_false, put_off-length, put_off-other, put_off-own}
-use Rattle.param_table.proofs.ByRule.{rule-is, rule_source, by_none, by_rule}
+use Rattle.param_table.proofs.Listeners.{fresh_for}
+use Rattle.param_table.proofs.ByRule.{rule_source, by_none, by_rule, due_by_rule}
+use Rattle.param_table.proofs.Hearers.{tells, rule_at, listener, each_hears, held_here, by_place}
 
 -- ---- a mailbox whose word alone is another
 
@@ -60,12 +62,6 @@ fresh_end clock stale bits m =
 end_most : (clock after stale : ℕ) → after ≤ clock + 1 → cond (after == 0) 0 (after + stale) ≤ clock + 1 + stale
 end_most clock after stale early = by (after == 0) where
   by : (b : Bool) → cond b 0 (after + stale) ≤ clock + 1 + stale
-  by true = omega arith
-  by false = omega arith
-
-end_grows : (after less more : ℕ) → less ≤ more → cond (after == 0) 0 (after + less) ≤ cond (after == 0) 0 (after + more)
-end_grows after less more le = by (after == 0) where
-  by : (b : Bool) → cond b 0 (after + less) ≤ cond b 0 (after + more)
   by true = omega arith
   by false = omega arith
 
@@ -103,32 +99,12 @@ module _ (params : List Parameter) (routing : Routing) (clock m bits : ℕ) (old
   abbrev hearers : List Listener
   hearers = hearers_of routing.listeners.items.items before
 
-  tells : Tells rules routing.listeners.items.items m before
-  tells = routed.tells m within
-
-  rule_at : (q : ℕ) → IsRule params q (get_or rules q None)
-  rule_at = rule-is params (3 * length params) rules routed.rules (omega arith)
-
-  -- a listener's place has a source
-  place_few : (q : ℕ) (r : Rule) → get_or rules q None ≡ Some r → q < 3 * length params
-  place_few q r is = place_within params q (source_of r.source) (rule_source params q r (get_or rules q None) (rule_at q) is).source
-
-  pub are_listed : AreListed routing.listeners.items.items (length old.dues) (room old.changed) before
-  are_listed = record {
-    order = tells.order;
-    within = tells.within;
-    places = λ k d less. let l = tells.are.each k d less in omega (arith, place_few _ l.rule l.there, fits.dues);
-    params = λ k d less.
-        let l = tells.are.each k d less in
-        let few = place_few _ l.rule l.there in
-        let param = ap (λ (x : Listener). x.param) l.is in
-        omega (arith, few, fits.room, param);
-    soonest = tells.soonest;
-  }
+  there : Tells rules routing.listeners.items.items m before
+  there = tells params routing boxes m routed within
 
   module _ (written : new.mailboxes.items.items ≡ set boxes m (delivered clock bits before)) (same_room : room new.changed ≡ room old.changed)
       (marks : (p : ℕ) → is_marked new.changed p ≡ (list_any (λ (l : Listener). p == l.param && not (keeps_saying clock bits before l)) hearers || is_marked old.changed p))
-      (dues : new.dues ≡ cond (all_fresh clock before) old.dues (put_off clock hearers old.dues)) where
+      (dues : new.dues ≡ cond (all_fresh clock before) old.dues (set old.dues m (clock + 1 + before.hearers.soonest))) where
     abbrev now : ℕ → Mailbox
     now i = get_or new.mailboxes.items.items i unused
 
@@ -155,41 +131,28 @@ module _ (params : List Parameter) (routing : Routing) (clock m bits : ℕ) (old
       | inr ne ↦ ap (λ (b : Mailbox). b.hearers) (now-other i ne)
     ]
 
-    pub delivered_routed : AreRouted params routing new.mailboxes.items.items
-    delivered_routed = routed_same params routing boxes new.mailboxes.items.items (ap length written ∙ length-set boxes m (delivered clock bits before)) (λ i less. hearers-same i) routed
+    boxes_long : length new.mailboxes.items.items ≡ length boxes
+    boxes_long = ap length written ∙ length-set boxes m (delivered clock bits before)
 
-    dues_long : (b : Bool) → length (cond b old.dues (put_off clock hearers old.dues)) ≡ length old.dues
+    pub delivered_routed : AreRouted params routing new.mailboxes.items.items
+    delivered_routed = routed_same params routing boxes new.mailboxes.items.items boxes_long (λ i less. hearers-same i) routed
+
+    dues_long : (b : Bool) → length (cond b old.dues (set old.dues m (clock + 1 + before.hearers.soonest))) ≡ length old.dues
     dues_long true = refl
-    dues_long false = put_off-length clock hearers old.dues
+    dues_long false = length-set old.dues m (clock + 1 + before.hearers.soonest)
 
     pub delivered_fits : HeldFits params clock new
     delivered_fits = record {
       room = same_room ∙ fits.room;
-      dues = ap length dues ∙ dues_long (all_fresh clock before) ∙ fits.dues;
+      dues = ap length dues ∙ dues_long (all_fresh clock before) ∙ fits.dues ∙ sym boxes_long;
       early = λ i. elim (cases_eq i m) [
         | inl e ↦ subst (λ j. (now j).after ≤ clock + 1) (sym e) (omega (arith, ap (λ (b : Mailbox). b.after) now-own))
         | inr ne ↦ omega (arith, ap (λ (b : Mailbox). b.after) (now-other i ne), fits.early i)
       ];
     }
 
-    -- the listener that a source of the mailbox is
-    abbrev Is : ℕ → Rule → Listener → Type 0
-    Is q r l = (l ≡ listener_of q r) × (before.hearers.soonest ≤ r.stale)
-
-    abbrev Sound : Listener → Type 0
-    Sound l = IsListener rules m l × (before.hearers.soonest ≤ l.stale)
-
-    listener : (q : ℕ) (r : Rule) → get_or rules q None ≡ Some r → r.mailbox ≡ m → (f : Listener → Bool) → list_any f hearers ≡ false → Is q r (listener_of q r) × (f (listener_of q r) ≡ false)
-    listener q r is own f none =
-        let l = found Sound (λ (x : Listener). x.place == q) f hearers (tells.are.all q r is own) (λ k d less. (tells.are.each k d less, tells.soonest k d less)) none in
-        let at : l.0.place ≡ q = eqb-true l.0.place q l.1 in
-        let its = l.2.0 in
-        let rule : its.rule ≡ r = same_Some its.rule r (sym its.there ∙ ap (λ i. get_or rules i None) at ∙ is) in
-        let same : l.0 ≡ listener_of q r = its.is ∙ ap (λ i. listener_of i its.rule) at ∙ ap (listener_of q) rule in
-        ((refl, omega (arith, l.2.1, ap (λ (x : Listener). x.stale) same)), ap f (sym same) ∙ l.3)
-
     pub delivered_others : (p : ℕ) → ((q : ℕ) (r : Rule) → q / 3 ≡ p → get_or rules q None ≡ Some r → r.mailbox ≢ m) → is_marked new.changed p ≡ is_marked old.changed p
-    delivered_others p none = marks p ∙ ap (λ b. b || is_marked old.changed p) (list_any_none (λ (l : Listener). p == l.param && not (keeps_saying clock bits before l)) hearers (λ k d less. each _ (tells.are.each k d less))) where
+    delivered_others p none = marks p ∙ ap (λ b. b || is_marked old.changed p) (list_any_none (λ (l : Listener). p == l.param && not (keeps_saying clock bits before l)) hearers (λ k d less. each _ (there.are.each k d less))) where
       each : (l : Listener) → IsListener rules m l → (p == l.param && not (keeps_saying clock bits before l)) ≡ false
       each l its = elim (cases_eq p l.param) [
         | inl e ↦ absurd (none l.place its.rule (sym (e ∙ ap (λ (x : Listener). x.param) its.is)) its.there its.own)
@@ -207,81 +170,59 @@ module _ (params : List Parameter) (routing : Routing) (clock m bits : ℕ) (old
 
     same_given : (q : ℕ) (s : Source) (r : Rule) → source_at params q ≡ Some s → get_or rules q None ≡ Some r → RuleIs params q r → r.mailbox ≡ m → is_marked new.changed (q / 3) ≡ false
         → given clock (parameter_with params q).kind s (received_at rules new.mailboxes.items.items q) ≡ given clock (parameter_with params q).kind s (received_at rules boxes q)
-    same_given q s r there is rule own off =
+    same_given q s r source_is is rule own off =
         let kind = (parameter_with params q).kind in
         let l = listener_of q r in
-        let on = (listener q r is own (λ (x : Listener). q / 3 == x.param && not (keeps_saying clock bits before x)) (unmarked (q / 3) off).0).1 in
+        let on = (listener params routing boxes m routed within (λ x. IsListener rules m x) there.are.each (λ (x : Listener). q / 3 == x.param && not (keeps_saying clock bits before x)) (unmarked (q / 3) off).0 q r is own).1 in
         let parts = and_parts (ltb clock (held_for before r.stale).end) (says_same l before.bits bits) (says_on (q / 3 == q / 3) (keeps_saying clock bits before l) (eq-eqb (q / 3) (q / 3) refl) on) in
-        let source : source_of r.source ≡ s = same_Some (source_of r.source) s (sym rule.source ∙ there) in
+        let source : source_of r.source ≡ s = same_Some (source_of r.source) s (sym rule.source ∙ source_is) in
         let later : ltb clock (clock + 1 + r.stale) ≡ true = grind (arith, nat_tests) in
         ap (given clock kind s) (held-own q r is own)
         ∙ ap (λ b. cond b (reading kind s bits) None) later
-        ∙ same_reading kind s l before.bits bits (sound_source params q s sound there)
+        ∙ same_reading kind s l before.bits bits (sound_source params q s sound source_is)
         (ap (λ k. mask_of k (source_of r.source)) rule.kind ∙ ap (mask_of kind) source) (ap modes_of rule.kind) parts.1
         ∙ sym (ap (λ b. cond b (reading kind s before.bits) None) parts.0)
-        ∙ sym (ap (given clock kind s) (by_rule rules boxes q r is ∙ ap (λ i. held_for (get_or boxes i unused) r.stale) own))
+        ∙ sym (ap (given clock kind s) (held_here params routing boxes m routed within q r is own))
 
-    place_kept : (q : ℕ) → list_any (λ (l : Listener). l.place == q) hearers ≡ false → (b : Bool) → slice_index (cond b old.dues (put_off clock hearers old.dues)) q ≡ slice_index old.dues q
-    place_kept q none true = refl
-    place_kept q none false = put_off-other clock q hearers old.dues none
+    -- when the mailboxes are looked at
+    dues-other : (i : ℕ) → i ≢ m → (b : Bool) → slice_index (cond b old.dues (set old.dues m (clock + 1 + before.hearers.soonest))) i ≡ slice_index old.dues i
+    dues-other i ne true = refl
+    dues-other i ne false = get_or-set_other old.dues m i (clock + 1 + before.hearers.soonest) 0 ne
 
-    -- a place of another mailbox
-    not_here : (q : ℕ) → ((r : Rule) → get_or rules q None ≡ Some r → r.mailbox ≢ m) → list_any (λ (l : Listener). l.place == q) hearers ≡ false
-    not_here q none = list_any_none (λ (l : Listener). l.place == q) hearers (λ k d less. each _ (tells.are.each k d less)) where
-      each : (l : Listener) → IsListener rules m l → l.place == q ≡ false
-      each l its = elim (cases_eq l.place q) [
-        | inl e ↦ absurd (none its.rule (sym (ap (λ i. get_or rules i None) e) ∙ its.there) its.own)
-        | inr ne ↦ ne_eqb l.place q ne
-      ]
+    due-other : (q : ℕ) (r : Rule) → AreDue clock (received_at rules boxes) (due_at rules old.dues) → get_or rules q None ≡ Some r → r.mailbox ≢ m
+        → IsDue clock (received_at rules new.mailboxes.items.items q) (due_at rules new.dues q)
+    due-other q r was is ne =
+        let same : due_at rules new.dues q ≡ due_at rules old.dues q =
+        due_by_rule rules new.dues q r is ∙ ap (λ ds. slice_index ds r.mailbox) dues ∙ dues-other r.mailbox ne (all_fresh clock before) ∙ sym (due_by_rule rules old.dues q r is) in
+        subst (λ x. IsDue clock x (due_at rules new.dues q)) (sym (held-other q r is ne)) (subst (IsDue clock (received_at rules boxes q)) (sym same) (was q))
 
-    due-other : (q : ℕ) → AreDue clock (received_at rules boxes) old.dues → ((r : Rule) → get_or rules q None ≡ Some r → r.mailbox ≢ m)
-        → received_at rules new.mailboxes.items.items q ≡ received_at rules boxes q → IsDue clock (received_at rules new.mailboxes.items.items q) (slice_index new.dues q)
-    due-other q was none same =
-        subst (λ x. IsDue clock x (slice_index new.dues q)) (sym same)
-        (subst (IsDue clock (received_at rules boxes q)) (sym (ap (λ ds. slice_index ds q) dues ∙ place_kept q (not_here q none) (all_fresh clock before))) (was q))
+    due-own : (q : ℕ) (r : Rule) → AreDue clock (received_at rules boxes) (due_at rules old.dues) → get_or rules q None ≡ Some r → r.mailbox ≡ m → due_at rules new.dues q ≤ clock + 1 + r.stale
+    due-own q r was is own = subst (λ d. d ≤ clock + 1 + r.stale) (sym at) (by (all_fresh clock before) refl) where
+      at : due_at rules new.dues q ≡ slice_index (cond (all_fresh clock before) old.dues (set old.dues m (clock + 1 + before.hearers.soonest))) m
+      at = due_by_rule rules new.dues q r is ∙ ap (slice_index new.dues) own ∙ ap (λ ds. slice_index ds m) dues
 
-    due-own : (q : ℕ) (r : Rule) → AreDue clock (received_at rules boxes) old.dues → get_or rules q None ≡ Some r → r.mailbox ≡ m → slice_index new.dues q ≤ clock + 1 + r.stale
-    due-own q r was is own = subst (λ ds. slice_index ds q ≤ clock + 1 + r.stale) (sym dues) (by (all_fresh clock before) refl) where
-      by : (b : Bool) → all_fresh clock before ≡ b → slice_index (cond b old.dues (put_off clock hearers old.dues)) q ≤ clock + 1 + r.stale
+      few : before.hearers.soonest ≤ r.stale
+      few = each_hears params routing boxes m routed within (λ (l : Listener). before.hearers.soonest ≤ l.stale) there.soonest q r is own
+
+      by : (b : Bool) → all_fresh clock before ≡ b → slice_index (cond b old.dues (set old.dues m (clock + 1 + before.hearers.soonest))) m ≤ clock + 1 + r.stale
       by true fresh =
-          let few = ((listener q r is own (λ l. false) (any_false hearers)).0).1 in
-          let held : received_at rules boxes q ≡ held_for before r.stale = by_rule rules boxes q r is ∙ ap (λ i. held_for (get_or boxes i unused) r.stale) own in
-          let less : clock < (held_for before before.hearers.soonest).end = grind (arith, nat_tests) in
-          let more : (held_for before before.hearers.soonest).end ≤ (held_for before r.stale).end = end_grows before.after before.hearers.soonest r.stale few in
           let most : (held_for before r.stale).end ≤ clock + 1 + r.stale = end_most clock before.after r.stale (fits.early m) in
-          let due = subst (λ x. IsDue clock x (slice_index old.dues q)) held (was q) in
-          omega (arith, due (omega (arith, less, more)), most)
-      by false ended =
-          let put : slice_index (put_off clock hearers old.dues) q ≡ clock + 1 + r.stale =
-          put_off-own clock q r.stale hearers old.dues (omega (arith, place_few q r is, fits.dues)) (tells.are.all q r is own) (λ k d less. stale_of _ (tells.are.each k d less)) in
-          omega (arith, put)
-        where
-          stale_of : (l : Listener) → IsListener rules m l → l.place ≡ q → l.stale ≡ r.stale
-          stale_of l its at =
-              let rule : its.rule ≡ r = same_Some its.rule r (sym its.there ∙ ap (λ i. get_or rules i None) at ∙ is) in
-              ap (λ (x : Listener). x.stale) its.is ∙ ap (λ (x : Rule). x.stale) rule
-
-    -- by the rule that stands at a place, and whether it is of this mailbox
-    pub by_place : (Q : Type 0) (q : ℕ) → (get_or rules q None ≡ None → Q) → ((r : Rule) → get_or rules q None ≡ Some r → r.mailbox ≡ m → Q)
-        → ((r : Rule) → get_or rules q None ≡ Some r → r.mailbox ≢ m → Q) → Q
-    by_place Q q none own other = by (get_or rules q None) refl where
-      by : (o : Option Rule) → get_or rules q None ≡ o → Q
-      by None is = none is
-      by (Some r) is = elim (cases_eq r.mailbox m) [
-        | inl e ↦ own r is e
-        | inr ne ↦ other r is ne
-      ]
+          let due : IsDue clock (held_for before r.stale) (slice_index old.dues m) =
+          subst (λ x. IsDue clock x (slice_index old.dues m)) (held_here params routing boxes m routed within q r is own)
+          (subst (IsDue clock (received_at rules boxes q)) (due_by_rule rules old.dues q r is ∙ ap (slice_index old.dues) own) (was q)) in
+          omega (arith, due (fresh_for clock r.stale before fresh few), most)
+      by false ended = omega (arith, few, get_or-set_same old.dues m (clock + 1 + before.hearers.soonest) 0 (omega (arith, within, fits.dues)))
 
     pub delivered_renews : Renews params rules clock old new
     delivered_renews = record {
       marks = λ q off. (unmarked (q / 3) off).1;
-      gives = λ q s there off. by_place
+      gives = λ q s source_is off. by_place params routing boxes m routed within
           (given clock (parameter_with params q).kind s (received_at rules new.mailboxes.items.items q) ≡ given clock (parameter_with params q).kind s (received_at rules boxes q)) q
           (λ is. ap (given clock (parameter_with params q).kind s) (held-none q is))
-          (λ r is own. same_given q s r there is (rule_source params q r (get_or rules q None) (rule_at q) is) own off)
+          (λ r is own. same_given q s r source_is is (rule_source params q r (get_or rules q None) (rule_at params routing boxes m routed within q) is) own off)
           (λ r is ne. ap (given clock (parameter_with params q).kind s) (held-other q r is ne));
-      due = λ was q. by_place (IsDue clock (received_at rules new.mailboxes.items.items q) (slice_index new.dues q)) q
-          (λ is. due-other q was (λ r there. absurd (none-some r (sym is ∙ there))) (held-none q is))
-          (λ r is own. subst (λ x. IsDue clock x (slice_index new.dues q)) (sym (held-own q r is own)) (λ fresh. due-own q r was is own))
-          (λ r is ne. due-other q was (λ t there e. ne (ap (λ (x : Rule). x.mailbox) (same_Some r t (sym is ∙ there)) ∙ e)) (held-other q r is ne));
+      due = λ was q. by_place params routing boxes m routed within (IsDue clock (received_at rules new.mailboxes.items.items q) (due_at rules new.dues q)) q
+          (λ is fresh. absurd (omega (arith, fresh, ap (λ (x : Received). x.end) (by_none rules new.mailboxes.items.items q is))))
+          (λ r is own. subst (λ x. IsDue clock x (due_at rules new.dues q)) (sym (held-own q r is own)) (λ fresh. due-own q r was is own))
+          (λ r is ne. due-other q r was is ne);
     }

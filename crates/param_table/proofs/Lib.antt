@@ -13,7 +13,9 @@ pub mod RoutingTells
 pub mod Values
 pub mod Steps
 pub mod Listeners
+pub mod Hearers
 pub mod Delivery
+pub mod Looking
 pub mod Receiving
 pub mod Tables
 pub mod Agree

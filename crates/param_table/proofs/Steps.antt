@@ -1,12 +1,9 @@
 -- What the places hold, step by step, and when each is looked at.
-use Rattle.std.proofs.Common.{◌≡◌, ◌≢◌, ℕ, zero, suc, ◌-◌, ◌/◌, ◌^◌, ◌<◌, ◌≤◌, ◌==◌, ◌&&◌, ◌||◌, Bool, true, false, leb, ltb, List, [], ◌∷◌, length, set, slice_index, Option, None, cond, refl, sym, ap, subst, ◌∙◌, inl, inr, arith}
-use Rattle.std.proofs.lemmas.Bool.{false≢true, cases_eq, eq-eqb, ne_eqb}
-use Rattle.std.proofs.lemmas.List.{get_or-set_same, get_or-set_other}
+use Rattle.std.proofs.Common.{◌≡◌, ℕ, zero, suc, ◌-◌, ◌^◌, ◌<◌, ◌≤◌, Bool, true, false, leb, ltb, List, [], ◌∷◌, length, set, slice_index, Option, None, cond, refl, ap, ◌∙◌, arith}
 use Rattle.std.proofs.lemmas.Bool.Decides.{nat_tests}
 use Rattle.ecam_spec.specs.declared.kinds.Kind.{Kind}
 use Rattle.ecam_spec.specs.Book.{Source, Parameter}
 use Rattle.ecam_spec.specs.Value.{reading}
-use Rattle.wakes.specs.Marks.{is_marked}
 use Rattle.param_table.specs.declared.received.Received.{Received}
 use Rattle.param_table.specs.declared.rules.Rule.{Rule}
 use Rattle.param_table.specs.declared.held.Held.{Held}
@@ -73,43 +70,3 @@ pub still_given : (clock : ℕ) (kind : Kind) (s : Source) (r : Received) → is
 still_given clock kind s r e =
     let same : ltb (suc clock) r.end ≡ ltb clock r.end = grind (arith, nat_tests) in
     ap (λ b. cond b (reading kind s r.bits) None) same
-
--- one place was looked at, and is looked at next in time
-module _ (clock : ℕ) (x : ℕ → Received) (dues : List ℕ) (place : ℕ) (within : place < length dues) where
-  looked : (q : ℕ) → q ≢ place → slice_index (set dues place (next_look clock (x place))) q ≡ slice_index dues q
-  looked q ne = get_or-set_other dues place q _ 0 ne
-
-  pub looked_due : ((q : ℕ) → IsDue clock (x q) (slice_index dues q))
-      → (q : ℕ) → IsDue clock (x q) (slice_index (set dues place (next_look clock (x place))) q)
-  looked_due was q = elim (cases_eq q place) [
-    | inl e ↦
-        subst (λ n. IsDue clock (x n) (slice_index (set dues place (next_look clock (x place))) n)) (sym e)
-        (subst (IsDue clock (x place)) (sym (get_or-set_same dues place _ 0 within)) (next_due clock (x place)))
-    | inr ne ↦ subst (IsDue clock (x q)) (sym (looked q ne)) (was q)
-  ]
-
-  module _ (old new : List ℕ) (marks : (p : ℕ) → is_marked new p ≡ ((is_ending clock (x place) && p == place / 3) || is_marked old p)) where
-    apart : (a b : Bool) → (a || b) ≡ false → (a ≡ false) × (b ≡ false)
-    apart false b is = (refl, is)
-    apart true b is = absurd (false≢true (sym is))
-
-    pub looked_ending : ((q : ℕ) → is_marked old (q / 3) ≡ false → is_ending clock (x q) ≡ true → slice_index dues q ≤ clock)
-        → (q : ℕ) → is_marked new (q / 3) ≡ false → is_ending clock (x q) ≡ true → slice_index (set dues place (next_look clock (x place))) q ≤ clock
-    looked_ending was q off ends =
-        let both = apart _ _ (sym (marks (q / 3)) ∙ off) in
-        elim (cases_eq q place) [
-          | inl e ↦
-              let own : is_ending clock (x place) ≡ true = ap (λ n. is_ending clock (x n)) (sym e) ∙ ends in
-              absurd (false≢true (sym both.0 ∙ (ap (λ b. b && q / 3 == place / 3) own ∙ eq-eqb (q / 3) (place / 3) (ap (λ n. n / 3) e))))
-          | inr ne ↦ subst (λ key. key ≤ clock) (sym (looked q ne)) (was q both.1 ends)
-        ]
-
-    pub looked_others : (p : ℕ) → is_marked old p ≡ false → ((q : ℕ) → q / 3 ≡ p → is_ending clock (x q) ≡ false) → is_marked new p ≡ false
-    looked_others p off none = elim (cases_eq p (place / 3)) [
-      | inl e ↦ marks p ∙ ap (λ b. (b && p == place / 3) || is_marked old p) (none place (sym e)) ∙ off
-      | inr ne ↦ marks p ∙ ap (λ b. (is_ending clock (x place) && b) || is_marked old p) (ne_eqb p (place / 3) ne) ∙ and_none (is_ending clock (x place)) ∙ off
-    ]
-      where
-        and_none : (b : Bool) → ((b && false) || is_marked old p) ≡ is_marked old p
-        and_none true = refl
-        and_none false = refl

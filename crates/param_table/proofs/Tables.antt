@@ -24,16 +24,16 @@ use Rattle.param_table.specs.declared.rules.Rule.{Rule}
 use Rattle.param_table.specs.declared.routing.Routing.{Routing}
 use Rattle.param_table.specs.declared.table.Params.{Params}
 use Rattle.param_table.specs.Taking.{takes_at}
-use Rattle.param_table.specs.Rules.{IsRule, number_of, slot_of}
+use Rattle.param_table.specs.Rules.{IsRule, AreRules, slot_of}
 use Rattle.param_table.specs.Routes.{AreRouted}
-use Rattle.param_table.specs.HeldValues.{nothing, unused, given, renewed, held_for, received_at, mailbox_at, emptied, is_ending, set_back}
+use Rattle.param_table.specs.HeldValues.{unused, given, renewed, held_for, received_at, mailbox_at, due_at, emptied, is_ending, set_back}
 use Rattle.param_table.specs.HeldState.{CopiedWords, IsDue, AreDue, Renews, WillLook}
 use Rattle.param_table.specs.TableState.{SourceStands, ParamsFit, ParamsStand, IsStill, received_by}
 use Rattle.param_table.proofs.Chains.{is_past, past_fails}
 use Rattle.param_table.proofs.Sources.{not_even, takes_listens}
 use Rattle.param_table.proofs.Said.{start_stands, moment_stands, set_back_stands, word_stands, given_is, source_before-below}
 use Rattle.param_table.proofs.Told.{word_told, moment_told}
-use Rattle.param_table.proofs.ByRule.{rule-is, some_rule, no_rule, by_none, by_rule}
+use Rattle.param_table.proofs.ByRule.{rule-is, some_rule, no_rule, by_none, by_rule, mailbox_by_rule}
 use Rattle.param_table.proofs.Numbers.{number-within}
 use Rattle.param_table.proofs.Steps.{renews_none, will_look_at, still_given}
 use Rattle.param_table.proofs.Delivery.{routed_same}
@@ -63,6 +63,16 @@ mailbox_within params routing mailboxes routed q = by (source_at params q) refl 
       omega (arith, ap (λ o. option_map_or (λ (r : Rule). r.mailbox) o 0) rule, routed.count)
   by (Some s) there =
       omega (arith, routed.rules.mailbox q s (place_within params q s there) there, number-within params s.bus s.label (slot_of s.sdi) (3 * length params), routed.count)
+
+-- and the same in each table of the book
+same_mailbox : (params : List Parameter) (one two : List (Option Rule)) → AreRules params (3 * length params) one → AreRules params (3 * length params) two → (q : ℕ)
+    → mailbox_at one q ≡ mailbox_at two q
+same_mailbox params one two first second q = by (source_at params q) refl where
+  by : (o : Option Source) → source_at params q ≡ o → mailbox_at one q ≡ mailbox_at two q
+  by None none = no_mailbox one first ∙ sym (no_mailbox two second) where
+    no_mailbox : (rules : List (Option Rule)) → AreRules params (3 * length params) rules → mailbox_at rules q ≡ 0
+    no_mailbox rules are = ap (λ o. option_map_or (λ (r : Rule). r.mailbox) o 0) (no_rule params q (get_or rules q None) (rule-is params (3 * length params) rules are (omega arith) q) none)
+  by (Some s) there = let within = place_within params q s there in first.mailbox q s within there ∙ sym (second.mailbox q s within there)
 
 -- a place holds no fresh word by mailboxes that have none
 pub none_fresh : (rules : List (Option Rule)) (mailboxes : List Mailbox) → ((m : ℕ) → (get_or mailboxes m unused).after ≡ 0) → (q : ℕ) → (received_at rules mailboxes q).end ≡ 0
@@ -112,7 +122,7 @@ pub clock_back : (b : Book) (words : ℕ → List BusWord) (k : ℕ) (old new : 
 clock_back b words k old new fits full half routing same marks soon stands = record {
   fits = fits;
   sources = λ q s there. source q s there;
-  due = λ q fresh. omega (arith, soon q);
+  due = λ q fresh. omega (arith, soon (mailbox_at new.routing.rules.items.items q));
   unchanged = λ q s there off.
       given_is (parameter_with b.parameters q).kind (parameter_with b.parameters q).stale s words k new.clock (received_by new q) (source q s there)
       ∙ sym (given_is (parameter_with b.parameters q).kind (parameter_with b.parameters q).stale s words k old.clock (received_by old q) (stands.sources q s there))
@@ -147,14 +157,14 @@ clock_back b words k old new fits full half routing same marks soon stands = rec
       (subst (λ x. SourceStands stale s words k old.clock x) held (stands.sources q s there)))))
 
 -- one more moment begins: each word is looked at whose freshness ends with it
-pub will_look : (clock : ℕ) (x : ℕ → Received) (dues : List ℕ) → AreDue clock x dues → WillLook (suc clock) x dues
+pub will_look : (clock : ℕ) (x : ℕ → Received) (dues : ℕ → ℕ) → AreDue clock x dues → WillLook (suc clock) x dues
 will_look clock x dues due = record {
-  due = λ q. (will_look_at clock (x q) (slice_index dues q) (due q)).0;
-  ending = λ q. (will_look_at clock (x q) (slice_index dues q) (due q)).1;
+  due = λ q. (will_look_at clock (x q) (dues q) (due q)).0;
+  ending = λ q. (will_look_at clock (x q) (dues q) (due q)).1;
 }
 
 pub moment : (b : Book) (words : ℕ → List BusWord) (k : ℕ) (old new : Params) → ParamsFit b new → words (suc k) ≡ []
-    → new.clock ≡ suc old.clock → new.routing ≡ old.routing → new.held.mailboxes ≡ old.held.mailboxes → AreDue new.clock (received_by old) new.held.dues
+    → new.clock ≡ suc old.clock → new.routing ≡ old.routing → new.held.mailboxes ≡ old.held.mailboxes → AreDue new.clock (received_by old) (due_at old.routing.rules.items.items new.held.dues)
     → ((q : ℕ) → is_marked new.held.changed (q / 3) ≡ false → is_ending new.clock (received_by old q) ≡ false)
     → ((p : ℕ) → ((q : ℕ) → q / 3 ≡ p → is_ending new.clock (received_by old q) ≡ false) → is_marked new.held.changed p ≡ false)
     → ParamsStand b words k old → ParamsStand b words (suc k) new
@@ -234,7 +244,7 @@ back_fits b old new full half routing same marks dues fits = record {
       (λ m less. ap (λ l. (get_or l m unused).hearers) same ∙ ap (λ (x : Mailbox). x.hearers) (get_or-set_back old.held.mailboxes.items.items m)) fits.routed);
   held = record {
     room = ap room marks ∙ fits.held.room;
-    dues = dues ∙ fits.held.dues;
+    dues = dues ∙ fits.held.dues ∙ sym (ap length same ∙ length-map old.held.mailboxes.items.items set_back);
     early = λ m.
         let now : (get_or new.held.mailboxes.items.items m unused).after ≡ (get_or old.held.mailboxes.items.items m unused).after - 2 ^ 31 =
         ap (λ l. (get_or l m unused).after) same ∙ ap (λ (x : Mailbox). x.after) (get_or-set_back old.held.mailboxes.items.items m) in
@@ -252,7 +262,7 @@ copied-fits b was other new fits also routing clock words changed dues = record 
       (routed_same b.parameters was.routing was.held.mailboxes.items.items new.held.mailboxes.items.items words.count (λ m less. ap (λ (x : Mailbox). x.hearers) (words.each m less)) fits.routed);
   held = record {
     room = ap room changed ∙ also.held.room;
-    dues = ap length dues ∙ also.held.dues;
+    dues = ap length dues ∙ also.held.dues ∙ also.routed.count ∙ sym fits.routed.count ∙ sym words.count;
     early = λ m. elim (cases_lt m (length was.held.mailboxes.items.items)) [
       | inl within ↦ omega (arith, ap (λ (x : Mailbox). x.after) (words.each m within), also.held.early m)
       | inr past ↦ omega (arith, ap (λ (x : Mailbox). x.after) (get_or_past new.held.mailboxes.items.items m unused (omega (arith, past, words.count))))
@@ -267,7 +277,7 @@ pub copied : (b : Book) (words : ℕ → List BusWord) (k : ℕ) (was other new 
 copied b words k was other new fits routing clock copies changed dues stands = record {
   fits = copied-fits b was other new fits stands.fits routing clock copies changed dues;
   sources = λ q s there. subst (λ x. SourceStands (parameter_with b.parameters q).stale s words k new.clock x) (sym (held q)) (rw clock (stands.sources q s there));
-  due = λ q. subst (λ x. IsDue new.clock x (slice_index new.held.dues q)) (sym (held q)) (rw (clock, dues) (stands.due q));
+  due = λ q. subst (λ x. IsDue new.clock x (due_at (rules new) new.held.dues q)) (sym (held q)) (subst (IsDue new.clock (received_by other q)) (sym (due q)) (rw clock (stands.due q)));
   unchanged = λ q s there off.
       ap (λ x. given new.clock (parameter_with b.parameters q).kind s x) (held q) ∙ rw clock (stands.unchanged q s there (ap (λ m. is_marked m (q / 3)) (sym changed) ∙ off));
   told = λ j on. stands.told j (ap (λ m. is_marked m j) (sym changed) ∙ on);
@@ -278,7 +288,13 @@ copied b words k was other new fits routing clock copies changed dues stands = r
   each : (p : Params) → ParamsFit b p → (q : ℕ) → IsRule b.parameters q (get_or (rules p) q None)
   each p fit q = rule-is b.parameters (3 * length b.parameters) (rules p) fit.routed.rules (omega arith) q
 
-  -- a place has the same mailbox in both
+  place_same : (q : ℕ) → mailbox_at (rules was) q ≡ mailbox_at (rules other) q
+  place_same = same_mailbox b.parameters (rules was) (rules other) fits.routed.rules stands.fits.routed.rules
+
+  -- a place is looked at with the same mailbox in both, and holds the same by it
+  due : (q : ℕ) → due_at (rules new) new.held.dues q ≡ due_at (rules other) other.held.dues q
+  due q = ap (λ ds. due_at (rules new) ds q) dues ∙ ap (λ (t : Routing). due_at t.rules.items.items other.held.dues q) routing ∙ ap (slice_index other.held.dues) (place_same q)
+
   held : (q : ℕ) → received_by new q ≡ received_by other q
   held q = ap (λ (t : Routing). received_at t.rules.items.items new.held.mailboxes.items.items q) routing ∙ by (source_at b.parameters q) refl where
     by : (o : Option Source) → source_at b.parameters q ≡ o → received_at (rules was) new.held.mailboxes.items.items q ≡ received_by other q
@@ -288,15 +304,12 @@ copied b words k was other new fits routing clock copies changed dues stands = r
     by (Some s) there =
         let one = some_rule b.parameters q s (get_or (rules was) q None) (each was fits q) there in
         let two = some_rule b.parameters q s (get_or (rules other) q None) (each other stands.fits q) there in
-        let within = place_within b.parameters q s there in
-        let number = number_of b.parameters s.bus s.label (slot_of s.sdi) (3 * length b.parameters) in
-        let mailbox : one.0.mailbox ≡ number = sym (ap (λ o. option_map_or (λ (x : Rule). x.mailbox) o 0) one.1) ∙ fits.routed.rules.mailbox q s within there in
-        let also : two.0.mailbox ≡ number = sym (ap (λ o. option_map_or (λ (x : Rule). x.mailbox) o 0) two.1) ∙ stands.fits.routed.rules.mailbox q s within there in
-        let few : one.0.mailbox < length was.held.mailboxes.items.items =
-        omega (arith, mailbox, number-within b.parameters s.bus s.label (slot_of s.sdi) (3 * length b.parameters), fits.routed.count) in
+        let own = mailbox_by_rule (rules was) q one.0 one.1 in
+        let mailbox : one.0.mailbox ≡ two.0.mailbox = sym own ∙ place_same q ∙ mailbox_by_rule (rules other) q two.0 two.1 in
+        let few : one.0.mailbox < length was.held.mailboxes.items.items = omega (arith, own, mailbox_within b.parameters was.routing was.held.mailboxes.items.items fits.routed q) in
         by_rule (rules was) new.held.mailboxes.items.items q one.0 one.1
         ∙ ap (λ m. held_for m one.0.stale) (copies.each one.0.mailbox few)
-        ∙ ap (λ i. held_for (get_or other.held.mailboxes.items.items i unused) one.0.stale) (mailbox ∙ sym also)
+        ∙ ap (λ i. held_for (get_or other.held.mailboxes.items.items i unused) one.0.stale) mailbox
         ∙ ap (held_for (get_or other.held.mailboxes.items.items two.0.mailbox unused)) (one.2.stale ∙ sym two.2.stale)
         ∙ sym (by_rule (rules other) other.held.mailboxes.items.items q two.0 two.1)
 
@@ -317,23 +330,21 @@ passed-fits b p fits = record {
 }
 
 module _ (b : Book) (p : Params) (fits : ParamsFit b p) (still : IsStill p) where
-  never_ends : (clock : ℕ) → is_ending (clock + 1) nothing ≡ false
-  never_ends clock = grind (arith, nat_tests)
+  abbrev due : ℕ → ℕ
+  due = due_at p.routing.rules.items.items p.held.dues
 
-  none-ending : AreDue p.clock (received_by p) p.held.dues → (q : ℕ) → is_ending (p.clock + 1) (received_by p q) ≡ false
-  none-ending due q = elim (cases_lt q (length p.routing.rules.items.items)) [
-    | inl within ↦ elim (cases_Bool (is_ending (p.clock + 1) (received_by p q))) [
-      | inl on ↦ (
-          let comes : slice_index p.held.dues q ≤ suc p.clock = (will_look p.clock (received_by p) p.held.dues due).ending q (subst (λ t. is_ending t (received_by p q) ≡ true) (add-one p.clock) on) in
-          absurd (let w : ⊥ = (let later = still.dues q (omega (arith, within, fits.routed.rules.count, fits.held.dues)) in omega (arith, later, comes)) in w))
-      | inr off ↦ off
-    ]
-    | inr past ↦
-        ap (is_ending (p.clock + 1)) (by_none p.routing.rules.items.items p.held.mailboxes.items.items q (get_or_past p.routing.rules.items.items q None past)) ∙ never_ends p.clock
+  none-ending : AreDue p.clock (received_by p) due → (q : ℕ) → is_ending (p.clock + 1) (received_by p q) ≡ false
+  none-ending was q = elim (cases_Bool (is_ending (p.clock + 1) (received_by p q))) [
+    | inl on ↦ absurd (
+        let comes : due q ≤ suc p.clock = (will_look p.clock (received_by p) due was).ending q (subst (λ t. is_ending t (received_by p q) ≡ true) (add-one p.clock) on) in
+        let there = mailbox_within b.parameters p.routing p.held.mailboxes.items.items fits.routed q in
+        let later = still.dues (mailbox_at p.routing.rules.items.items q) (omega (arith, there, fits.held.dues)) in
+        let w : ⊥ = omega (arith, later, comes) in w)
+    | inr off ↦ off
   ]
 
   pub passed-stands : (words : ℕ → List BusWord) (k : ℕ) → words (suc k) ≡ [] → ParamsStand b words k p → ParamsStand b words (suc k) (passed p)
   passed-stands words k none stands =
-      let will : WillLook (p.clock + 1) (received_by p) p.held.dues = subst (λ t. WillLook t (received_by p) p.held.dues) (sym (add-one p.clock)) (will_look p.clock (received_by p) p.held.dues stands.due) in
+      let will : WillLook (p.clock + 1) (received_by p) due = subst (λ t. WillLook t (received_by p) due) (sym (add-one p.clock)) (will_look p.clock (received_by p) due stands.due) in
       moment b words k p (passed p) (passed-fits b p fits) none (add-one p.clock) refl refl will.due
       (λ q off. none-ending stands.due q) (λ j calm. still.none j) stands

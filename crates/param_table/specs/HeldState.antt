@@ -1,9 +1,9 @@
--- When each place of a table is looked at, and what words leave.
-use Rattle.std.specs.Prelude.{◌≡◌, ℕ, ◌+◌, ◌/◌, ◌<◌, ◌≤◌, true, false, List, length, get_or, slice_index, Option, Some, All}
+-- When each mailbox of a table is looked at, and what words leave.
+use Rattle.std.specs.Prelude.{◌≡◌, ℕ, ◌+◌, ◌/◌, ◌<◌, ◌≤◌, true, false, List, length, get_or, Option, Some, All}
 use Rattle.ecam_spec.specs.Book.{Source, Parameter}
 use Rattle.wakes.specs.Marks.{is_marked}
 use Rattle.book_model.specs.SourcePlaces.{parameter_with, source_at}
-use Rattle.param_table.specs.HeldValues.{unused, given, is_ending, received_at, hearers_of}
+use Rattle.param_table.specs.HeldValues.{unused, given, is_ending, held_for, received_at, due_at, hearers_of}
 use Rattle.param_table.specs.declared.received.Received.{Received}
 use Rattle.param_table.specs.declared.mailbox.Mailbox.{Mailbox}
 use Rattle.param_table.specs.declared.mailbox.Listener.{Listener}
@@ -14,11 +14,10 @@ use Rattle.param_table.specs.declared.held.Held.{Held}
 abbrev pub AreEarly : ℕ → List Mailbox → Type 0
 AreEarly clock mailboxes = (m : ℕ) → (get_or mailboxes m unused).after ≤ clock + 1
 
--- the listeners of a mailbox stand in the list, and belong to places and parameters of which there are so many
-pub record AreListed (listeners : List Listener) (place_count param_count : ℕ) (m : Mailbox) : Type 0 where
+-- the listeners of a mailbox stand in the list, and belong to parameters of which there are so many
+pub record AreListed (listeners : List Listener) (param_count : ℕ) (m : Mailbox) : Type 0 where
   pub order : m.hearers.first ≤ m.hearers.end
   pub within : m.hearers.end ≤ length listeners
-  pub places : All (λ (l : Listener). l.place < place_count) (hearers_of listeners m)
   pub params : All (λ (l : Listener). l.param < param_count) (hearers_of listeners m)
   pub soonest : All (λ (l : Listener). m.hearers.soonest ≤ l.stale) (hearers_of listeners m)
 
@@ -33,8 +32,13 @@ abbrev pub IsDue : ℕ → Received → ℕ → Type 0
 IsDue clock r key = clock < r.end → key ≤ r.end
 
 -- those that the places hold
-abbrev pub AreDue : ℕ → (ℕ → Received) → List ℕ → Type 0
-AreDue clock x dues = (q : ℕ) → IsDue clock (x q) (slice_index dues q)
+abbrev pub AreDue : ℕ → (ℕ → Received) → (ℕ → ℕ) → Type 0
+AreDue clock x dues = (q : ℕ) → IsDue clock (x q) (dues q)
+
+-- A mailbox is looked at next after now, and by the time when its word is no longer fresh for any listener for whom it is.
+pub record IsNextLook (clock : ℕ) (m : Mailbox) (hearers : List Listener) (due : ℕ) : Type 0 where
+  pub later : clock < due
+  pub each : All (λ (l : Listener). IsDue clock (held_for m l.stale) due) hearers
 
 -- Words came in a moment: what isn't marked wasn't, and gives what it gave; and each is looked at in time, if each was.
 pub record Renews (params : List Parameter) (rules : List (Option Rule)) (clock : ℕ) (old new : Held) : Type 0 where
@@ -42,9 +46,10 @@ pub record Renews (params : List Parameter) (rules : List (Option Rule)) (clock 
   pub gives : (q : ℕ) (s : Source) → source_at params q ≡ Some s → is_marked new.changed (q / 3) ≡ false
       → given clock (parameter_with params q).kind s (received_at rules new.mailboxes.items.items q)
       ≡ given clock (parameter_with params q).kind s (received_at rules old.mailboxes.items.items q)
-  pub due : AreDue clock (received_at rules old.mailboxes.items.items) old.dues → AreDue clock (received_at rules new.mailboxes.items.items) new.dues
+  pub due : AreDue clock (received_at rules old.mailboxes.items.items) (due_at rules old.dues)
+      → AreDue clock (received_at rules new.mailboxes.items.items) (due_at rules new.dues)
 
 -- A moment begins: each word whose freshness ends with it will be looked at, and the others in time.
-pub record WillLook (clock : ℕ) (x : ℕ → Received) (dues : List ℕ) : Type 0 where
+pub record WillLook (clock : ℕ) (x : ℕ → Received) (dues : ℕ → ℕ) : Type 0 where
   pub due : AreDue clock x dues
-  pub ending : (q : ℕ) → is_ending clock (x q) ≡ true → slice_index dues q ≤ clock
+  pub ending : (q : ℕ) → is_ending clock (x q) ≡ true → dues q ≤ clock

@@ -1,5 +1,5 @@
 -- What the parts of a table's calls answer, of which its contracts are made.
-use Rattle.std.specs.Prelude.{ℕ, ◌+◌, ◌-◌, ◌^◌, nat_lt, Bool, not, ◌&&◌, ◌||◌, ◌==◌, ℤ, List, [], ◌∷◌, get_or, set, slice_range, bit_and, bit_xor, Option, None, if◌then◌else◌}
+use Rattle.std.specs.Prelude.{ℕ, ◌+◌, ◌-◌, ◌^◌, nat_lt, Bool, not, ◌&&◌, ◌||◌, ◌==◌, ℤ, List, get_or, slice_index, slice_range, bit_and, bit_xor, Option, None, if◌then◌else◌}
 use Rattle.std.specs.Option.{option_and_then, option_or, option_map_or}
 use Rattle.ecam_spec.specs.declared.kinds.Kind.{Kind}
 use Rattle.ecam_spec.specs.Book.{Source}
@@ -41,7 +41,7 @@ renewed clock stale bits = record { bits = bits; end = clock + 1 + stale }
 abbrev pub is_ending : ℕ → Received → Bool
 is_ending clock r = r.end == clock
 
--- when a place is looked at next: when its word is no longer fresh
+-- when a word is looked at next: when it is no longer fresh
 abbrev pub next_look : ℕ → Received → ℕ
 next_look clock r = if nat_lt clock r.end then r.end else never
 
@@ -67,6 +67,10 @@ received_at rules mailboxes place =
 -- the mailbox of the source at a place, and 0 where there is no source
 abbrev pub mailbox_at : List (Option Rule) → ℕ → ℕ
 mailbox_at rules place = option_map_or (λ (r : Rule). r.mailbox) (get_or rules place None) 0
+
+-- when the source at a place is looked at: with its mailbox
+abbrev pub due_at : List (Option Rule) → List ℕ → ℕ → ℕ
+due_at rules dues place = slice_index dues (mailbox_at rules place)
 
 -- the word is fresh for each listener
 abbrev pub all_fresh : ℕ → Mailbox → Bool
@@ -97,8 +101,3 @@ says_same l old new = bit_and (bit_xor old new) l.mask == 0 || not (may_say l.mo
 -- the last word is fresh for the listener, and another says the same
 abbrev pub keeps_saying : ℕ → ℕ → Mailbox → Listener → Bool
 keeps_saying clock bits m l = nat_lt clock (held_for m l.stale).end && says_same l m.bits bits
-
--- the places of the listeners are looked at when a word that comes now is no longer fresh for them
-unfoldable pub put_off : ℕ → List Listener → List ℕ → List ℕ
-put_off clock [] dues = dues
-put_off clock (l ∷ ls) dues = put_off clock ls (set dues l.place (clock + 1 + l.stale))

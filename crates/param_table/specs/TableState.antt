@@ -13,7 +13,7 @@ use Rattle.ecam_spec.specs.Value.{BusWord, arrives, word_of, is_fresh, source_va
 use Rattle.wakes.specs.Marks.{is_marked, room}
 use Rattle.book_model.specs.SourcePlaces.{parameter_with, source_at}
 use Rattle.param_table.specs.Routes.{AreRouted}
-use Rattle.param_table.specs.HeldValues.{given, received_at}
+use Rattle.param_table.specs.HeldValues.{given, received_at, due_at}
 use Rattle.param_table.specs.HeldState.{AreDue, AreEarly}
 use Rattle.param_table.specs.declared.received.Received.{Received}
 use Rattle.param_table.specs.declared.held.Held.{Held}
@@ -47,10 +47,10 @@ pub record SourceStands (stale : ℕ) (s : Source) (words : ℕ → List BusWord
   pub says : clock < r.end → word_of s words k ≡ Some r.bits
   pub left : r.end - clock ≡ option_map_or (λ m. m + stale + 1 - k) (last (arrives s words) k) 0
 
--- There is room for each parameter and each place, and no word came later than now.
+-- There is room for each parameter, and a time at which each mailbox is looked at, and no word came later than now.
 pub record HeldFits (params : List Parameter) (clock : ℕ) (h : Held) : Type 0 where
   pub room : room h.changed ≡ 64 * (length params / 64 + 1)
-  pub dues : length h.dues ≡ 3 * length params
+  pub dues : length h.dues ≡ length h.mailboxes.items.items
   pub early : AreEarly clock h.mailboxes.items.items
 
 -- what the source at a place of the table holds
@@ -68,13 +68,13 @@ pub record ParamsStand (b : Book) (words : ℕ → List BusWord) (k : ℕ) (p : 
   pub fits : ParamsFit b p
   pub sources : (q : ℕ) (s : Source) → source_at b.parameters q ≡ Some s
       → SourceStands (parameter_with b.parameters q).stale s words k p.clock (received_by p q)
-  pub due : AreDue p.clock (received_by p) p.held.dues
+  pub due : AreDue p.clock (received_by p) (due_at p.routing.rules.items.items p.held.dues)
   pub unchanged : (q : ℕ) (s : Source) → source_at b.parameters q ≡ Some s → is_marked p.held.changed (q / 3) ≡ false
       → given p.clock (parameter_with b.parameters q).kind s (received_by p q)
       ≡ source_before (parameter_with b.parameters q).kind (parameter_with b.parameters q).stale s words k
   pub told : (j : ℕ) → is_marked p.held.changed j ≡ true → MayDiffer (parameter_at b j) words k
 
--- nothing of the table changes with the end of the moment but its clock: no parameter is marked, and no place is looked at
+-- nothing of the table changes with the end of the moment but its clock: no parameter is marked, and no mailbox is looked at
 pub record IsStill (p : Params) : Type 0 where
   pub clock : p.clock < 2 ^ 32 - 1
   pub dues : (q : ℕ) → q < length p.held.dues → p.clock + 1 < slice_index p.held.dues q

@@ -1,13 +1,18 @@
 // What the mailboxes of a book hold, and which parameters may have another value by it.
-ghost use Rattle.std.specs.Prelude.{◌≡◌, ℕ, ◌/◌, ◌<◌, ◌≤◌, ◌==◌, ◌&&◌, ◌||◌, ◌+◌, ◌^◌, not, false, List, length, map, slice_index, slice_index_or, slice_set, All, if◌then◌else◌};
+ghost use Rattle.std.specs.Prelude.{◌≡◌, ℕ, ◌/◌, ◌<◌, ◌≤◌, ◌==◌, ◌&&◌, ◌||◌, ◌+◌, ◌^◌, not, false, length, map, slice_index, slice_index_or, slice_set, All, if◌then◌else◌};
 ghost use Rattle.std.specs.List.{list_any};
+ghost use Rattle.book_model.specs.Sealed.{the_book};
 ghost use Rattle.wakes.specs.Marks.{is_marked, room};
-ghost use Rattle.param_table.specs.HeldValues.{all_fresh, delivered, emptied, hearers_of, is_ending, keeps_saying, mailbox_at, next_look, put_off, received_at, says_same, unused};
-ghost use Rattle.param_table.specs.HeldState.{AreDue, AreEarly, AreListed, CopiedWords, WillLook};
+ghost use Rattle.param_table.specs.HeldValues.{all_fresh, delivered, due_at, emptied, held_for, hearers_of, is_ending, keeps_saying, mailbox_at, received_at, says_same, unused};
+ghost use Rattle.param_table.specs.HeldState.{AreDue, AreEarly, AreListed, CopiedWords, IsNextLook, WillLook};
+ghost use Rattle.param_table.specs.Routes.{AreRouted};
+ghost use Rattle.param_table.specs.TableState.{HeldFits};
 
 use crate::mailbox::{Listener, Mailbox, all_fresh, held_for, says_same};
-use crate::received::{Received, is_ending, is_fresh, next_look};
+use crate::received::{NEVER, Received, is_ending, is_fresh, next_look};
+use crate::routing::Routing;
 use crate::rules::Rule;
+use book_model::Book;
 use std::boxed::BoxedSlice;
 use wakes::{Marked, Wakes};
 
@@ -18,20 +23,20 @@ pub struct Held {
     pub mailboxes: BoxedSlice<Mailbox>,
     /// The parameters of which a source gave something else since the moment before.
     pub changed: Marked,
-    /// By place of a source when it is looked at: no later than when its word is no longer fresh.
+    /// By mailbox when it is looked at: no later than when its word is no longer fresh for one for whom it is.
     pub dues: Wakes,
 }
 
 impl Held {
     /// A word comes to a mailbox. The parameters of its listeners are marked for which the word before isn't fresh or said
     /// something else. Its cost is one write where the word before is fresh for all and has the same bits, and a look and a
-    /// mark a listener where it has others. Where it isn't fresh for all, each listener is looked at when this one ends to be
-    /// fresh for it.
+    /// mark a listener where it has others. Where it isn't fresh for all, the mailbox is looked at when this one ends to be.
     #[inline(always)]
     pub fn deliver(&mut self, listeners: &[Listener], clock: u32, mailbox: usize, bits: u32)
         requires mailbox { mailbox < length self.old.mailboxes.items.items }
         requires early { AreEarly clock self.old.mailboxes.items.items }
-        requires listed { AreListed listeners.now (length self.old.dues) (room self.old.changed)
+        requires dues { mailbox < length self.old.dues }
+        requires listed { AreListed listeners.now (room self.old.changed)
             (slice_index_or self.old.mailboxes.items.items mailbox unused) }
         ensures mailboxes { self.new.mailboxes.items.items
             ≡ slice_set self.old.mailboxes.items.items mailbox (delivered clock bits
@@ -46,8 +51,8 @@ impl Held {
         ensures dues { self.new.dues ≡ (if all_fresh clock
             (slice_index_or self.old.mailboxes.items.items mailbox unused)
             then self.old.dues
-            else put_off clock (hearers_of listeners.now
-            (slice_index_or self.old.mailboxes.items.items mailbox unused)) self.old.dues) }
+            else slice_set self.old.dues mailbox (clock + 1
+            + (slice_index_or self.old.mailboxes.items.items mailbox unused).hearers.soonest)) }
     {
         let before = self.mailboxes[mailbox];
         let now = &mut self.mailboxes[mailbox];
@@ -56,7 +61,8 @@ impl Held {
         if !all_fresh(before, clock) {
             let hearers = &listeners[before.hearers.first..before.hearers.end];
             mark_begun(&mut self.changed, hearers, before, clock, bits);
-            put_off(&mut self.dues, hearers, clock);
+            let end = u64::from(clock) + 1 + u64::from(before.hearers.soonest);
+            self.dues.set(mailbox, end);
         } else if before.bits != bits {
             let hearers = &listeners[before.hearers.first..before.hearers.end];
             mark_turned(&mut self.changed, hearers, before.bits, bits);
@@ -102,55 +108,67 @@ impl Held {
         self.changed.clear();
     }
 
-    /// Looks at the places whose words may be fresh no more, and marks the parameters where one ends to be.
+    /// Looks at the mailboxes whose words may end to be fresh for one who listens, and marks the parameters where one does.
     #[inline(always)]
-    pub fn look_at_due(&mut self, rules: &[Option<Rule>], clock: u32)
+    pub fn look_at_due(&mut self, _book: &Book, routing: &Routing, clock: u32)
         requires later { 0 < clock }
-        requires early { AreEarly clock self.old.mailboxes.items.items }
-        requires dues { length self.old.dues ≡ length rules.now }
-        requires mailboxes { (q : ℕ) → mailbox_at rules.now q
-            < length self.old.mailboxes.items.items }
-        requires room { (q : ℕ) → q < length self.old.dues → q / 3 < room self.old.changed }
+        requires routed { AreRouted (the_book _book.now).parameters routing.now
+            self.old.mailboxes.items.items }
+        requires fits { HeldFits (the_book _book.now).parameters clock self.old }
         ensures mailboxes { self.new.mailboxes ≡ self.old.mailboxes }
         ensures room { room self.new.changed ≡ room self.old.changed }
         ensures dues { length self.new.dues ≡ length self.old.dues }
-        ensures due { WillLook clock (received_at rules.now self.old.mailboxes.items.items)
-            self.old.dues
-            → AreDue clock (received_at rules.now self.old.mailboxes.items.items) self.new.dues }
-        ensures marks { WillLook clock (received_at rules.now self.old.mailboxes.items.items)
-            self.old.dues
+        ensures due { WillLook clock
+            (received_at routing.now.rules.items.items self.old.mailboxes.items.items)
+            (due_at routing.now.rules.items.items self.old.dues)
+            → AreDue clock
+            (received_at routing.now.rules.items.items self.old.mailboxes.items.items)
+            (due_at routing.now.rules.items.items self.new.dues) }
+        ensures marks { WillLook clock
+            (received_at routing.now.rules.items.items self.old.mailboxes.items.items)
+            (due_at routing.now.rules.items.items self.old.dues)
             → (q : ℕ) → is_marked self.new.changed (q / 3) ≡ false
-            → is_ending clock (received_at rules.now self.old.mailboxes.items.items q) ≡ false }
-        ensures others { (p : ℕ) → is_marked self.old.changed p ≡ false
-            → ((q : ℕ) → q / 3 ≡ p
-            → is_ending clock (received_at rules.now self.old.mailboxes.items.items q) ≡ false)
+            → is_ending clock (received_at routing.now.rules.items.items
+            self.old.mailboxes.items.items q) ≡ false }
+        ensures others { (p : ℕ) → is_marked self.old.changed p ≡ false → ((q : ℕ) → q / 3 ≡ p
+            → is_ending clock (received_at routing.now.rules.items.items
+            self.old.mailboxes.items.items q) ≡ false)
             → is_marked self.new.changed p ≡ false }
     {
-        while let Some(place) = self.dues.take(u64::from(clock)) {
-            self.look(rules, clock, place);
+        while let Some(mailbox) = self.dues.take(u64::from(clock)) {
+            self.look(&routing.listeners, clock, mailbox);
         }
     }
 
-    // Looks at a place: its word is fresh for longer, or ends to be with this moment, or did before.
-    fn look(&mut self, rules: &[Option<Rule>], clock: u32, place: usize)
-        requires place { place < length rules.now }
-        requires mailbox { mailbox_at rules.now place < length self.old.mailboxes.items.items }
+    // Looks at a mailbox: its word is fresh for all, or ends to be for some with this moment, or did before.
+    fn look(&mut self, listeners: &[Listener], clock: u32, mailbox: usize)
+        requires mailbox { mailbox < length self.old.mailboxes.items.items }
         requires early { AreEarly clock self.old.mailboxes.items.items }
-        requires dues { place < length self.old.dues }
-        requires room { place / 3 < room self.old.changed }
+        requires dues { mailbox < length self.old.dues }
+        requires listed { AreListed listeners.now (room self.old.changed)
+            (slice_index_or self.old.mailboxes.items.items mailbox unused) }
         ensures mailboxes { self.new.mailboxes ≡ self.old.mailboxes }
         ensures room { room self.new.changed ≡ room self.old.changed }
-        ensures dues { self.new.dues ≡ slice_set self.old.dues place
-            (next_look clock (received_at rules.now self.old.mailboxes.items.items place)) }
-        ensures marks { (p : ℕ) → is_marked self.new.changed p ≡ ((is_ending clock
-            (received_at rules.now self.old.mailboxes.items.items place) && p == place / 3)
+        ensures dues { (due : ℕ) × (self.new.dues ≡ slice_set self.old.dues mailbox due)
+            × IsNextLook clock (slice_index_or self.old.mailboxes.items.items mailbox unused)
+            (hearers_of listeners.now
+            (slice_index_or self.old.mailboxes.items.items mailbox unused)) due }
+        ensures marks { (p : ℕ) → is_marked self.new.changed p ≡ (list_any (λ l. p == l.param
+            && is_ending clock (held_for
+            (slice_index_or self.old.mailboxes.items.items mailbox unused) l.stale))
+            (hearers_of listeners.now
+            (slice_index_or self.old.mailboxes.items.items mailbox unused))
             || is_marked self.old.changed p) }
     {
-        let received = received_at(rules, &self.mailboxes, clock, place);
-        if is_ending(received, clock) {
-            self.changed.mark(place / 3);
+        let looked = self.mailboxes[mailbox];
+        if all_fresh(looked, clock) {
+            let end = held_for(looked, looked.hearers.soonest).end;
+            self.dues.set(mailbox, end);
+            return;
         }
-        self.dues.set(place, next_look(received, clock));
+        let hearers = &listeners[looked.hearers.first..looked.hearers.end];
+        let next = mark_ending(&mut self.changed, hearers, looked, clock);
+        self.dues.set(mailbox, next);
     }
 }
 
@@ -206,32 +224,35 @@ fn mark_begun(changed: &mut Marked, listeners: &[Listener], before: Mailbox, clo
     }
 }
 
-// A word comes: each listener is looked at when that is no longer fresh for it.
+// Marks the parameters of those for whom the word ends to be fresh with this moment, and answers when the mailbox is looked at
+// next: when the word is no longer fresh for the first of those for whom it still is.
 #[inline(never)]
-fn put_off(dues: &mut Wakes, listeners: &[Listener], clock: u32)
-    requires { All (λ l. l.place < length dues.old) listeners.now }
-    ensures { dues.new ≡ put_off clock listeners.now dues.old }
+fn mark_ending(changed: &mut Marked, listeners: &[Listener], mailbox: Mailbox, clock: u32) -> u64
+    requires early { mailbox.after ≤ 2 ^ 32 }
+    requires params { All (λ l. l.param < room changed.old) listeners.now }
+    ensures next { IsNextLook clock mailbox listeners.now result }
+    ensures room { room changed.new ≡ room changed.old }
+    ensures marks { (p : ℕ) → is_marked changed.new p ≡ (list_any (λ l. p == l.param
+        && is_ending clock (held_for mailbox l.stale)) listeners.now
+        || is_marked changed.old p) }
 {
+    let mut next = NEVER;
     for i in 0..listeners.len() {
         let listener = listeners[i];
-        dues.set(usize::from(listener.place), end_from(clock, listener.stale));
+        let received = held_for(mailbox, listener.stale);
+        changed.mark_if(usize::from(listener.param), is_ending(received, clock));
+        next = next.min(next_look(received, clock));
     }
+    next
 }
 
-// The first time at which a word that comes now is no longer fresh.
-fn end_from(clock: u32, stale: u32) -> u64
-    ensures { result ≡ clock + 1 + stale }
-{
-    u64::from(clock) + 1 + u64::from(stale)
-}
-
-/// Each place is looked at in the next moment.
+/// Each mailbox is looked at in the next moment.
 pub fn look_soon(dues: &mut Wakes, count: usize)
     requires { length dues.old ≡ count }
     ensures count { length dues.new ≡ count }
     ensures soon { (q : ℕ) → slice_index dues.new q ≡ 0 }
 {
-    for place in 0..count {
-        dues.set(place, 0);
+    for mailbox in 0..count {
+        dues.set(mailbox, 0);
     }
 }

@@ -6,7 +6,7 @@ ghost use Rattle.param_table.specs.HeldValues.{is_ending, next_look};
 pub const HALF: u32 = 0x8000_0000;
 
 /// The time of what is never looked at.
-const NEVER: u64 = u64::MAX;
+pub const NEVER: u64 = u64::MAX;
 
 /// The last word that a source took, and the first time by the clock at which it is no longer fresh, which is 0 where no
 /// word came.
@@ -31,7 +31,7 @@ pub fn is_ending(received: Received, clock: u32) -> bool
     received.end == u64::from(clock)
 }
 
-/// When a place is looked at next: when its word is no longer fresh, else never.
+/// When a word is looked at next: when it is no longer fresh, else never.
 pub fn next_look(received: Received, clock: u32) -> u64
     ensures { result ≡ next_look clock received }
 {

@@ -40,7 +40,7 @@ impl Params {
         let (routing, mailboxes) = routing_of(alloc, book)?;
         let params = book.params();
         let changed = Marked::new(alloc, params.len())?;
-        let dues = Wakes::new(alloc, 3 * params.len())?;
+        let dues = Wakes::new(alloc, mailboxes.len())?;
         Ok(Params {
             clock: 0,
             held: Held {
@@ -52,8 +52,8 @@ impl Params {
         })
     }
 
-    /// Forgets all words and moments. Its cost is a write a mailbox, of which there is one for all sources of a bus, a label and
-    /// an SDI, and a few a source.
+    /// Forgets all words and moments. Its cost is a few writes a mailbox, of which there is one for all sources of a bus, a label
+    /// and an SDI, and a write for each 64 parameters.
     pub fn clear(&mut self)
         ensures fits { (b : plain.Book) → ParamsFit b self.old → ParamsFit b self.new }
         ensures stands { (b : plain.Book) (words : ℕ → List BusWord) → ParamsFit b self.old
@@ -66,8 +66,8 @@ impl Params {
         self.held.dues.clear();
     }
 
-    /// Takes over the words and the moments of another table of the same book. Its cost is two writes a mailbox, of which there
-    /// is one for all sources of a bus, a label and an SDI, and a few a source.
+    /// Takes over the words and the moments of another table of the same book. Its cost is a few writes a mailbox, of which there
+    /// is one for all sources of a bus, a label and an SDI, and a write for each 64 parameters.
     pub fn copy_from(&mut self, other: &Params)
         requires { (b : plain.Book) × ParamsFit b self.old × ParamsFit b other.now }
         ensures fits { (b : plain.Book) → ParamsFit b self.old → ParamsFit b other.now
@@ -117,9 +117,9 @@ impl Params {
         book.last_listener(bus, bits).is_some()
     }
 
-    /// The moment ends. What is fresh is told by the clock, so that a Tick costs a look at the sources whose freshness
-    /// may end with it, one at each of the others in 63 moments, and a write for each 64 parameters; but the first and one
-    /// in 2^31 cost a few writes a source.
+    /// The moment ends. What is fresh is told by the clock, so that a Tick costs a look at the mailboxes whose words may end to
+    /// be fresh for one who listens, and one at each of its listeners where one does; one at each other mailbox in 63 moments;
+    /// and a write for each 64 parameters; but the first and one in 2^31 cost a few writes a mailbox.
     #[inline(always)]
     pub fn tick(&mut self, _book: &Book)
         requires { ParamsFit (the_book _book.now) self.old }
@@ -133,12 +133,12 @@ impl Params {
         }
         self.clock += 1;
         self.held.forget_changes();
-        self.held.look_at_due(&self.routing.rules, self.clock);
+        self.held.look_at_due(_book, &self.routing, self.clock);
     }
 
     /// Whether it is known that the end of the moment changes nothing but the clock: no parameter may have another value than
     /// in the moment before, and the freshness of no word may end with this one. Its cost is three looks, and at most one
-    /// more for each 64 parameters; where sources wait for the moment, also one for each 64 and one at each that waits.
+    /// more for each 64 parameters; where mailboxes wait for the moment, also one for each 64 and one at each that waits.
     #[inline(always)]
     pub fn is_still(&self, _book: &Book) -> bool
         requires { ParamsFit (the_book _book.now) self.now }
@@ -154,7 +154,7 @@ impl Params {
             && self.held.changed.first_from(0).is_none()
     }
 
-    /// The moment ends like by `tick`, where nothing but the clock changes. Its cost is two writes; where sources wait for
+    /// The moment ends like by `tick`, where nothing but the clock changes. Its cost is two writes; where mailboxes wait for
     /// the moment, also a look for each 64 and a few writes for each that waits.
     #[inline(always)]
     pub fn pass(&mut self, _book: &Book)
@@ -244,11 +244,12 @@ impl Params {
         reading(rule.kind, &rule.source, &Word::new(received.bits))
     }
 
-    // Sets the clock back by half of what it can show, with the times of the words. Each place is looked at soon.
+    // Sets the clock back by half of what it can show, with the times of the words. Each mailbox is looked at soon.
     #[inline(never)]
     fn set_clock_back(&mut self)
         requires clock { self.old.clock ≡ 2 ^ 32 - 1 }
-        requires count { length self.old.held.dues ≡ length self.old.routing.rules.items.items }
+        requires count { length self.old.held.dues
+            ≡ length self.old.held.mailboxes.items.items }
         ensures clock { self.new.clock ≡ 2 ^ 31 - 1 }
         ensures routing { self.new.routing ≡ self.old.routing }
         ensures changed { self.new.held.changed ≡ self.old.held.changed }
@@ -258,10 +259,10 @@ impl Params {
         ensures soon { (q : ℕ) → slice_index self.new.held.dues q ≡ 0 }
     {
         self.clock -= HALF;
+        let count = self.held.mailboxes.len();
+        look_soon(&mut self.held.dues, count);
         for mailbox in self.held.mailboxes.iter_mut() {
             *mailbox = set_back(*mailbox);
         }
-        let count = self.routing.rules.len();
-        look_soon(&mut self.held.dues, count);
     }
 }

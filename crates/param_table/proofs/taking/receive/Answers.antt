@@ -1,4 +1,4 @@
-use Rattle.std.proofs.Common.{◌≡◌, ℕ, ◌+◌, ◌*◌, ◌<◌, ◌==◌, ◌&&◌, ◌||◌, not, cond, length, get_or, List, Option, sym, ap, subst, ◌∙◌, arith}
+use Rattle.std.proofs.Common.{◌≡◌, ℕ, ◌+◌, ◌*◌, ◌<◌, ◌==◌, ◌&&◌, ◌||◌, not, cond, length, get_or, set, List, Option, sym, ap, subst, ◌∙◌, arith}
 use Rattle.std.specs.List.{list_any}
 use Rattle.std.proofs.lemmas.Bool.{false≢true}
 use Rattle.std.proofs.lemmas.List.{length-set}
@@ -11,12 +11,13 @@ use Rattle.param_table.specs.declared.held.Held.{Held}
 use Rattle.param_table.specs.declared.mailbox.Mailbox.{Mailbox}
 use Rattle.param_table.specs.declared.mailbox.Listener.{Listener}
 use Rattle.param_table.specs.declared.rules.Rule.{Rule}
-use Rattle.param_table.specs.HeldValues.{all_fresh, delivered, hearers_of, keeps_saying, put_off, received_at, unused}
+use Rattle.param_table.specs.HeldValues.{all_fresh, delivered, hearers_of, keeps_saying, received_at, unused}
 use Rattle.param_table.specs.HeldState.{AreListed, Renews}
 use Rattle.param_table.specs.Routes.{AreRouted}
 use Rattle.param_table.specs.TableState.{HeldFits}
 use Rattle.param_table.proofs.Steps.{renews_both}
-use Rattle.param_table.proofs.Delivery.{are_listed, delivered_routed, delivered_fits, delivered_renews, delivered_others, held-other, held-own, held-none}
+use Rattle.param_table.proofs.Hearers.{are_listed}
+use Rattle.param_table.proofs.Delivery.{delivered_routed, delivered_fits, delivered_renews, delivered_others, held-other, held-own, held-none}
 use Rattle.param_table.proofs.Receiving.{any_read, named_read, any_within, named_within, any_takes, named_takes, routes_there, received_twice, sdi-few}
 use Rattle.param_table.proofs.taking.receive.Goals as goal
 use Rattle.param_table.proofs.taking.receive.Goals.{After-deref, After-deliver, After-deref-2, After-deliver-2}
@@ -61,8 +62,11 @@ deliver-requires-clause-mailbox c = any-there c
 
 pub deliver-requires-clause-listed : goal.deliver-requires-clause-listed
 deliver-requires-clause-listed c =
-    subst (λ ls. AreListed ls (length c.args.held.now.dues) (room c.args.held.now.changed) (get_or (boxes c) c.from-any.result unused)) (sym c.deref.ensures.value)
-    (are_listed (params c) c.args.routing.now c.args.clock c.from-any.result c.args.bits c.args.held.now c.args.held.now c.requires.sound c.requires.routed c.requires.fits (any-there c))
+    subst (λ ls. AreListed ls (room c.args.held.now.changed) (get_or (boxes c) c.from-any.result unused)) (sym c.deref.ensures.value)
+    (are_listed (params c) c.args.routing.now (boxes c) c.from-any.result c.requires.routed (any-there c) (room c.args.held.now.changed) (omega (arith, c.requires.fits.room)))
+
+pub deliver-requires-clause-dues : goal.deliver-requires-clause-dues
+deliver-requires-clause-dues c = omega (arith, any-there c, c.requires.fits.dues)
 
 -- the first delivery
 module _ (c : After-deliver) where
@@ -84,8 +88,8 @@ module _ (c : After-deliver) where
       ≡ (list_any (λ (l : Listener). p == l.param && not (keeps_saying c.args.clock c.args.bits (get_or (boxes b) one unused) l)) (hearers_of ls (get_or (boxes b) one unused)) || is_marked was.changed p))
       c.deref.ensures.value (c.deliver.ensures.marks p)
 
-  dues-mid : mid.dues ≡ cond (all_fresh c.args.clock (get_or (boxes b) one unused)) was.dues (put_off c.args.clock (hearers_of c.args.routing.now.listeners.items.items (get_or (boxes b) one unused)) was.dues)
-  dues-mid = subst (λ ls. mid.dues ≡ cond (all_fresh c.args.clock (get_or (boxes b) one unused)) was.dues (put_off c.args.clock (hearers_of ls (get_or (boxes b) one unused)) was.dues)) c.deref.ensures.value c.deliver.ensures.dues
+  dues-mid : mid.dues ≡ cond (all_fresh c.args.clock (get_or (boxes b) one unused)) was.dues (set was.dues one (c.args.clock + 1 + (get_or (boxes b) one unused).hearers.soonest))
+  dues-mid = c.deliver.ensures.dues
 
   routed-mid : AreRouted (params b) c.args.routing.now mid.mailboxes.items.items
   routed-mid = delivered_routed (params b) c.args.routing.now c.args.clock one c.args.bits was mid c.requires.sound c.requires.routed c.requires.fits (any-there b) c.deliver.ensures.mailboxes c.deliver.ensures.room marks-mid dues-mid
@@ -105,8 +109,13 @@ deliver-requires-2-clause-mailbox c = named-mid c.before.before
 pub deliver-requires-2-clause-listed : goal.deliver-requires-2-clause-listed
 deliver-requires-2-clause-listed c =
     let d : After-deliver = c.before.before in
-    subst (λ ls. AreListed ls (length (mid d).dues) (room (mid d).changed) (get_or (mid d).mailboxes.items.items c.from-named.result unused)) (sym c.deref-2.ensures.value)
-    (are_listed (params (b d)) c.args.routing.now c.args.clock c.from-named.result c.args.bits (mid d) (mid d) c.requires.sound (routed-mid d) (fits-mid d) (named-mid d))
+    subst (λ ls. AreListed ls (room (mid d).changed) (get_or (mid d).mailboxes.items.items c.from-named.result unused)) (sym c.deref-2.ensures.value)
+    (are_listed (params (b d)) c.args.routing.now (mid d).mailboxes.items.items c.from-named.result (routed-mid d) (named-mid d) (room (mid d).changed) (omega (arith, (fits-mid d).room)))
+
+pub deliver-requires-2-clause-dues : goal.deliver-requires-2-clause-dues
+deliver-requires-2-clause-dues c =
+    let d : After-deliver = c.before.before in
+    omega (arith, named-mid d, (fits-mid d).dues)
 
 -- the second
 module _ (c : After-deliver-2) where
@@ -134,8 +143,8 @@ module _ (c : After-deliver-2) where
       ≡ (list_any (λ (l : Listener). p == l.param && not (keeps_saying c.args.clock c.args.bits box l)) (hearers_of ls box) || is_marked middle.changed p))
       c.deref-2.ensures.value (c.deliver-2.ensures.marks p)
 
-  dues-new : new.dues ≡ cond (all_fresh c.args.clock box) middle.dues (put_off c.args.clock (hearers_of c.args.routing.now.listeners.items.items box) middle.dues)
-  dues-new = subst (λ ls. new.dues ≡ cond (all_fresh c.args.clock box) middle.dues (put_off c.args.clock (hearers_of ls box) middle.dues)) c.deref-2.ensures.value c.deliver-2.ensures.dues
+  dues-new : new.dues ≡ cond (all_fresh c.args.clock box) middle.dues (set middle.dues two (c.args.clock + 1 + box.hearers.soonest))
+  dues-new = c.deliver-2.ensures.dues
 
   abbrev rules : List (Option Rule)
   rules = c.args.routing.now.rules.items.items

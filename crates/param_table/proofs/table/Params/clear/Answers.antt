@@ -1,4 +1,4 @@
-use Rattle.std.proofs.Common.{◌≡◌, ℕ, length, get_or, ap, ◌∙◌, arith}
+use Rattle.std.proofs.Common.{◌≡◌, ℕ, length, get_or, sym, ap, ◌∙◌, arith}
 use Rattle.std.proofs.lemmas.List.{length-replicate, length-map}
 use Rattle.ecam_spec.specs.Book.{Book}
 use Rattle.wakes.specs.Marks.{room}
@@ -21,15 +21,17 @@ cleared c = record {
 empty : (c : After-clear-2) (m : ℕ) → get_or (cleared c).held.mailboxes.items.items m unused ≡ emptied (get_or c.args.self.now.held.mailboxes.items.items m unused)
 empty c m = ap (λ l. get_or l m unused) c.forget_words.ensures.mailboxes ∙ get_or-emptied c.args.self.now.held.mailboxes.items.items m
 
+many : (c : After-clear-2) → length (cleared c).held.mailboxes.items.items ≡ length c.args.self.now.held.mailboxes.items.items
+many c = ap length c.forget_words.ensures.mailboxes ∙ length-map c.args.self.now.held.mailboxes.items.items emptied
+
 kept : (c : After-clear-2) (b : Book) → ParamsFit b c.args.self.now → ParamsFit b (cleared c)
 kept c b fits = record {
   sound = fits.sound;
   routed = routed_same b.parameters c.args.self.now.routing c.args.self.now.held.mailboxes.items.items (cleared c).held.mailboxes.items.items
-      (ap length c.forget_words.ensures.mailboxes ∙ length-map c.args.self.now.held.mailboxes.items.items emptied)
-      (λ m less. ap (λ (x : Mailbox). x.hearers) (empty c m)) fits.routed;
+      (many c) (λ m less. ap (λ (x : Mailbox). x.hearers) (empty c m)) fits.routed;
   held = record {
     room = c.clear.ensures.room ∙ ap room c.forget_words.ensures.changed ∙ fits.held.room;
-    dues = ap length c.clear-2.ensures ∙ length-replicate _ _ ∙ ap length c.forget_words.ensures.dues ∙ fits.held.dues;
+    dues = ap length c.clear-2.ensures ∙ length-replicate _ _ ∙ ap length c.forget_words.ensures.dues ∙ fits.held.dues ∙ sym (many c);
     early = λ m. omega (arith, ap (λ (x : Mailbox). x.after) (empty c m));
   };
 }
