@@ -1,12 +1,10 @@
 // What a lane keeps of its book before anything happened, but for the conditions.
-ghost use Rattle.std.specs.Prelude.{◌≡◌, ℕ, List, [], length, None, replicate, IfOk};
+ghost use Rattle.std.specs.Prelude.{◌≡◌, ℕ, length, None, replicate, IfOk};
 ghost use Rattle.ecam_spec.specs.BookTerms.{lines_of};
-ghost use Rattle.ecam_spec.specs.Value.{BusWord};
 ghost use Rattle.ecam_spec.specs.Past.{Signal};
 ghost use Rattle.ecam_spec.specs.Crew.{Cockpit};
 ghost use Rattle.ecam_spec.specs.Lamps as lamps;
 ghost use Rattle.book_model.specs.Sealed.{the_book};
-ghost use Rattle.param_table.specs.TableState.{ParamsFit, ParamsStand};
 ghost use Rattle.alert_truth.specs.TruthsState.{TruthsFit, TruthsStand};
 ghost use Rattle.crew_marks.specs.MarksState.{MarksFit, MarksStand};
 ghost use Rattle.attention.specs.State.{AttentionFits, AttentionStands};
@@ -15,7 +13,6 @@ use alert_truth::Truths;
 use attention::Attention;
 use book_model::Book;
 use crew_marks::Marks;
-use param_table::Params;
 use std::alloc::{AllocError, Global};
 
 /// The values of the parameters, of which none has one, and the flags of the parameters, of the procedure lines and of the
@@ -54,27 +51,8 @@ fn crew_of(alloc: Global, book: &Book) -> Result<(Marks, Attention), AllocError>
     Ok((marks, attention))
 }
 
-// The table of the parameters, and what is told of the alerts.
-fn inputs_of(alloc: Global, book: &Book) -> Result<(Params, Truths), AllocError>
-    ensures params_fit { IfOk result (λ r. ParamsFit (the_book book.now) r.0) }
-    ensures params_stand { IfOk result (λ r. (words : ℕ → List BusWord) → words 0 ≡ []
-        → ParamsStand (the_book book.now) words 0 r.0) }
-    ensures truths_fit { IfOk result (λ r. TruthsFit (the_book book.now) r.1) }
-    ensures truths_stand { IfOk result (λ r. (conditions : ℕ → Signal) (phases : ℕ → ℕ)
-        → TruthsStand (the_book book.now) conditions phases 0 r.1) }
-    ensures truths_moments { IfOk result (λ r. r.1.moments ≡ 0) }
-{
-    let params = Params::new(alloc, book)?;
-    let truths = Truths::new(alloc, book)?;
-    Ok((params, truths))
-}
-
-/// The crew's marks, the lights with the sound, the table of the parameters, and what is told of the alerts. An error is want
-/// of memory.
-pub fn parts_of(
-    alloc: Global,
-    book: &Book,
-) -> Result<(Marks, Attention, Params, Truths), AllocError>
+/// The crew's marks, the lights with the sound, and what is told of the alerts. An error is want of memory.
+pub fn parts_of(alloc: Global, book: &Book) -> Result<(Marks, Attention, Truths), AllocError>
     ensures marks_fit { IfOk result (λ r. MarksFit (the_book book.now) r.0) }
     ensures marks_stand { IfOk result (λ r. (c : Cockpit)
         → MarksStand (the_book book.now) c 0 r.0) }
@@ -83,15 +61,12 @@ pub fn parts_of(
     ensures attention_stands { IfOk result (λ r. (a : lamps.Attention)
         → AttentionStands (the_book book.now) a 0 r.1) }
     ensures attention_moments { IfOk result (λ r. r.1.moments ≡ 0) }
-    ensures params_fit { IfOk result (λ r. ParamsFit (the_book book.now) r.2) }
-    ensures params_stand { IfOk result (λ r. (words : ℕ → List BusWord) → words 0 ≡ []
-        → ParamsStand (the_book book.now) words 0 r.2) }
-    ensures truths_fit { IfOk result (λ r. TruthsFit (the_book book.now) r.3) }
+    ensures truths_fit { IfOk result (λ r. TruthsFit (the_book book.now) r.2) }
     ensures truths_stand { IfOk result (λ r. (conditions : ℕ → Signal) (phases : ℕ → ℕ)
-        → TruthsStand (the_book book.now) conditions phases 0 r.3) }
-    ensures truths_moments { IfOk result (λ r. r.3.moments ≡ 0) }
+        → TruthsStand (the_book book.now) conditions phases 0 r.2) }
+    ensures truths_moments { IfOk result (λ r. r.2.moments ≡ 0) }
 {
     let (marks, attention) = crew_of(alloc, book)?;
-    let (params, truths) = inputs_of(alloc, book)?;
-    Ok((marks, attention, params, truths))
+    let truths = Truths::new(alloc, book)?;
+    Ok((marks, attention, truths))
 }

@@ -15,7 +15,7 @@ ghost use Rattle.fwc_lane.specs.Begun.{HasBegun};
 ghost use Rattle.fwc_lane.specs.Given.{Came};
 ghost use Rattle.fwc_lane.specs.Visits.{visits};
 ghost use Rattle.ecam_kinds.specs.KeyState.{KeysStand};
-ghost use Rattle.param_table.specs.TableState.{ParamsStand};
+ghost use Rattle.param_table.specs.TableState.{ParamsFit, ParamsStand};
 
 use crate::begin::begin_moment;
 use crate::blank::{lists_of, parts_of};
@@ -96,11 +96,13 @@ impl Lane {
         ensures unvisited { IfOk result (λ l. l.terms.cells.visits ≡ 0) }
     {
         let terms = Terms::new(alloc, book)?;
-        Lane::with(alloc, book, terms)
+        let params = Params::new(alloc, book)?;
+        Lane::with(alloc, book, terms, params)
     }
 
-    /// The same, beside another lane of the same book. Both read one copy of the codes by which conditions are stepped, and of
-    /// which nodes ask for what; all else it has on memory of its own. An error is want of memory.
+    /// The same, beside another lane of the same book. Both read one copy of the codes by which conditions are stepped, of
+    /// which nodes ask for what, and of how the sources get their words; all else it has on memory of its own. An error is
+    /// want of memory.
     pub fn beside(alloc: Global, book: &Book, other: &Lane) -> Result<Lane, AllocError>
         requires { LaneFits (the_book book.now) other.now }
         ensures fits { IfOk result (LaneFits (the_book book.now)) }
@@ -110,14 +112,18 @@ impl Lane {
         ensures unvisited { IfOk result (λ l. l.terms.cells.visits ≡ 0) }
     {
         let terms = Terms::beside(alloc, book, &other.terms)?;
-        Lane::with(alloc, book, terms)
+        let params = Params::beside(alloc, book, &other.params)?;
+        Lane::with(alloc, book, terms, params)
     }
 
-    // The same, of conditions that no moment has stepped.
-    fn with(alloc: Global, book: &Book, terms: Terms) -> Result<Lane, AllocError>
+    // The same, of conditions that no moment has stepped and a table before any word.
+    fn with(alloc: Global, book: &Book, terms: Terms, params: Params) -> Result<Lane, AllocError>
         requires fits { TermsFit (the_book book.now) terms }
         requires stands { StandForNone terms.cells.slots }
         requires visits { terms.cells.visits ≡ 0 }
+        requires params_fit { ParamsFit (the_book book.now) params }
+        requires params_stand { (words : ℕ → List BusWord) → words 0 ≡ []
+            → ParamsStand (the_book book.now) words 0 params }
         ensures fits { IfOk result (LaneFits (the_book book.now)) }
         ensures stands { IfOk result (λ l. (f : Flags)
             → LaneStands (the_book book.now) (empty_era f) l) }
@@ -125,7 +131,7 @@ impl Lane {
         ensures unvisited { IfOk result (λ l. l.terms.cells.visits ≡ 0) }
     {
         let (values, turned, lines, memos) = lists_of(alloc, book)?;
-        let (marks, attention, params, truths) = parts_of(alloc, book)?;
+        let (marks, attention, truths) = parts_of(alloc, book)?;
         Ok(Lane {
             params,
             values,

@@ -14,8 +14,53 @@ use crate::words::{mask_of, modes_of};
 use book_model::Book;
 use std::alloc::{AllocError, Global};
 use std::boxed::BoxedSlice;
+use std::marker::Model;
+use std::rc::Rc;
 
-/// How each source of a book gets its words and reads them. Nothing of it ever changes.
+/// The routing of a book, which its owners share. Nothing of it ever changes.
+#[derive(Drop)]
+pub struct SharedRouting {
+    table: Rc<Routing>,
+}
+
+impl Model for SharedRouting {
+    ghost use Rattle.param_table.specs.declared.routing.Routing.{Routing};
+
+    ghost Value = { Routing };
+
+    ghost view = { λ r. r.table.value };
+}
+
+impl SharedRouting {
+    /// The routing, for one owner so far. An error is want of memory.
+    pub fn new(alloc: Global, routing: Routing) -> Result<SharedRouting, AllocError>
+        ensures { IfOk result (λ r. r ≡ routing) }
+    {
+        Ok(SharedRouting {
+            table: Rc::new(alloc, routing)?,
+        })
+    }
+
+    /// The same routing, for one owner more. It takes no memory, and costs a look and a write. An error is want of memory:
+    /// there are as many owners as can be counted.
+    pub fn share(&self) -> Result<SharedRouting, AllocError>
+        ensures { IfOk result (λ r. r ≡ self.now) }
+    {
+        Ok(SharedRouting {
+            table: self.table.clone()?,
+        })
+    }
+
+    /// The routing, to look at. It costs one read.
+    #[inline(always)]
+    pub fn table(&self) -> &Routing
+        ensures { result.now ≡ self.now }
+    {
+        &self.table
+    }
+}
+
+/// How each source of a book gets its words and reads them.
 #[derive(Drop)]
 pub struct Routing {
     /// How the words of each source are read, by place.

@@ -1,5 +1,6 @@
 // The values of parameters.
 ghost use Rattle.std.specs.Prelude.{◌≡◌, ℕ, suc, ◌+◌, ◌-◌, ◌*◌, ◌<◌, ◌≤◌, ◌^◌, true, false, List, [], length, map, slice_index, slice_index_or, unwrap_or, None, IfOk, IfSome};
+ghost use Rattle.std.specs.Box.{boxed_slice_items};
 ghost use Rattle.ecam_spec.specs.Value.{BusWord, value};
 ghost use Rattle.ecam_spec.specs.Book as plain;
 ghost use Rattle.ecam_spec.specs.Situation.{parameter_at};
@@ -7,27 +8,31 @@ ghost use Rattle.ecam_spec.specs.History.{OneMore};
 ghost use Rattle.book_model.specs.Sealed.{the_book};
 ghost use Rattle.book_model.specs.SourcePlaces.{parameter_with};
 ghost use Rattle.param_table.specs.TableState.{ParamsFit, ParamsStand, IsValueOf, MayDiffer, IsStill, received_by, value_before};
+ghost use Rattle.param_table.specs.HeldState.{AreEarly};
+ghost use Rattle.param_table.specs.Routes.{AreRouted};
 ghost use Rattle.param_table.specs.HeldValues.{first_given, given_by, set_back};
 
 use crate::held::{Held, look_soon, received_at};
-use crate::mailbox::set_back;
+use crate::mailbox::{Mailbox, set_back};
 use crate::received::{HALF, is_fresh};
-use crate::routing::{Routing, routing_of};
+use crate::routing::{SharedRouting, routing_of};
 use crate::taking::receive;
 use crate::words::reading;
 use arinc_words::Word;
 use book_model::Book;
 use std::alloc::{AllocError, Global};
+use std::boxed::BoxedSlice;
 use wakes::{Marked, Wakes};
 
 /// What the words say that the sources of a book's parameters took last, how long they are fresh, and which parameters
-/// may have another value than in the moment before. Memory is taken in `new` alone, and nothing grows with the history.
+/// may have another value than in the moment before. Memory is taken in `new` and `beside` alone, and nothing grows
+/// with the history.
 #[derive(Drop)]
 pub struct Params {
     // Counts Ticks. At its end it is set back.
     clock: u32,
     held: Held,
-    routing: Routing,
+    routing: SharedRouting,
 }
 
 impl Params {
@@ -38,18 +43,59 @@ impl Params {
             → ParamsStand (the_book book.now) words 0 p) }
     {
         let (routing, mailboxes) = routing_of(alloc, book)?;
+        let routing = SharedRouting::new(alloc, routing)?;
+        Params::blank(alloc, book, 0, routing, mailboxes)
+    }
+
+    /// The same, beside another table of the same book. Both read one copy of what never changes: how each source gets its
+    /// words and reads them. An error is want of memory.
+    pub fn beside(alloc: Global, book: &Book, other: &Params) -> Result<Params, AllocError>
+        requires { ParamsFit (the_book book.now) other.now }
+        ensures fits { IfOk result (ParamsFit (the_book book.now)) }
+        ensures stands { IfOk result (λ p. (words : ℕ → List BusWord) → words 0 ≡ []
+            → ParamsStand (the_book book.now) words 0 p) }
+    {
+        let routing = other.routing.share()?;
+        let mut mailboxes = Vec::new(alloc);
+        mailboxes.extend_from_slice(&other.held.mailboxes)?;
+        Params::blank(
+            alloc,
+            book,
+            other.clock,
+            routing,
+            mailboxes.into_boxed_slice(),
+        )
+    }
+
+    // The same, by this routing to these mailboxes, whatever words they hold.
+    fn blank(
+        alloc: Global,
+        book: &Book,
+        clock: u32,
+        routing: SharedRouting,
+        mailboxes: BoxedSlice<Mailbox>,
+    ) -> Result<Params, AllocError>
+        requires routed { AreRouted (the_book book.now).parameters routing
+            (boxed_slice_items mailboxes) }
+        requires early { AreEarly clock (boxed_slice_items mailboxes) }
+        ensures fits { IfOk result (ParamsFit (the_book book.now)) }
+        ensures stands { IfOk result (λ p. (words : ℕ → List BusWord) → words 0 ≡ []
+            → ParamsStand (the_book book.now) words 0 p) }
+    {
         let params = book.params();
         let changed = Marked::new(alloc, params.len())?;
         let dues = Wakes::new(alloc, mailboxes.len())?;
-        Ok(Params {
-            clock: 0,
+        let mut blank = Params {
+            clock,
             held: Held {
                 mailboxes,
                 changed,
                 dues,
             },
             routing,
-        })
+        };
+        blank.clear();
+        Ok(blank)
     }
 
     /// Forgets all words and moments. Its cost is a few writes a mailbox, of which there is one for all sources of a bus, a label
@@ -101,7 +147,15 @@ impl Params {
         };
         if Word::new(bits).odd() {
             let clock = self.clock;
-            receive(&mut self.held, &self.routing, book, clock, bus, bits, last);
+            receive(
+                &mut self.held,
+                self.routing.table(),
+                book,
+                clock,
+                bus,
+                bits,
+                last,
+            );
         }
     }
 
@@ -133,7 +187,8 @@ impl Params {
         }
         self.clock += 1;
         self.held.forget_changes();
-        self.held.look_at_due(_book, &self.routing, self.clock);
+        self.held
+            .look_at_due(_book, self.routing.table(), self.clock);
     }
 
     /// Whether it is known that the end of the moment changes nothing but the clock: no parameter may have another value than
@@ -235,12 +290,12 @@ impl Params {
         ensures bound { IfSome result
             (IsValueOf (parameter_with (the_book _book.now).parameters place).kind) }
     {
-        let rules = &self.routing.rules;
+        let rules = &self.routing.table().rules;
         let received = received_at(rules, &self.held.mailboxes, self.clock, place);
         if !is_fresh(received, self.clock) {
             return None;
         }
-        let rule = self.routing.rules[place]?;
+        let rule = rules[place]?;
         reading(rule.kind, &rule.source, &Word::new(received.bits))
     }
 

@@ -9,7 +9,7 @@ use Rattle.fwc_lane.proofs.lane.Lane.with.Goals as goal
 
 pub returns-clause-fits : goal.returns-clause-fits
 returns-clause-fits c = record {
-  params = c.in_ok-marks.ensures.params_fit;
+  params = c.requires.params_fit;
   truths = c.in_ok-marks.ensures.truths_fit;
   marks = c.in_ok-marks.ensures.marks_fit;
   attention = c.in_ok-marks.ensures.attention_fits;
@@ -33,7 +33,7 @@ returns-clause-stands c = λ f.
     fresh-lane (the_book c.args.book.now) f _ (returns-clause-fits c) record {
       moments = refl;
       ticked = refl;
-      params = c.in_ok-marks.ensures.params_stand;
+      params = c.requires.params_stand;
       values = λ p. ap (λ vs. get_or vs p None) c.in_ok-values.ensures.values ∙ none-each _ p;
       keys = c.new-3.ensures;
       cells = c.requires.stands;

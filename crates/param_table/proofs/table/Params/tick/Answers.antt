@@ -1,8 +1,9 @@
-use Rattle.std.proofs.Common.{◌≡◌, ℕ, ◌+◌, length, get_or, List, refl, sym, ap, ◌∙◌, subst, add-one, arith}
+use Rattle.std.proofs.Common.{◌≡◌, ℕ, suc, ◌+◌, length, get_or, List, refl, sym, ap, ◌∙◌, subst, add-one, arith}
 use Rattle.ecam_spec.specs.Book.{Parameter}
 use Rattle.book_model.specs.Sealed.{the_book}
 use Rattle.wakes.specs.Marks.{room}
 use Rattle.param_table.specs.declared.held.Held.{Held}
+use Rattle.param_table.specs.declared.routing.Routing.{Routing}
 use Rattle.param_table.specs.declared.table.Params.{Params}
 use Rattle.param_table.specs.HeldValues.{due_at, is_ending, received_at, unused}
 use Rattle.param_table.specs.HeldState.{IsDue, WillLook}
@@ -11,6 +12,10 @@ use Rattle.param_table.specs.TableState.{HeldFits, ParamsFit, ParamsStand, recei
 use Rattle.param_table.proofs.Tables.{moment, clock_back, back_fits, will_look}
 use Rattle.param_table.proofs.table.Params.tick.Goals as goal
 use Rattle.param_table.proofs.table.Params.tick.Goals.{After-forget_changes, After-look_at_due, then-self, else-self}
+
+-- the table by a routing, holding this when the clock shows that
+abbrev holding : ℕ → Held → Routing → Params
+holding clock held routing = record { clock = clock; held = held; routing = routing }
 
 -- the table fits once the clock is set back, where it has to be
 mid_fits : (c : After-forget_changes) → ParamsFit (the_book c.args._book.now) c.if-self.self
@@ -34,17 +39,18 @@ later_fits params clock old new fits same marks dues = record {
 
 pub look_at_due-requires-clause-routed : goal.look_at_due-requires-clause-routed
 look_at_due-requires-clause-routed c =
-    subst (λ v. AreRouted (the_book c.args._book.now).parameters c.if-self.self.routing v.items.items) (sym c.forget_changes.ensures.mailboxes) (mid_fits c.before.before).routed
+    subst (λ r. AreRouted (the_book c.args._book.now).parameters r c.forget_changes.new.self.mailboxes.items.items) (sym c.table.ensures)
+    (subst (λ v. AreRouted (the_book c.args._book.now).parameters c.if-self.self.routing v.items.items) (sym c.forget_changes.ensures.mailboxes) (mid_fits c.before.before.before).routed)
 
 pub look_at_due-requires-clause-fits : goal.look_at_due-requires-clause-fits
 look_at_due-requires-clause-fits c =
-    later_fits (the_book c.args._book.now).parameters c.if-self.self.clock c.if-self.self.held c.forget_changes.new.self (mid_fits c.before.before).held
+    later_fits (the_book c.args._book.now).parameters c.if-self.self.clock c.if-self.self.held c.forget_changes.new.self (mid_fits c.before.before.before).held
     c.forget_changes.ensures.mailboxes c.forget_changes.ensures.room (ap length c.forget_changes.ensures.dues)
 
 fits_after : (c : After-look_at_due)
     → ParamsFit (the_book c.args._book.now) (record { clock = c.if-self.self.clock + 1; held = c.look_at_due.new.self; routing = c.if-self.self.routing })
 fits_after c =
-    let fits = mid_fits c.before.before.before in
+    let fits = mid_fits c.before.before.before.before in
     let same = c.look_at_due.ensures.mailboxes ∙ c.forget_changes.ensures.mailboxes in
     record {
       sound = fits.sound;
@@ -59,8 +65,8 @@ returns-clause-fits c = fits_after c
 pub returns-clause-stands : goal.returns-clause-stands
 returns-clause-stands c = λ words k none stands.
     let b = the_book c.args._book.now in
-    let mid = c.if-self.self in
-    let before : ParamsStand b words k mid = elim c.if-self.branch [
+    let now = c.if-self.self in
+    let before : ParamsStand b words k now = elim c.if-self.branch [
       | then-self w ↦
           let set = w.set_clock_back.new.self in
           let was = w.set_clock_back.ensures in
@@ -69,19 +75,23 @@ returns-clause-stands c = λ words k none stands.
           w.if-self.true was.clock was.routing was.mailboxes was.changed was.soon stands)
       | else-self w ↦ subst (ParamsStand b words k) (sym w.self-is) stands
     ] in
+    let mid = holding now.clock now.held c.table.result.now in
+    let stood : ParamsStand b words k mid = subst (λ r. ParamsStand b words k (holding now.clock now.held r)) (sym c.table.ensures) before in
     let x = received_by mid in
     let rules = mid.routing.rules.items.items in
     let kept : (q : ℕ) → received_at rules c.forget_changes.new.self.mailboxes.items.items q ≡ x q = λ q.
     ap (λ v. received_at rules v.items.items q) c.forget_changes.ensures.mailboxes in
     let dues = due_at rules c.forget_changes.new.self.dues in
     let will : WillLook (mid.clock + 1) x dues =
-    subst (λ t. WillLook t x dues) (sym (add-one mid.clock)) (will_look mid.clock x dues (λ q. subst (λ ds. IsDue mid.clock (x q) (due_at rules ds q)) (sym c.forget_changes.ensures.dues) (before.due q))) in
+    subst (λ t. WillLook t x dues) (sym (add-one mid.clock)) (will_look mid.clock x dues (λ q. subst (λ ds. IsDue mid.clock (x q) (due_at rules ds q)) (sym c.forget_changes.ensures.dues) (stood.due q))) in
     let looks : WillLook (mid.clock + 1) (received_at rules c.forget_changes.new.self.mailboxes.items.items) dues = record {
       due = λ q. subst (λ r. IsDue (mid.clock + 1) r (dues q)) (sym (kept q)) (will.due q);
       ending = λ q ends. will.ending q (ap (is_ending (mid.clock + 1)) (sym (kept q)) ∙ ends);
     } in
-    let new : Params = record { clock = mid.clock + 1; held = c.look_at_due.new.self; routing = mid.routing } in
-    moment b words k mid new (fits_after c) none (add-one mid.clock) refl (c.look_at_due.ensures.mailboxes ∙ c.forget_changes.ensures.mailboxes)
+    let later = holding (now.clock + 1) c.look_at_due.new.self in
+    subst (λ r. ParamsStand b words (suc k) (later r)) c.table.ensures
+    (moment b words k mid (later c.table.result.now) (subst (λ r. ParamsFit b (later r)) (sym c.table.ensures) (fits_after c)) none (add-one mid.clock) refl
+    (c.look_at_due.ensures.mailboxes ∙ c.forget_changes.ensures.mailboxes)
     (λ q. subst (λ r. IsDue (mid.clock + 1) r (due_at rules c.look_at_due.new.self.dues q)) (kept q) (c.look_at_due.ensures.due looks q))
     (λ q off. ap (is_ending (mid.clock + 1)) (sym (kept q)) ∙ c.look_at_due.ensures.marks looks q off)
-    (λ p calm. c.look_at_due.ensures.others p (c.forget_changes.ensures.none p) (λ q row. ap (is_ending (mid.clock + 1)) (kept q) ∙ calm q row)) before
+    (λ p calm. c.look_at_due.ensures.others p (c.forget_changes.ensures.none p) (λ q row. ap (is_ending (mid.clock + 1)) (kept q) ∙ calm q row)) stood)

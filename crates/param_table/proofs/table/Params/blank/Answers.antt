@@ -8,9 +8,9 @@ use Rattle.book_model.proofs.BookLimits.{sizes}
 use Rattle.param_table.specs.declared.table.Params.{Params}
 use Rattle.param_table.specs.TableState.{ParamsFit}
 use Rattle.param_table.proofs.Numbers.{openers-few}
-use Rattle.param_table.proofs.Tables.{start, book_sound}
-use Rattle.param_table.proofs.table.Params.new.Goals as goal
-use Rattle.param_table.proofs.table.Params.new.Goals.{In_ok-dues}
+use Rattle.param_table.proofs.Tables.{book_sound}
+use Rattle.param_table.proofs.table.Params.blank.Goals as goal
+use Rattle.param_table.proofs.table.Params.blank.Goals.{After-clear}
 
 pub new-requires : goal.new-requires
 new-requires c = omega (arith, (sizes c.args.book.now c.params-params.ensures.sealed).params, ap length c.params-params.ensures.value)
@@ -19,38 +19,37 @@ pub new-requires-2 : goal.new-requires-2
 new-requires-2 c =
     let b = c.args.book.now in
     let params = (the_book b).parameters in
-    omega (arith, (sizes b c.params-params.ensures.sealed).params, many-parameters b, openers-few params (3 * length params), c.in_ok-routing.ensures.routed.count, c.len.ensures)
+    omega (arith, (sizes b c.params-params.ensures.sealed).params, many-parameters b, openers-few params (3 * length params), c.requires.routed.count, c.len.ensures)
 
 -- as many parameters were read as the book has
-many : (c : In_ok-dues) → length c.params-params.result.now ≡ length (the_book c.args.book.now).parameters
+many : (c : After-clear) → length c.params-params.result.now ≡ length (the_book c.args.book.now).parameters
 many c =
     sym (length-map c.params-params.result.now parameter_of) ∙ ap length (ap (map parameter_of) c.params-params.ensures.value ∙ sym (book-parameters c.args.book.now))
 
--- nothing has come yet
-table : In_ok-dues → Params
-table c = record {
-  clock = 0;
-  held = record { mailboxes = c.in_ok-routing.mailboxes; changed = c.in_ok-changed.changed; dues = c.in_ok-dues.dues };
-  routing = c.in_ok-routing.routing;
+-- the table, whatever words its mailboxes hold
+held : After-clear → Params
+held c = record {
+  clock = c.args.clock;
+  held = record { mailboxes = c.args.mailboxes; changed = c.in_ok-changed.changed; dues = c.in_ok-dues.dues };
+  routing = c.args.routing;
 }
 
-fits : (c : In_ok-dues) → ParamsFit (the_book c.args.book.now) (table c)
-unfolding table
+fits : (c : After-clear) → ParamsFit (the_book c.args.book.now) (held c)
+unfolding held
 fits c = record {
   sound = book_sound c.args.book.now c.params-params.ensures.sealed;
-  routed = c.in_ok-routing.ensures.routed;
+  routed = c.requires.routed;
   held = record {
     room = c.in_ok-changed.ensures.size ∙ ap (λ n. 64 * (n / 64 + 1)) (many c);
-    dues = ap length c.in_ok-dues.ensures ∙ length-replicate c.len.result never ∙ (let count : c.len.result ≡ length c.in_ok-routing.mailboxes.items.items = omega (arith, c.len.ensures) in count);
-    early = λ m. omega (arith, c.in_ok-routing.ensures.none m);
+    dues = ap length c.in_ok-dues.ensures ∙ length-replicate c.len.result never ∙ (let count : c.len.result ≡ length c.args.mailboxes.items.items = omega (arith, c.len.ensures) in count);
+    early = c.requires.early;
   };
 }
 
 pub returns-clause-fits : goal.returns-clause-fits
-unfolding table
-returns-clause-fits c = fits c
+unfolding held
+returns-clause-fits c = c.clear.ensures.fits (the_book c.args.book.now) (fits c)
 
 pub returns-clause-stands : goal.returns-clause-stands
-unfolding table
-returns-clause-stands c = λ words none.
-    start (the_book c.args.book.now) words (table c) (fits c) none c.in_ok-routing.ensures.none c.in_ok-changed.ensures.none
+unfolding held
+returns-clause-stands c = λ words none. c.clear.ensures.stands (the_book c.args.book.now) words (fits c) none
