@@ -3,11 +3,14 @@ ghost use Rattle.std.specs.Prelude.{◌≡◌, ◌≤◌, [], ◌∷◌, length,
 ghost use Rattle.ecam_spec.specs.Book.{constant};
 ghost use Rattle.ecam_spec.specs.KeepsLimits.{IsSound};
 ghost use Rattle.ecam_spec.specs.DraftFaults.{draft_fault};
+ghost use Rattle.book_model.specs.Sealed.{the_book};
+ghost use Rattle.param_table.specs.TableState.{ParamsFit};
 ghost use Rattle.book_model.specs.View.{draft_of, tree_in, source_of, parameter_of};
 
 use crate::Params;
 use book_model::{Book, Draft, Kind, Name, Param, PhaseTerms, Term, WordSource};
 use std::alloc::{AllocError, Global};
+use std::process::Abort;
 use std::test::Fail;
 use term_tree::Cond;
 
@@ -100,78 +103,142 @@ fn draft(alloc: Global) -> Result<Draft, AllocError>
     })
 }
 
+// The book of these.
+fn small_book(alloc: Global) -> Result<Book, AllocError> {
+    Book::build(alloc, draft(alloc)?)
+}
+
+// The words of both parameters, and what they give.
+fn take_words(rt: &impl Abort, table: &mut Params, book: &Book)
+    requires fits { ParamsFit (the_book book.now) table.old }
+    requires two { length book.now.params.items ≡ 2 }
+{
+    assert_eq!(rt; table.value(book, 0), None);
+    table.take(book, 2, 0xe48d151e);
+    table.take(book, 0, 0x0000041d);
+    assert_eq!(rt; table.value(book, 0), Some(-12345));
+    assert_eq!(rt; table.value(book, 1), Some(1));
+    assert_eq!(rt; table.changed(book, 0), Some(0));
+    assert_eq!(rt; table.changed(book, 1), Some(1));
+    table.tick(book);
+    assert_eq!(rt; table.changed(book, 0), None);
+    // A number with another SDI, one with the source's own, and a discrete of even parity.
+    table.take(book, 0, 0x848d161e);
+    assert_eq!(rt; table.value(book, 0), Some(-12345));
+    table.take(book, 0, 0x848d151e);
+    table.take(book, 0, 0x8000041d);
+    assert_eq!(rt; table.value(book, 0), Some(12345));
+    table.tick(book);
+    table.tick(book);
+    assert_eq!(rt; table.value(book, 0), None);
+    assert_eq!(rt; table.value(book, 1), None);
+}
+
 #[test]
 fn words_give_values(rt: HostRuntime) -> Result<(), Fail> {
     let alloc = rt.alloc();
-    let book = Book::build(alloc, draft(alloc)?)?;
+    let book = small_book(alloc)?;
     assert_eq!(rt; book.params().len(), 2);
     let mut table = Params::new(alloc, &book)?;
-    assert_eq!(rt; table.value(&book, 0), None);
-    table.take(&book, 2, 0xe48d151e);
-    table.take(&book, 0, 0x0000041d);
-    assert_eq!(rt; table.value(&book, 0), Some(-12345));
-    assert_eq!(rt; table.value(&book, 1), Some(1));
-    assert_eq!(rt; table.changed(&book, 0), Some(0));
-    assert_eq!(rt; table.changed(&book, 1), Some(1));
-    table.tick(&book);
-    assert_eq!(rt; table.changed(&book, 0), None);
-    // A number with another SDI, one with the source's own, and a discrete of even parity.
-    table.take(&book, 0, 0x848d161e);
-    assert_eq!(rt; table.value(&book, 0), Some(-12345));
-    table.take(&book, 0, 0x848d151e);
-    table.take(&book, 0, 0x8000041d);
-    assert_eq!(rt; table.value(&book, 0), Some(12345));
-    table.tick(&book);
-    table.tick(&book);
-    assert_eq!(rt; table.value(&book, 0), None);
-    assert_eq!(rt; table.value(&book, 1), None);
+    take_words(&rt, &mut table, &book);
     Ok(())
+}
+
+// The discrete's word comes again in the last moment in which it is fresh.
+fn take_again(rt: &impl Abort, table: &mut Params, book: &Book)
+    requires fits { ParamsFit (the_book book.now) table.old }
+    requires two { length book.now.params.items ≡ 2 }
+{
+    table.take(book, 0, 0x0000041d);
+    table.tick(book);
+    table.tick(book);
+    table.take(book, 0, 0x0000041d);
+    assert_eq!(rt; table.changed(book, 0), None);
+    table.tick(book);
+    table.tick(book);
+    assert_eq!(rt; table.value(book, 1), Some(1));
+    assert_eq!(rt; table.changed(book, 0), None);
+    table.tick(book);
+    assert_eq!(rt; table.value(book, 1), None);
+    assert_eq!(rt; table.changed(book, 0), Some(1));
 }
 
 #[test]
 fn a_repeated_word_is_fresh_for_longer(rt: HostRuntime) -> Result<(), Fail> {
     let alloc = rt.alloc();
-    let book = Book::build(alloc, draft(alloc)?)?;
+    let book = small_book(alloc)?;
     assert_eq!(rt; book.params().len(), 2);
     let mut table = Params::new(alloc, &book)?;
-    table.take(&book, 0, 0x0000041d);
-    table.tick(&book);
-    table.tick(&book);
-    // In the last moment in which the word is fresh.
-    table.take(&book, 0, 0x0000041d);
-    assert_eq!(rt; table.changed(&book, 0), None);
-    table.tick(&book);
-    table.tick(&book);
-    assert_eq!(rt; table.value(&book, 1), Some(1));
-    assert_eq!(rt; table.changed(&book, 0), None);
-    table.tick(&book);
-    assert_eq!(rt; table.value(&book, 1), None);
-    assert_eq!(rt; table.changed(&book, 0), Some(1));
+    take_again(&rt, &mut table, &book);
     Ok(())
+}
+
+// A table with the discrete's word, and another that takes it over.
+fn take_over(rt: &impl Abort, table: &mut Params, other: &mut Params, book: &Book)
+    requires fits { ParamsFit (the_book book.now) table.old }
+    requires other { ParamsFit (the_book book.now) other.old }
+    requires two { length book.now.params.items ≡ 2 }
+{
+    table.take(book, 0, 0x0000041d);
+    other.copy_from(table);
+    assert_eq!(rt; other.value(book, 1), Some(1));
 }
 
 #[test]
 fn a_copy_has_the_same_values(rt: HostRuntime) -> Result<(), Fail> {
     let alloc = rt.alloc();
-    let book = Book::build(alloc, draft(alloc)?)?;
+    let book = small_book(alloc)?;
     assert_eq!(rt; book.params().len(), 2);
     let mut table = Params::new(alloc, &book)?;
-    table.take(&book, 0, 0x0000041d);
-    let mut other = Params::new(alloc, &book)?;
-    other.copy_from(&table);
-    assert_eq!(rt; other.value(&book, 1), Some(1));
+    let mut other = Params::beside(alloc, &book, &table)?;
+    take_over(&rt, &mut table, &mut other, &book);
     Ok(())
+}
+
+// A table with the discrete's word, one beside it, and what both give.
+fn stand_beside(
+    rt: &impl Abort,
+    alloc: Global,
+    table: &mut Params,
+    book: &Book,
+) -> Result<(), AllocError>
+    requires fits { ParamsFit (the_book book.now) table.old }
+    requires two { length book.now.params.items ≡ 2 }
+{
+    table.take(book, 0, 0x0000041d);
+    let other = Params::beside(alloc, book, table)?;
+    let values = (table.value(book, 1), other.value(book, 1));
+    assert_eq!(rt; values, (Some(1), None));
+    Ok(())
+}
+
+#[test]
+fn a_table_beside_another_holds_no_word(rt: HostRuntime) -> Result<(), Fail> {
+    let alloc = rt.alloc();
+    let book = small_book(alloc)?;
+    assert_eq!(rt; book.params().len(), 2);
+    let mut table = Params::new(alloc, &book)?;
+    stand_beside(&rt, alloc, &mut table, &book)?;
+    Ok(())
+}
+
+// A table with the discrete's word, which is cleared.
+fn take_and_clear(rt: &impl Abort, table: &mut Params, book: &Book)
+    requires fits { ParamsFit (the_book book.now) table.old }
+    requires two { length book.now.params.items ≡ 2 }
+{
+    table.take(book, 0, 0x0000041d);
+    assert_eq!(rt; table.value(book, 1), Some(1));
+    table.clear();
+    assert_eq!(rt; table.value(book, 1), None);
 }
 
 #[test]
 fn nothing_is_left_of_what_is_cleared(rt: HostRuntime) -> Result<(), Fail> {
     let alloc = rt.alloc();
-    let book = Book::build(alloc, draft(alloc)?)?;
+    let book = small_book(alloc)?;
     assert_eq!(rt; book.params().len(), 2);
     let mut table = Params::new(alloc, &book)?;
-    table.take(&book, 0, 0x0000041d);
-    assert_eq!(rt; table.value(&book, 1), Some(1));
-    table.clear();
-    assert_eq!(rt; table.value(&book, 1), None);
+    take_and_clear(&rt, &mut table, &book);
     Ok(())
 }
