@@ -34,6 +34,7 @@ pub mod ZonePictures
 pub mod Lanes
 pub mod FreshLanes
 pub mod ValueSteps
+pub mod ValueWords
 pub mod TurnedFlags
 pub mod PageRest
 pub mod ZoneSteps

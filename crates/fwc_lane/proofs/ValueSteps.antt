@@ -1,26 +1,33 @@
 -- The values of a moment, by those of the moment before it.
-use Rattle.std.proofs.Common.{◌≡◌, ◌≢◌, ℕ, zero, suc, ◌-◌, ◌<◌, ◌≤◌, true, false, not, ◌&&◌, ◌||◌, ℤ, pos, ◌≤ℤ◌, List, length, get_or, replicate, Option, Some, None, IfSome, refl, sym, ap, subst, ◌∙◌, inl, inr, arith, eqb}
-use Rattle.std.specs.Prelude.{unwrap_or}
+use Rattle.std.proofs.Common.{◌≡◌, ◌≢◌, ℕ, zero, suc, ◌+◌, ◌-◌, ◌<◌, ◌≤◌, Bool, true, false, not, ◌&&◌, ◌||◌, ℤ, pos, ◌≤ℤ◌, List, length, get_or, set, replicate, Option, Some, None, IfSome, refl, sym, ap, subst, ◌∙◌, inl, inr, arith, eqb}
 use Rattle.std.specs.Option.{option_eq}
 use Rattle.std.specs.Ordering.{int_eq}
 use Rattle.std.proofs.lemmas.Int.{ints}
 use Rattle.std.proofs.lemmas.Bool.Decides.{Decides-int_eq}
 use Rattle.std.proofs.Math.Bool.{and-false, and-true, or-false}
-use Rattle.std.proofs.lemmas.Bool.{cases_eq, cases_lt, eq-eqb, ne_eqb}
-use Rattle.std.proofs.lemmas.List.Elements.{All-from_get_or}
+use Rattle.std.proofs.lemmas.Bool.{cases_eq, cases_lt, eq-eqb, eqb-true, ne_eqb, true≢false}
+use Rattle.std.proofs.lemmas.List.{get_or-set_other, length-set}
+use Rattle.std.proofs.lemmas.List.Elements.{All-from_get_or, All-set}
 use Rattle.ecam_spec.specs.declared.kinds.Kind.{Kind}
 use Rattle.ecam_spec.specs.declared.kinds.Kind.TheVariants.{Disc, Bnr, Bcd}
 use Rattle.ecam_spec.specs.Book.{Book}
 use Rattle.ecam_spec.specs.Value.{BusWord, value}
 use Rattle.ecam_spec.specs.Situation.{parameter_at}
-use Rattle.param_table.specs.TableState.{IsValueOf, value_before}
+use Rattle.param_table.specs.TableState.{IsValueOf, ParamsStand, value_before}
+use Rattle.param_table.specs.declared.table.Params.{Params}
 use Rattle.system_display.specs.Pages.{IsShort, AreShort}
 use Rattle.term_eval.specs.declared.reading.Reading.TheVariants.{Value}
-use Rattle.fwc_lane.specs.Given.{AreBefore}
-use Rattle.fwc_lane.specs.Waking.{ranged, value_turned}
+use Rattle.fwc_lane.specs.declared.terms.Terms.{Terms}
+use Rattle.fwc_lane.specs.ReadTo.{AreReadTo}
+use Rattle.fwc_lane.specs.TermsFit.{TermsFit}
+use Rattle.fwc_lane.specs.Waking.{HasWoken, ranged, value_turned}
+use Rattle.fwc_lane.proofs.Awake.{awake-none, awake-off, awake-then}
+use Rattle.fwc_lane.proofs.FlagSteps.{set-own, set-length}
+use Rattle.fwc_lane.proofs.Listing.{right-true}
 use Rattle.fwc_lane.proofs.Ranges.{ranged-in, ranged-above}
+use Rattle.fwc_lane.proofs.TurnedFlags.{turned-then}
 
-pub is-short : (kind : Kind) (o : Option ℤ) → IfSome o (IsValueOf kind) → IfSome o IsShort
+is-short : (kind : Kind) (o : Option ℤ) → IfSome o (IsValueOf kind) → IfSome o IsShort
 is-short Bnr None h = h
 is-short Bcd None h = h
 is-short Disc None h = h
@@ -75,7 +82,7 @@ module _ (n p : ℕ) (was before after : List (Option ℤ)) (there : p < n) (kep
     | inr le ↦ ranged-above 0 n (value_turned was after) o (omega arith) ∙ sym (ranged-above 0 n (value_turned was before) o (omega arith))
   ]
 
-  pub one-turned : (o : ℕ) → ranged 0 n (value_turned was after) o ≡ (ranged 0 n (value_turned was before) o || (value_turned was after p && eqb o p))
+  one-turned : (o : ℕ) → ranged 0 n (value_turned was after) o ≡ (ranged 0 n (value_turned was before) o || (value_turned was after p && eqb o p))
   one-turned o = elim (cases_eq o p) [
     | inl e ↦
         new-own o e
@@ -86,23 +93,94 @@ module _ (n p : ℕ) (was before after : List (Option ℤ)) (there : p < n) (kep
   ]
 
   -- what turned before reads as it did
-  pub read-before : (o : ℕ) → ranged 0 n (value_turned was before) o ≡ true → Value (get_or after o None) ≡ Value (get_or before o None)
+  read-before : (o : ℕ) → ranged 0 n (value_turned was before) o ≡ true → Value (get_or after o None) ≡ Value (get_or before o None)
   read-before o on = elim (cases_eq o p) [
     | inl e ↦ absurd (let w : ⊥ = (let clash : false ≡ true = sym (old-off o e) ∙ on in cc) in w)
     | inr ne ↦ ap Value (others o ne)
   ]
 
--- the value that may be another is one of these
-pub found-there : (from n : ℕ) (found : Option ℕ) (p : ℕ) → found ≡ Some p → IfSome found (λ q. (from ≤ q) × (q < n)) → (from ≤ p) × (p < n)
-found-there from n found p e is = subst (λ o. IfSome o (λ q. (from ≤ q) × (q < n))) e is
+-- ---- how far they are read
 
--- the values below `from` are read, and the others are those of the moment before
-module _ (b : Book) (words : ℕ → List BusWord) (k from : ℕ) (was now : List (Option ℤ)) (found : Option ℕ) (before : AreBefore b words k was)
-    (read : (p : ℕ) → p < from → p < length b.parameters → get_or now p None ≡ value (parameter_at b p) words k)
-    (later : (p : ℕ) → from ≤ p → get_or now p None ≡ get_or was p None)
-    (same : (p : ℕ) → from ≤ p → p < unwrap_or found (length b.parameters) → value (parameter_at b p) words k ≡ value_before (parameter_at b p) words k) where
-  pub read-over : (p : ℕ) → p < unwrap_or found (length b.parameters) → p < length b.parameters → get_or now p None ≡ value (parameter_at b p) words k
-  read-over p high lt = elim (cases_lt p from) [
-    | inl low ↦ read p low lt
-    | inr le ↦ later p le ∙ before p lt ∙ sym (same p le high)
-  ]
+module _ (b : Book) (params : Params) (was : List (Option ℤ)) (first : Terms) where
+  -- none is
+  pub read-none : (flags : List Bool) → length was ≡ length b.parameters → length flags ≡ length b.parameters → AreShort was → TermsFit b first → AreReadTo b params was first 0 was flags first
+  read-none flags many long short fits = record {
+    many = many;
+    flagged = long;
+    short = short;
+    fits = fits;
+    read = λ words k stands before p lt. absurd (omega arith);
+    later = λ p le. refl;
+    turned = λ p off. refl;
+    wakes = awake-none b (ranged 0 (length b.parameters) (value_turned was was)) (λ o. Value (get_or was o None)) first (none-turned (length b.parameters) was);
+  }
+
+  module _ (from : ℕ) (now : List (Option ℤ)) (flags : List Bool) (terms : Terms) (is : AreReadTo b params was first from now flags terms) where
+    -- some that follow have no other value
+    pub read-over : (end : ℕ) → from ≤ end → ((words : ℕ → List BusWord) (k : ℕ) → ParamsStand b words k params → (p : ℕ) → from ≤ p → p < end → p < length b.parameters
+        → value (parameter_at b p) words k ≡ value_before (parameter_at b p) words k) → AreReadTo b params was first end now flags terms
+    read-over end more same = record {
+      many = is.many;
+      flagged = is.flagged;
+      short = is.short;
+      fits = is.fits;
+      read = λ words k stands before p low within. elim (cases_lt p from) [
+        | inl lt ↦ is.read words k stands before p lt within
+        | inr le ↦ is.later p le ∙ before p within ∙ sym (same words k stands p le low within)
+      ];
+      later = λ p le. is.later p (omega (arith, le, more));
+      turned = is.turned;
+      wakes = is.wakes;
+    }
+
+    -- the next is read, and wakes whom it wakes where it is another
+    module _ (after : List (Option ℤ)) (v : Option ℤ) (set-is : after ≡ set now from v) (there : from < length b.parameters)
+        (has : (words : ℕ → List BusWord) (k : ℕ) → ParamsStand b words k params → v ≡ value (parameter_at b from) words k) (bound : IfSome v (IsValueOf (parameter_at b from).kind)) where
+      own : get_or after from None ≡ v
+      own = set-own now after from v None set-is (omega (arith, is.many, there))
+
+      others : (j : ℕ) → j ≢ from → get_or after j None ≡ get_or now j None
+      others j ne = ap (λ ys. get_or ys j None) set-is ∙ get_or-set_other now from j v None ne
+
+      as-first : get_or now from None ≡ get_or was from None
+      as-first = is.later from (omega arith)
+
+      turned-is : not (option_eq int_eq v (get_or now from None)) ≡ value_turned was after from
+      turned-is = ap (λ x. not (option_eq int_eq v x)) as-first ∙ ap (λ x. not (option_eq int_eq x (get_or was from None))) (sym own)
+
+      read-next : (turns : Bool) → turns ≡ not (option_eq int_eq v (get_or now from None)) → (flags' : List Bool) (terms' : Terms)
+          → length flags' ≡ length flags → ((i : ℕ) → get_or flags' i false ≡ false → get_or after i None ≡ get_or was i None)
+          → TermsFit b terms' → HasWoken b (λ o. turns && eqb o from) (λ o. Value v) terms terms' → AreReadTo b params was first (from + 1) after flags' terms'
+      read-next turns flag flags' terms' long told fits wakes = record {
+        many = set-length now after from v None set-is ∙ is.many;
+        flagged = long ∙ is.flagged;
+        short = subst AreShort (sym set-is) (All-set (λ x. IfSome x IsShort) now from v (is-short _ v bound) is.short);
+        fits = fits;
+        read = λ words k stands before p low within. elim (cases_eq p from) [
+          | inl e ↦ ap (λ j. get_or after j None) e ∙ own ∙ has words k stands ∙ ap (λ j. value (parameter_at b j) words k) (sym e)
+          | inr ne ↦ others p ne ∙ is.read words k stands before p (omega (arith, low, ne)) within
+        ];
+        later = λ p le. others p (λ e. absurd (omega (arith, le, e))) ∙ is.later p (omega (arith, le));
+        turned = told;
+        wakes = awake-then b (ranged 0 (length b.parameters) (value_turned was now)) (λ o. turns && eqb o from) (ranged 0 (length b.parameters) (value_turned was after))
+            (λ o. Value (get_or now o None)) (λ o. Value v) (λ o. Value (get_or after o None)) first terms terms'
+            (λ o.
+            one-turned (length b.parameters) from was now after there as-first others o
+            ∙ ap (λ x. ranged 0 (length b.parameters) (value_turned was now) o || (x && eqb o from)) (sym (flag ∙ turned-is)))
+            (read-before (length b.parameters) from was now after there as-first others)
+            (λ o on. ap (λ x. Value (get_or after x None)) (eqb-true o from (right-true turns (eqb o from) on)) ∙ ap Value own)
+            is.wakes wakes;
+      }
+
+      -- one that is as it was wakes none
+      pub read-same : not (option_eq int_eq v (get_or now from None)) ≡ false → after ≡ now → AreReadTo b params was first (from + 1) after flags terms
+      read-same off kept =
+          read-next false (sym off) flags terms refl (λ i told. ap (λ ys. get_or ys i None) kept ∙ is.turned i told) is.fits (awake-off b from (λ o. Value v) terms false refl)
+
+      -- one that is another has its flag
+      pub read-turned : not (option_eq int_eq v (get_or now from None)) ≡ true → (terms' : Terms) → TermsFit b terms' → HasWoken b (λ o. true && eqb o from) (λ o. Value v) terms terms'
+          → AreReadTo b params was first (from + 1) after (set flags from true) terms'
+      read-turned on terms' fits wakes =
+          read-next true (sym on) (set flags from true) terms' (length-set flags from true)
+          (turned-then flags (set flags from true) from true refl now after was (omega (arith, is.flagged, there)) (λ e. absurd (true≢false e)) as-first others is.turned)
+          fits wakes

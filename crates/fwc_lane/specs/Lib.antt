@@ -15,3 +15,4 @@ pub mod Calm
 pub mod LaneFits
 pub mod Begun
 pub mod LaneStands
+pub mod ReadTo

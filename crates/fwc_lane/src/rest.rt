@@ -4,7 +4,7 @@ ghost use Rattle.ecam_spec.specs.Value.{BusWord};
 ghost use Rattle.ecam_spec.specs.History.{Moment, Stroke};
 ghost use Rattle.ecam_kinds.specs.KeyState.{KeysStand};
 ghost use Rattle.book_model.specs.Sealed.{the_book};
-ghost use Rattle.param_table.specs.TableState.{ParamsFit, ParamsStand, IsStill};
+ghost use Rattle.param_table.specs.TableState.{ParamsStand, IsStill};
 ghost use Rattle.wakes.specs.Marks.{is_marked};
 ghost use Rattle.crew_marks.specs.CrewMarks.{stands_normal};
 ghost use Rattle.attention.specs.State.{IsSteady};
@@ -22,7 +22,6 @@ use attention::Attention;
 use book_model::Book;
 use crew_marks::Marks;
 use ecam_kinds::{ROWS, Row};
-use param_table::Params;
 use wakes::Wakes;
 
 impl Lane {
@@ -109,7 +108,7 @@ impl Lane {
             && self.terms.one_up == one_up
             && self.terms.two_up == two_up
             && none_due(&self.terms.dues, self.moments)
-            && none_changed(&self.params, book)
+            && self.params.none_changed(book)
     }
 
     /// Ends a moment in which nothing changes. No condition, alert, line, memo or row is looked at: its cost is a few writes,
@@ -160,14 +159,6 @@ fn none_due(dues: &Wakes, now: u64) -> bool
     ensures { result ≡ true → (j : ℕ) → j < length dues.now → now < slice_index dues.now j }
 {
     dues.first(now).is_none()
-}
-
-// Whether it is known that no parameter has another value than in the moment before.
-fn none_changed(params: &Params, book: &Book) -> bool
-    requires { ParamsFit (the_book book.now) params.now }
-    ensures { result ≡ true → ValuesStay (the_book book.now) params.now }
-{
-    params.changed(book, 0).is_none()
 }
 
 // Each row of the picture is there, and a flag for it.

@@ -1,5 +1,5 @@
 // The values of a moment.
-ghost use Rattle.std.specs.Prelude.{◌≡◌, ◌<◌, ℕ, List, length, slice_index_or, false, None};
+ghost use Rattle.std.specs.Prelude.{◌≡◌, ◌<◌, ◌+◌, ◌*◌, ℕ, ℤ, List, length, slice_index_or, false, Option, None};
 ghost use Rattle.ecam_spec.specs.Value.{BusWord, value};
 ghost use Rattle.ecam_spec.specs.Situation.{parameter_at};
 ghost use Rattle.book_model.specs.Sealed.{the_book};
@@ -9,6 +9,7 @@ ghost use Rattle.term_eval.specs.declared.reading.Reading.TheVariants.{Value};
 ghost use Rattle.fwc_lane.specs.TermsFit.{TermsFit};
 ghost use Rattle.fwc_lane.specs.Waking.{HasWoken, ranged, value_turned};
 ghost use Rattle.fwc_lane.specs.Given.{AreBefore};
+ghost use Rattle.fwc_lane.specs.ReadTo.{AreReadTo};
 
 use crate::flags::{is_either, set_value};
 use crate::terms::Terms;
@@ -16,11 +17,12 @@ use crate::waking::wake;
 use book_model::Book;
 use param_table::Params;
 use term_eval::Reading;
+use wakes::{bits_from, lowest};
 
 /// Makes the values of the moment before those of the moment that hasn't ended, tells in `turned` which are other than they
 /// were, and answers whether any is. One that is wakes the conditions that name it. Its cost is a look for each 64
-/// parameters, a write of a byte for each, a look at each source of those that may have another value, and what `wake` costs
-/// for each that has.
+/// parameters, a write of a byte for each, a look at each source of those that may have another value and a write for each of
+/// them, and what `wake` costs for each that has.
 pub fn read_values(
     values: &mut Vec<Option<i64>>,
     turned: &mut Vec<bool>,
@@ -53,14 +55,76 @@ pub fn read_values(
 {
     turned.fill(false);
     let mut any = false;
-    let mut from = 0;
-    while let Some(param) = params.changed(book, from) {
-        let value = params.value(book, param);
-        let other = set_value(values, param, value);
-        wake(terms, book, param, other, Reading::Value(value));
-        turned[param] = other;
+    for place in 0..book.params().len().div_ceil(64) {
+        any = is_either(any, read_word(values, turned, terms, params, book, place));
+    }
+    any
+}
+
+// The same of the 64 parameters from 64 · `place` on, where those before them are read.
+#[inline(always)]
+fn read_word(
+    values: &mut Vec<Option<i64>>,
+    turned: &mut Vec<bool>,
+    terms: &mut Terms,
+    params: &Params,
+    book: &Book,
+    place: usize,
+) -> bool
+    requires fits { ParamsFit (the_book book.now) params.now }
+    requires place { 64 * place < length book.now.params.items }
+    requires read { (was : List (Option ℤ)) × (first : Terms)
+        × AreReadTo (the_book book.now) params.now was first (64 * place)
+        values.old.items turned.old.items terms.old }
+    ensures read { (was : List (Option ℤ)) (first : Terms)
+        → AreReadTo (the_book book.now) params.now was first (64 * place)
+        values.old.items turned.old.items terms.old
+        → AreReadTo (the_book book.now) params.now was first (64 * place + 64)
+        values.new.items turned.new.items terms.new }
+    ensures kept { result ≡ false → values.new.items ≡ values.old.items }
+{
+    let mut any = false;
+    let mut from = 64 * place;
+    let mut rest = params.changed_word(book, place);
+    while rest != 0 {
+        let low = lowest(rest);
+        let param = from + low;
+        let other = read_value(values, turned, terms, params, book, param);
         any = is_either(any, other);
+        rest = bits_from(bits_from(rest, low), 1);
         from = param + 1;
     }
     any
+}
+
+// The same of one parameter, where those before it are read. Its flag and the conditions are touched only where its value is
+// another.
+#[inline(always)]
+fn read_value(
+    values: &mut Vec<Option<i64>>,
+    turned: &mut Vec<bool>,
+    terms: &mut Terms,
+    params: &Params,
+    book: &Book,
+    param: usize,
+) -> bool
+    requires fits { ParamsFit (the_book book.now) params.now }
+    requires param { param < length book.now.params.items }
+    requires read { (was : List (Option ℤ)) × (first : Terms)
+        × AreReadTo (the_book book.now) params.now was first param
+        values.old.items turned.old.items terms.old }
+    ensures read { (was : List (Option ℤ)) (first : Terms)
+        → AreReadTo (the_book book.now) params.now was first param
+        values.old.items turned.old.items terms.old
+        → AreReadTo (the_book book.now) params.now was first (param + 1)
+        values.new.items turned.new.items terms.new }
+    ensures kept { result ≡ false → values.new.items ≡ values.old.items }
+{
+    let value = params.value(book, param);
+    if !set_value(values, param, value) {
+        return false;
+    }
+    wake(terms, book, param, true, Reading::Value(value));
+    turned[param] = true;
+    true
 }

@@ -1,5 +1,5 @@
 -- The rules of all places, and what a source holds by its rule.
-use Rattle.std.proofs.Common.{◌≡◌, ℕ, ◌*◌, ◌≤◌, List, length, get_or, slice_index, Option, Some, None, refl, sym, ap, ◌∙◌, subst, arith, inl, inr}
+use Rattle.std.proofs.Common.{◌≡◌, ℕ, ◌*◌, ◌/◌, ◌≤◌, List, length, get_or, slice_index, Option, Some, None, refl, sym, ap, ◌∙◌, subst, arith, inl, inr}
 use Rattle.std.specs.Option.{option_map_or}
 use Rattle.std.proofs.lemmas.Bool.{cases_lt}
 use Rattle.std.proofs.lemmas.Option.{same_Some, none-some}
@@ -33,6 +33,9 @@ rule_source params q r (Some t) rule is = subst (RuleIs params q) (same_Some t r
 pub no_rule : (params : List Parameter) (q : ℕ) (o : Option Rule) → IsRule params q o → source_at params q ≡ None → o ≡ None
 no_rule params q None rule none = refl
 no_rule params q (Some r) rule none = absurd (none-some (source_of r.source) (sym none ∙ rule.source))
+
+pub no_rule_past : (params : List Parameter) (rules : List (Option Rule)) → AreRules params (3 * length params) rules → (q p : ℕ) → q / 3 ≡ p → length params ≤ p → get_or rules q None ≡ None
+no_rule_past params rules are q p row past = get_or_past rules q None (omega (arith, row, past, are.count))
 
 -- what is held where no rule is, and by a rule
 pub by_none : (rules : List (Option Rule)) (mailboxes : List Mailbox) (q : ℕ) → get_or rules q None ≡ None → received_at rules mailboxes q ≡ nothing

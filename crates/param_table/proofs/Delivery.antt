@@ -3,7 +3,7 @@ use Rattle.std.proofs.Common.{◌≡◌, ◌≢◌, ◌⊎◌, ℕ, ◌+◌, ◌
 use Rattle.std.specs.List.{list_any, slice_range}
 use Rattle.std.proofs.lemmas.Bool.{cases_eq, and_parts, or_parts, eq-eqb, eqb-true, ne_eqb, false≢true}
 use Rattle.std.proofs.lemmas.Bool.Decides.{nat_tests}
-use Rattle.std.proofs.lemmas.Option.{same_Some}
+use Rattle.std.proofs.lemmas.Option.{same_Some, none-some}
 use Rattle.std.proofs.lemmas.List.{get_or-set_same, get_or-set_other, length-set}
 use Rattle.std.proofs.lemmas.List.Folds.{list_any_none}
 use Rattle.ecam_spec.specs.declared.kinds.Kind.{Kind}
@@ -29,7 +29,7 @@ use Rattle.param_table.specs.HeldState.{IsDue, AreDue, Renews}
 use Rattle.param_table.specs.TableState.{HeldFits}
 use Rattle.param_table.proofs.Masks.{reading-same, says-nothing}
 use Rattle.param_table.proofs.Listeners.{fresh_for}
-use Rattle.param_table.proofs.ByRule.{rule_source, by_none, by_rule, due_by_rule}
+use Rattle.param_table.proofs.ByRule.{no_rule_past, rule_source, by_none, by_rule, due_by_rule}
 use Rattle.param_table.proofs.Hearers.{tells, rule_at, listener, each_hears, held_here, by_place}
 
 -- ---- a mailbox whose word alone is another
@@ -141,16 +141,6 @@ module _ (params : List Parameter) (routing : Routing) (clock m bits : ℕ) (old
     dues_long true = refl
     dues_long false = length-set old.dues m (clock + 1 + before.hearers.soonest)
 
-    pub delivered_fits : HeldFits params clock new
-    delivered_fits = record {
-      room = same_room ∙ fits.room;
-      dues = ap length dues ∙ dues_long (all_fresh clock before) ∙ fits.dues ∙ sym boxes_long;
-      early = λ i. elim (cases_eq i m) [
-        | inl e ↦ subst (λ j. (now j).after ≤ clock + 1) (sym e) (omega (arith, ap (λ (b : Mailbox). b.after) now-own))
-        | inr ne ↦ omega (arith, ap (λ (b : Mailbox). b.after) (now-other i ne), fits.early i)
-      ];
-    }
-
     pub delivered_others : (p : ℕ) → ((q : ℕ) (r : Rule) → q / 3 ≡ p → get_or rules q None ≡ Some r → r.mailbox ≢ m) → is_marked new.changed p ≡ is_marked old.changed p
     delivered_others p none = marks p ∙ ap (λ b. b || is_marked old.changed p) (list_any_none (λ (l : Listener). p == l.param && not (keeps_saying clock bits before l)) hearers (λ k d less. each _ (there.are.each k d less))) where
       each : (l : Listener) → IsListener rules m l → (p == l.param && not (keeps_saying clock bits before l)) ≡ false
@@ -158,6 +148,19 @@ module _ (params : List Parameter) (routing : Routing) (clock m bits : ℕ) (old
         | inl e ↦ absurd (none l.place its.rule (sym (e ∙ ap (λ (x : Listener). x.param) its.is)) its.there its.own)
         | inr ne ↦ ap (λ b. b && not (keeps_saying clock bits before l)) (ne_eqb p l.param ne)
       ]
+
+    pub delivered_fits : HeldFits params clock new
+    delivered_fits = record {
+      room = same_room ∙ fits.room;
+      within = λ p past.
+          delivered_others p (λ q r row is own. none-some r (sym (no_rule_past params rules routed.rules q p row past) ∙ is))
+          ∙ fits.within p past;
+      dues = ap length dues ∙ dues_long (all_fresh clock before) ∙ fits.dues ∙ sym boxes_long;
+      early = λ i. elim (cases_eq i m) [
+        | inl e ↦ subst (λ j. (now j).after ≤ clock + 1) (sym e) (omega (arith, ap (λ (b : Mailbox). b.after) now-own))
+        | inr ne ↦ omega (arith, ap (λ (b : Mailbox). b.after) (now-other i ne), fits.early i)
+      ];
+    }
 
     unmarked : (p : ℕ) → is_marked new.changed p ≡ false
         → (list_any (λ (l : Listener). p == l.param && not (keeps_saying clock bits before l)) hearers ≡ false) × (is_marked old.changed p ≡ false)

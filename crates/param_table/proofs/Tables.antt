@@ -244,6 +244,7 @@ back_fits b old new full half routing same marks dues fits = record {
       (λ m less. ap (λ l. (get_or l m unused).hearers) same ∙ ap (λ (x : Mailbox). x.hearers) (get_or-set_back old.held.mailboxes.items.items m)) fits.routed);
   held = record {
     room = ap room marks ∙ fits.held.room;
+    within = λ p past. ap (λ s. is_marked s p) marks ∙ fits.held.within p past;
     dues = dues ∙ fits.held.dues ∙ sym (ap length same ∙ length-map old.held.mailboxes.items.items set_back);
     early = λ m.
         let now : (get_or new.held.mailboxes.items.items m unused).after ≡ (get_or old.held.mailboxes.items.items m unused).after - 2 ^ 31 =
@@ -262,6 +263,7 @@ copied-fits b was other new fits also routing clock words changed dues = record 
       (routed_same b.parameters was.routing was.held.mailboxes.items.items new.held.mailboxes.items.items words.count (λ m less. ap (λ (x : Mailbox). x.hearers) (words.each m less)) fits.routed);
   held = record {
     room = ap room changed ∙ also.held.room;
+    within = λ p past. ap (λ s. is_marked s p) changed ∙ also.held.within p past;
     dues = ap length dues ∙ also.held.dues ∙ also.routed.count ∙ sym fits.routed.count ∙ sym words.count;
     early = λ m. elim (cases_lt m (length was.held.mailboxes.items.items)) [
       | inl within ↦ omega (arith, ap (λ (x : Mailbox). x.after) (words.each m within), also.held.early m)
@@ -324,6 +326,7 @@ passed-fits b p fits = record {
   routed = fits.routed;
   held = record {
     room = fits.held.room;
+    within = fits.held.within;
     dues = fits.held.dues;
     early = λ m. omega (arith, fits.held.early m);
   };

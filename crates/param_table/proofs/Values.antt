@@ -1,5 +1,6 @@
 -- The value of a parameter, by its sources in order, now and in the moment before.
-use Rattle.std.proofs.Common.{◌≡◌, ℕ, zero, suc, ◌+◌, ◌*◌, ◌/◌, ◌%◌, ◌<◌, ◌≤◌, false, List, [], ◌∷◌, length, map, get_or, Option, Some, None, ℤ, All, refl, sym, ap, ◌∙◌, subst, arith, add-zero}
+use Rattle.std.proofs.Common.{◌≡◌, ℕ, zero, suc, ◌+◌, ◌*◌, ◌/◌, ◌%◌, ◌<◌, ◌≤◌, Bool, true, false, not, List, [], ◌∷◌, length, map, get_or, Option, Some, None, ℤ, All, refl, sym, ap, ◌∙◌, subst, arith, add-zero}
+use Rattle.std.specs.Prelude.{is_some}
 use Rattle.std.specs.Option.{option_or, option_and_then}
 use Rattle.std.specs.List.{slice_get}
 use Rattle.std.proofs.lemmas.List.Elements.{All-get_or}
@@ -9,7 +10,7 @@ use Rattle.ecam_spec.specs.Situation.{no_parameter, parameter_at}
 use Rattle.ecam_spec.specs.Value.{BusWord, source_value, value}
 use Rattle.ecam_spec.specs.Places.{first_of}
 use Rattle.book_model.specs.View.{source_of}
-use Rattle.wakes.specs.Marks.{is_marked}
+use Rattle.wakes.specs.Marks.{is_marked, Finds}
 use Rattle.param_table.specs.declared.received.Received.{Received}
 use Rattle.param_table.specs.declared.rules.Rule.{Rule}
 use Rattle.param_table.specs.declared.table.Params.{Params}
@@ -111,3 +112,8 @@ module _ (b : Book) (words : ℕ → List BusWord) (k : ℕ) (t : Params) (p : �
 -- a parameter of a sound book has at most three sources
 pub few_sources : (b : Book) (p : ℕ) → All IsSoundParameter b.parameters → p < length b.parameters → length (parameter_at b p).sources ≤ 3
 few_sources b p sound within = (All-get_or IsSoundParameter b.parameters p no_parameter within sound).source_count
+
+-- where no first number is found, none is marked
+pub none-found : (words : List ℕ) (found : Option ℕ) (none : Bool) → Finds words 0 found → is_some found ≡ not none → none ≡ true → (j : ℕ) → is_marked words j ≡ false
+none-found words None none finds is on j = finds j (omega arith)
+none-found words (Some p) none finds is on j = absurd (let w : ⊥ = (let clash : true ≡ false = is ∙ ap not on in cc) in w)

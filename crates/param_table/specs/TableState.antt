@@ -1,5 +1,5 @@
 -- What a table of parameters says of the words so far.
-use Rattle.std.specs.Prelude.{◌≡◌, ℕ, zero, suc, ◌+◌, ◌-◌, ◌*◌, ◌/◌, ◌^◌, ◌<◌, false, ℤ, pos, neg_ℤ, ◌≤ℤ◌, ◌⊎◌, List, length, slice_index, Option, Some, None, All, true}
+use Rattle.std.specs.Prelude.{◌≡◌, ℕ, zero, suc, ◌+◌, ◌-◌, ◌*◌, ◌/◌, ◌^◌, ◌<◌, ◌≤◌, false, ℤ, pos, neg_ℤ, ◌≤ℤ◌, ◌⊎◌, List, length, slice_index, Option, Some, None, All, true}
 use Rattle.ecam_spec.specs.declared.limits.TheConstants.{NUMBER}
 use Rattle.ecam_spec.specs.declared.kinds.Kind.{Kind}
 use Rattle.ecam_spec.specs.declared.kinds.Kind.TheVariants.{Disc, Bnr, Bcd}
@@ -47,9 +47,11 @@ pub record SourceStands (stale : ℕ) (s : Source) (words : ℕ → List BusWord
   pub says : clock < r.end → word_of s words k ≡ Some r.bits
   pub left : r.end - clock ≡ option_map_or (λ m. m + stale + 1 - k) (last (arrives s words) k) 0
 
--- There is room for each parameter, and a time at which each mailbox is looked at, and no word came later than now.
+-- There is room for each parameter, and nothing else is marked. There is a time at which each mailbox is looked at, and no
+-- word came later than now.
 pub record HeldFits (params : List Parameter) (clock : ℕ) (h : Held) : Type 0 where
   pub room : room h.changed ≡ 64 * (length params / 64 + 1)
+  pub within : (p : ℕ) → length params ≤ p → is_marked h.changed p ≡ false
   pub dues : length h.dues ≡ length h.mailboxes.items.items
   pub early : AreEarly clock h.mailboxes.items.items
 

@@ -1,6 +1,7 @@
 // The values of parameters.
-ghost use Rattle.std.specs.Prelude.{◌≡◌, ℕ, suc, ◌+◌, ◌-◌, ◌*◌, ◌<◌, ◌≤◌, ◌^◌, true, false, List, [], length, map, slice_index, slice_index_or, unwrap_or, None, IfOk, IfSome};
+ghost use Rattle.std.specs.Prelude.{◌≡◌, ℕ, suc, ◌+◌, ◌-◌, ◌*◌, ◌<◌, ◌≤◌, ◌^◌, true, false, List, [], length, map, slice_index, slice_index_or, None, IfOk, IfSome};
 ghost use Rattle.std.specs.Box.{boxed_slice_items};
+ghost use Rattle.std.specs.Int.{bit_at};
 ghost use Rattle.ecam_spec.specs.Value.{BusWord, value};
 ghost use Rattle.ecam_spec.specs.Book as plain;
 ghost use Rattle.ecam_spec.specs.Situation.{parameter_at};
@@ -237,27 +238,39 @@ impl Params {
         self.first_value(book, 3 * param)
     }
 
-    /// The first parameter from `from` on that may have another value than in the moment before, before which none had
-    /// one: a source of it took a word that says something else, or its freshness ended. Its cost is a look for each 64
-    /// parameters that it goes over.
-    pub fn changed(&self, book: &Book, from: usize) -> Option<usize>
-        requires { ParamsFit (the_book book.now) self.now }
-        ensures within { IfSome result (λ p. (from ≤ p) × (p < length book.now.params.items)) }
-        ensures same { (words : ℕ → List BusWord) (k : ℕ)
-            → ParamsStand (the_book book.now) words k self.now
-            → (p : ℕ) → from ≤ p → p < unwrap_or result (length (the_book book.now).parameters)
-            → value (parameter_at (the_book book.now) p) words k
-            ≡ value_before (parameter_at (the_book book.now) p) words k }
-        ensures told { (words : ℕ → List BusWord) (k : ℕ)
-            → ParamsStand (the_book book.now) words k self.now
-            → IfSome result (λ p. MayDiffer (parameter_at (the_book book.now) p) words k) }
+    /// Whether it is known that no parameter has another value than in the moment before. Its cost is at most one look for each
+    /// 64 parameters.
+    pub fn none_changed(&self, _book: &Book) -> bool
+        requires { ParamsFit (the_book _book.now) self.now }
+        ensures { result ≡ true → (words : ℕ → List BusWord) (k : ℕ)
+            → ParamsStand (the_book _book.now) words k self.now
+            → (p : ℕ) → p < length (the_book _book.now).parameters
+            → value (parameter_at (the_book _book.now) p) words k
+            ≡ value_before (parameter_at (the_book _book.now) p) words k }
     {
-        let param = self.held.changed.first_from(from)?;
-        if param < book.params().len() {
-            Some(param)
-        } else {
-            None
-        }
+        self.held.changed.first_from(0).is_none()
+    }
+
+    /// The 64 parameters from 64 · `place` on, one bit each, which is set where the parameter may have another value than in
+    /// the moment before: a source of it took a word that says something else, or its freshness ended. Its cost is one look.
+    #[inline(always)]
+    pub fn changed_word(&self, _book: &Book, place: usize) -> u64
+        requires fits { ParamsFit (the_book _book.now) self.now }
+        requires place { 64 * place < length _book.now.params.items }
+        ensures within { (i : ℕ) → i < 64 → bit_at result i ≡ 1
+            → 64 * place + i < length _book.now.params.items }
+        ensures same { (words : ℕ → List BusWord) (k : ℕ)
+            → ParamsStand (the_book _book.now) words k self.now
+            → (i : ℕ) → i < 64 → bit_at result i ≡ 0
+            → 64 * place + i < length _book.now.params.items
+            → value (parameter_at (the_book _book.now) (64 * place + i)) words k
+            ≡ value_before (parameter_at (the_book _book.now) (64 * place + i)) words k }
+        ensures told { (words : ℕ → List BusWord) (k : ℕ)
+            → ParamsStand (the_book _book.now) words k self.now
+            → (i : ℕ) → i < 64 → bit_at result i ≡ 1
+            → MayDiffer (parameter_at (the_book _book.now) (64 * place + i)) words k }
+    {
+        self.held.changed.word(place)
     }
 
     // What the first of the sources from this place on gives that gives something.

@@ -118,10 +118,9 @@ fn take_words(rt: &impl Abort, table: &mut Params, book: &Book)
     table.take(book, 0, 0x0000041d);
     assert_eq!(rt; table.value(book, 0), Some(-12345));
     assert_eq!(rt; table.value(book, 1), Some(1));
-    assert_eq!(rt; table.changed(book, 0), Some(0));
-    assert_eq!(rt; table.changed(book, 1), Some(1));
+    assert_eq!(rt; table.changed_word(book, 0), 3);
     table.tick(book);
-    assert_eq!(rt; table.changed(book, 0), None);
+    assert_eq!(rt; table.changed_word(book, 0), 0);
     // A number with another SDI, one with the source's own, and a discrete of even parity.
     table.take(book, 0, 0x848d161e);
     assert_eq!(rt; table.value(book, 0), Some(-12345));
@@ -153,14 +152,14 @@ fn take_again(rt: &impl Abort, table: &mut Params, book: &Book)
     table.tick(book);
     table.tick(book);
     table.take(book, 0, 0x0000041d);
-    assert_eq!(rt; table.changed(book, 0), None);
+    assert_eq!(rt; table.changed_word(book, 0), 0);
     table.tick(book);
     table.tick(book);
     assert_eq!(rt; table.value(book, 1), Some(1));
-    assert_eq!(rt; table.changed(book, 0), None);
+    assert_eq!(rt; table.changed_word(book, 0), 0);
     table.tick(book);
     assert_eq!(rt; table.value(book, 1), None);
-    assert_eq!(rt; table.changed(book, 0), Some(1));
+    assert_eq!(rt; table.changed_word(book, 0), 2);
 }
 
 #[test]

@@ -114,6 +114,13 @@ module _ (words new : List ℕ) (i v : ℕ) (room : i < 64 * length words) (here
 pub none_in : (words : List ℕ) (j : ℕ) → slice_index words (j / 64) ≡ 0 → is_marked words j ≡ false
 none_in words j zero_word = ap (λ w. bit_at w (j % 64) == 1) zero_word ∙ ap (λ n. n == 1) (bit_at-zero (j % 64))
 
+-- the numbers of a word are its bits
+pub word-bit : (words : List ℕ) (place i : ℕ) → i < 64 → is_marked words (64 * place + i) ≡ (bit_at (slice_index words place) i == 1)
+word-bit words place i lt =
+    let word : (64 * place + i) / 64 ≡ place = omega (arith, lt) in
+    let bit : (64 * place + i) % 64 ≡ i = omega (arith, lt) in
+    ap (λ q. bit_at (slice_index words q) ((64 * place + i) % 64) == 1) word ∙ ap (λ q. bit_at (slice_index words place) q == 1) bit
+
 -- the bits of word p from bit s on, where the number of bit s is `from`
 module _ (words : List ℕ) (from p s v : ℕ) (starts : 64 * p + s ≡ from) (here : slice_index words p ≡ v) where
   bit : (n : ℕ) → bit_at (v / 2 ^ s) n ≡ bit_at v (s + n)

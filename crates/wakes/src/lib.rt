@@ -9,4 +9,4 @@ mod tests;
 mod wheel;
 
 pub use due::Wakes;
-pub use marked::Marked;
+pub use marked::{Marked, bits_from, lowest};

@@ -1,5 +1,5 @@
 // A set of numbers that is gone through in their order.
-ghost use Rattle.std.specs.Prelude.{◌≡◌, ℕ, ◌+◌, ◌*◌, ◌/◌, ◌%◌, ◌<◌, ◌≤◌, ◌^◌, ◌==◌, ◌||◌, ◌&&◌, min, not, true, false, List, length, count_ones, IfOk};
+ghost use Rattle.std.specs.Prelude.{◌≡◌, ℕ, ◌+◌, ◌*◌, ◌/◌, ◌%◌, ◌<◌, ◌≤◌, ◌^◌, ◌==◌, ◌||◌, ◌&&◌, min, not, true, false, List, length, slice_index, count_ones, IfOk};
 ghost use Rattle.std.specs.Int.{bit_at};
 ghost use Rattle.std.specs.Box.{boxed_slice_items};
 ghost use Rattle.wakes.specs.Marks.{is_marked, marked_below, room, Finds};
@@ -131,6 +131,16 @@ impl Marked {
         bits_from(self.words[i / 64], i % 64) % 2 == 1
     }
 
+    /// The 64 numbers from 64 · `place` on, one bit each. Its cost is one look.
+    #[inline(always)]
+    pub fn word(&self, place: usize) -> u64
+        requires { place < length self.now }
+        ensures bits { result ≡ slice_index self.now place }
+        ensures fits { result < 2 ^ 64 }
+    {
+        self.words[place]
+    }
+
     /// The first number of the set from `from` on. Its cost is one look for each 64 numbers that it goes over; one alone
     /// where `from` lies behind each number that was put in since it was cleared, here or in a set that was joined or taken
     /// over.
@@ -234,6 +244,7 @@ fn ones_of(word: u64, many: usize) -> usize
 }
 
 /// The bits of a word from one on.
+#[inline(always)]
 pub fn bits_from(word: u64, bit: usize) -> u64
     requires { bit < 64 }
     ensures bits { result ≡ word / 2 ^ bit }
@@ -243,6 +254,7 @@ pub fn bits_from(word: u64, bit: usize) -> u64
 }
 
 /// The place of the lowest bit.
+#[inline(always)]
 pub fn lowest(word: u64) -> usize
     requires { 0 < word }
     ensures within { result < 64 }

@@ -8,6 +8,9 @@ fn goes_through_in_order(rt: HostRuntime) -> Result<(), Fail> {
     marked.mark(130);
     marked.mark(3);
     marked.mark(64);
+    assert_eq!(rt; marked.word(0), 8);
+    assert_eq!(rt; marked.word(1), 1);
+    assert_eq!(rt; marked.word(2), 4);
     assert_eq!(rt; marked.first_from(0), Some(3));
     assert_eq!(rt; marked.first_from(4), Some(64));
     assert_eq!(rt; marked.has(64), true);

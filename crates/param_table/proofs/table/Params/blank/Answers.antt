@@ -41,6 +41,7 @@ fits c = record {
   routed = c.requires.routed;
   held = record {
     room = c.in_ok-changed.ensures.size ∙ ap (λ n. 64 * (n / 64 + 1)) (many c);
+    within = λ p past. c.in_ok-changed.ensures.none p;
     dues = ap length c.in_ok-dues.ensures ∙ length-replicate c.len.result never ∙ (let count : c.len.result ≡ length c.args.mailboxes.items.items = omega (arith, c.len.ensures) in count);
     early = c.requires.early;
   };

@@ -31,6 +31,7 @@ kept c b fits = record {
       (many c) (λ m less. ap (λ (x : Mailbox). x.hearers) (empty c m)) fits.routed;
   held = record {
     room = c.clear.ensures.room ∙ ap room c.forget_words.ensures.changed ∙ fits.held.room;
+    within = λ p past. c.clear.ensures.none p;
     dues = ap length c.clear-2.ensures ∙ length-replicate _ _ ∙ ap length c.forget_words.ensures.dues ∙ fits.held.dues ∙ sym (many c);
     early = λ m. omega (arith, ap (λ (x : Mailbox). x.after) (empty c m));
   };

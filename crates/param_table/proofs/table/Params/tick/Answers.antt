@@ -1,7 +1,8 @@
-use Rattle.std.proofs.Common.{◌≡◌, ℕ, suc, ◌+◌, length, get_or, List, refl, sym, ap, ◌∙◌, subst, add-one, arith}
+use Rattle.std.proofs.Common.{◌≡◌, ℕ, suc, ◌+◌, ◌≤◌, false, length, get_or, List, None, refl, sym, ap, ◌∙◌, subst, add-one, arith}
+use Rattle.std.proofs.lemmas.Bool.{ne_eqb}
 use Rattle.ecam_spec.specs.Book.{Parameter}
 use Rattle.book_model.specs.Sealed.{the_book}
-use Rattle.wakes.specs.Marks.{room}
+use Rattle.wakes.specs.Marks.{is_marked, room}
 use Rattle.param_table.specs.declared.held.Held.{Held}
 use Rattle.param_table.specs.declared.routing.Routing.{Routing}
 use Rattle.param_table.specs.declared.table.Params.{Params}
@@ -9,6 +10,7 @@ use Rattle.param_table.specs.HeldValues.{due_at, is_ending, received_at, unused}
 use Rattle.param_table.specs.HeldState.{IsDue, WillLook}
 use Rattle.param_table.specs.Routes.{AreRouted}
 use Rattle.param_table.specs.TableState.{HeldFits, ParamsFit, ParamsStand, received_by}
+use Rattle.param_table.proofs.ByRule.{by_none, no_rule_past}
 use Rattle.param_table.proofs.Tables.{moment, clock_back, back_fits, will_look}
 use Rattle.param_table.proofs.table.Params.tick.Goals as goal
 use Rattle.param_table.proofs.table.Params.tick.Goals.{After-forget_changes, After-look_at_due, then-self, else-self}
@@ -30,9 +32,10 @@ mid_fits c = elim c.if-self.branch [
 
 -- a moment later it still does, where the mailboxes are the same and as many are looked at
 later_fits : (params : List Parameter) (clock : ℕ) (old new : Held) → HeldFits params clock old → new.mailboxes ≡ old.mailboxes → room new.changed ≡ room old.changed
-    → length new.dues ≡ length old.dues → HeldFits params (clock + 1) new
-later_fits params clock old new fits same marks dues = record {
+    → length new.dues ≡ length old.dues → ((p : ℕ) → length params ≤ p → is_marked new.changed p ≡ false) → HeldFits params (clock + 1) new
+later_fits params clock old new fits same marks dues within = record {
   room = marks ∙ fits.room;
+  within = within;
   dues = dues ∙ fits.dues ∙ sym (ap (λ v. length v.items.items) same);
   early = λ m. omega (arith, ap (λ v. (get_or v.items.items m unused).after) same, fits.early m);
 }
@@ -45,7 +48,7 @@ look_at_due-requires-clause-routed c =
 pub look_at_due-requires-clause-fits : goal.look_at_due-requires-clause-fits
 look_at_due-requires-clause-fits c =
     later_fits (the_book c.args._book.now).parameters c.if-self.self.clock c.if-self.self.held c.forget_changes.new.self (mid_fits c.before.before.before).held
-    c.forget_changes.ensures.mailboxes c.forget_changes.ensures.room (ap length c.forget_changes.ensures.dues)
+    c.forget_changes.ensures.mailboxes c.forget_changes.ensures.room (ap length c.forget_changes.ensures.dues) (λ p past. c.forget_changes.ensures.none p)
 
 fits_after : (c : After-look_at_due)
     → ParamsFit (the_book c.args._book.now) (record { clock = c.if-self.self.clock + 1; held = c.look_at_due.new.self; routing = c.if-self.self.routing })
@@ -56,7 +59,11 @@ fits_after c =
       sound = fits.sound;
       routed = subst (λ v. AreRouted (the_book c.args._book.now).parameters c.if-self.self.routing v.items.items) (sym same) fits.routed;
       held = later_fits (the_book c.args._book.now).parameters c.if-self.self.clock c.if-self.self.held c.look_at_due.new.self fits.held same
-          (c.look_at_due.ensures.room ∙ c.forget_changes.ensures.room) (c.look_at_due.ensures.dues ∙ ap length c.forget_changes.ensures.dues);
+          (c.look_at_due.ensures.room ∙ c.forget_changes.ensures.room) (c.look_at_due.ensures.dues ∙ ap length c.forget_changes.ensures.dues)
+          (λ p past. c.look_at_due.ensures.others p (c.forget_changes.ensures.none p) (λ q row.
+          ap (is_ending (c.if-self.self.clock + 1)) (by_none c.table.result.now.rules.items.items c.forget_changes.new.self.mailboxes.items.items q
+          (ap (λ (r : Routing). get_or r.rules.items.items q None) c.table.ensures ∙ no_rule_past (the_book c.args._book.now).parameters c.if-self.self.routing.rules.items.items fits.routed.rules q p row past))
+          ∙ ne_eqb 0 (c.if-self.self.clock + 1) (λ e. absurd (omega (arith, e)))));
     }
 
 pub returns-clause-fits : goal.returns-clause-fits
