@@ -1,5 +1,5 @@
 // What the crew makes of a moment: the marks, the lights and the sound, and the selection.
-ghost use Rattle.std.specs.Prelude.{◌≡◌, ◌+◌, ◌<◌, ◌==◌, ◌&&◌, ℕ, suc, false, length, not, nat_lt};
+ghost use Rattle.std.specs.Prelude.{◌≡◌, ◌+◌, ◌<◌, ◌==◌, ◌&&◌, ℕ, suc, false, length, not, nat_lt, IfSome};
 ghost use Rattle.ecam_spec.specs.Book as plain;
 ghost use Rattle.ecam_spec.specs.History.{Moment};
 ghost use Rattle.ecam_spec.specs.Situation.{strokes_in, phase_in, condition_in};
@@ -19,6 +19,7 @@ ghost use Rattle.crew_marks.specs.MarkSets.{mark_at};
 ghost use Rattle.fwc_lane.specs.CrewStands.{CrewStands, IsShownAsBefore, IsUpAsBefore, OthersAsBefore};
 
 use crate::flags::is_either;
+use crate::strokes::Strokes;
 use alert_truth::Truths;
 use attention::Attention;
 use book_model::Book;
@@ -122,16 +123,37 @@ fn step_attention(
     attention.step_still(book, truths.up(), marks.shown(), keys);
 }
 
+// Steps the selection. It stays as it is where no key is pressed, and ALL isn't held.
+fn step_selection(selector: &mut Selector, book: &Book, keys: &Strokes, target: Option<u32>)
+    requires selector { SelectorFits (the_book book.now) selector.old }
+    requires goes_on { selecting.CanGoOn selector.old }
+    requires target { IfSome target (λ a. a < length book.now.alerts.items) }
+    ensures selector { SelectorFits (the_book book.now) selector.new }
+    ensures moments { selector.new.moments ≡ selector.old.moments + 1 }
+    ensures stands { (m : ℕ → Moment) (k : ℕ)
+        → KeysStand (strokes_in (the_book book.now) m) k keys.now
+        → target ≡ screen.target_in (the_book book.now) m k
+        → selecting.Stands (screen.panel (the_book book.now) m) k selector.old
+        → selecting.Stands (screen.panel (the_book book.now) m) (suc k) selector.new }
+{
+    book.sealed();
+    if keys.are_idle() {
+        selector.rest();
+        return;
+    }
+    selector.step(book, keys.keys(), target);
+}
+
 /// Steps the crew's marks, the lights and the sound, and the selection by one moment. CLR and EMER CANC aim at the first
-/// alert that the moment before showed. Its cost is one look at the key of each page, and, where an alert turned or a key
-/// acts on them, a few for each 64 alerts and at each of which something is told or kept.
+/// alert that the moment before showed. Its cost is a few looks; where a key is pressed or held one at the key of each page;
+/// and, where an alert turned or a key acts on them, a few for each 64 alerts and at each of which something is told or kept.
 pub fn step_crew(
     marks: &mut Marks,
     attention: &mut Attention,
     selector: &mut Selector,
     truths: &Truths,
     book: &Book,
-    keys: &Keys,
+    keys: &Strokes,
     enters_one: bool,
 )
     requires truths { TruthsFit (the_book book.now) truths.now }
@@ -156,9 +178,7 @@ pub fn step_crew(
         → CrewStands (the_book book.now) m (suc k) marks.new attention.new selector.new }
     ensures kept { marks.new.changed ≡ false → marks.new.sets ≡ marks.old.sets }
 {
-    book.sealed();
-    step_marks(marks, truths, book, keys, enters_one);
-    step_attention(attention, marks, truths, book, keys);
-    let target = marks.target();
-    selector.step(book, keys, target);
+    step_marks(marks, truths, book, keys.keys(), enters_one);
+    step_attention(attention, marks, truths, book, keys.keys());
+    step_selection(selector, book, keys, marks.target());
 }

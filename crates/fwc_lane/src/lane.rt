@@ -428,7 +428,7 @@ impl Lane {
             &mut self.selector,
             &self.truths,
             book,
-            self.keys.keys(),
+            &self.keys,
             enters_one(self.ticked, self.phase, stepped.phase),
         );
         let turned = Turned::of(

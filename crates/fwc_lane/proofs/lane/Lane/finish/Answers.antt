@@ -1,10 +1,10 @@
-use Rattle.std.proofs.Common.{◌≡◌, ◌<◌, ℕ, suc, true, false, length, get_or, None, refl, sym, ap, subst, ◌∙◌, arith, add-one}
+use Rattle.std.proofs.Common.{◌≡◌, ◌<◌, ℕ, suc, true, false, length, get_or, None, refl, sym, ap, ◌∙◌, arith, add-one}
 use Rattle.std.proofs.lemmas.Bool.{lt-ltb}
 use Rattle.ecam_spec.specs.BookTerms.{lines_of}
 use Rattle.ecam_spec.specs.Term.{holds}
-use Rattle.ecam_spec.specs.Situation.{strokes_in, value_in, phase_in, world}
+use Rattle.ecam_spec.specs.Situation.{value_in, phase_in, world}
 use Rattle.ecam_kinds.specs.declared.keys.Keys.{Keys}
-use Rattle.ecam_kinds.specs.KeyState.{is_pressed, KeysStand}
+use Rattle.ecam_kinds.specs.KeyState.{is_pressed}
 use Rattle.ecam_spec.specs.Screen.{cockpit, line_stands}
 use Rattle.book_model.specs.Told.{TellsOf}
 use Rattle.book_model.specs.Sealed.{the_book}
@@ -64,7 +64,7 @@ returns-clause-whole c = λ m visited begun.
     let lines = c.step_conditions-stepped.ensures.line_flags m visited (lends-from b m k _ _ _ _ _ _ c.args.self.now.params c.args.self.now.keys c.keys.ensures begun.came told) (record { terms = begun.terms; phases = begun.phases; truths = begun.truths; was = begun.phase; lines = begun.lines; memos = begun.memos }) in
     let memos = c.step_conditions-stepped.ensures.memo_flags m visited (lends-from b m k _ _ _ _ _ _ c.args.self.now.params c.args.self.now.keys c.keys.ensures begun.came told) (record { terms = begun.terms; phases = begun.phases; truths = begun.truths; was = begun.phase; lines = begun.lines; memos = begun.memos }) in
     let enters = c.enters_one.ensures b m k begun.ticked phase begun.phase in
-    let crew = c.step_crew.ensures.stands m k stepped.truths (subst (KeysStand (strokes_in b m) k) (sym c.keys-2.ensures) begun.came.strokes) enters (record { marks = begun.marks; lights = begun.attention; selection = begun.selector }) in
+    let crew = c.step_crew.ensures.stands m k stepped.truths begun.came.strokes enters (record { marks = begun.marks; lights = begun.attention; selection = begun.selector }) in
     let turned : AreTurned b m k c.of-turned.result =
     are-turned b m k visited c.args.one_up c.args.two_up c.args.self.now c.of-turned.result c.step_conditions-stepped.result.phase c.args.values c.step_conditions-stepped.new.lines.items c.step_conditions-stepped.new.memos.items
     c.step_crew.new.marks c.normal-normal.result c.normal.result begun (record {
