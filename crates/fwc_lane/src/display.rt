@@ -20,7 +20,7 @@ ghost use Rattle.fwc_lane.specs.Drawn.{display_rows_in};
 use crate::scene::{Scene, Turned};
 use book_model::{Book, Page};
 use ecam_kinds::{Phase, Picture, ROWS};
-use status_page::fill_status;
+use status_page::fill_status_among;
 use system_display::{Choice, fill_page, mend_page};
 
 // The first page that is shown in a phase of itself.
@@ -173,8 +173,9 @@ fn fill_display(
             picture,
             changed,
         ),
-        Choice::Status(page) => fill_status(
+        Choice::Status(page) => fill_status_among(
             book,
+            scene.truths.near(),
             scene.truths.active(),
             scene.marks.cancelled(),
             page,

@@ -40,8 +40,13 @@ pub fn status_rows_among(book: &Book, near: &Marked, active: &[bool], cancelled:
     count_rows(book, Some(near), active, cancelled)
 }
 
-// The same, where it may be known which alerts are near.
-fn count_rows(book: &Book, near: Option<&Marked>, active: &[bool], cancelled: &[bool]) -> u32
+/// The same, where it may be known which alerts are near.
+pub(crate) fn count_rows(
+    book: &Book,
+    near: Option<&Marked>,
+    active: &[bool],
+    cancelled: &[bool],
+) -> u32
     requires active { length active.now ≡ length book.now.alerts.items }
     requires cancelled { length cancelled.now ≡ length book.now.alerts.items }
     requires near { IfSome near (λ n. (a : ℕ) → get_or active.now a false ≡ true

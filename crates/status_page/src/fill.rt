@@ -1,5 +1,5 @@
 // The eighteen rows of one status page.
-ghost use Rattle.std.specs.Prelude.{◌≡◌, ◌+◌, ◌*◌, ◌/◌, ◌%◌, ◌≤◌, ◌<◌, ℕ, Bool, [], ◌∷◌, codes, drop, length, All};
+ghost use Rattle.std.specs.Prelude.{◌≡◌, ◌+◌, ◌*◌, ◌/◌, ◌%◌, ◌≤◌, ◌<◌, ℕ, Bool, true, false, [], ◌∷◌, codes, drop, length, get_or, All, IfSome};
 ghost use Rattle.ecam_spec.specs.declared.kinds.Colour.TheVariants.{Green};
 ghost use Rattle.ecam_spec.specs.declared.limits.TheConstants.{ALERTS, DISPLAY_ROWS, STATUS_LINES};
 ghost use Rattle.ecam_spec.specs.Picture.{row, zone};
@@ -9,16 +9,18 @@ ghost use Rattle.zone_rows.specs.Tracked.{tracked, IsWhole};
 ghost use Rattle.zone_rows.specs.Mended.{Mends};
 ghost use Rattle.status_page.specs.Behind.{AppendsBehind};
 ghost use Rattle.book_model.specs.Told.{TellsBelow, flagged};
+ghost use Rattle.wakes.specs.Marks.{is_marked};
 ghost use Rattle.status_page.specs.StatusOf.{rows_at, status_of};
 
 use crate::active::{Places, gather};
 use crate::cancelled::put_cancelled;
-use crate::count::status_rows;
+use crate::count::count_rows;
 use crate::place::{Place, ROOM};
 use crate::sections::put_section;
 use book_model::Book;
 use ecam_kinds::{Colour, Picture, ROWS, Row};
 use ecam_spec::limits;
+use wakes::Marked;
 use zone_rows::{DISPLAY, blank_rest, put_next};
 
 // The rows of a page.
@@ -46,13 +48,61 @@ pub fn fill_status(
         → Mends 15 (status_page page (status_of (the_book book.now) is_active is_cancelled))
         (tracked picture.old.rows changed.old) (tracked picture.new.rows changed.new) }
 {
-    let many = status_rows(book, active, cancelled);
+    fill_known(book, None, active, cancelled, page, picture, changed)
+}
+
+/// The same, where each active alert is near. In place of the two looks at each flag it costs as often a look for each 64
+/// alerts, and at the flag of each near one.
+pub fn fill_status_among(
+    book: &Book,
+    near: &Marked,
+    active: &[bool],
+    cancelled: &[bool],
+    page: u32,
+    picture: &mut Picture,
+    changed: &mut [bool; ROWS],
+)
+    requires active { length active.now ≡ length book.now.alerts.items }
+    requires cancelled { length cancelled.now ≡ length book.now.alerts.items }
+    requires near { (a : ℕ) → get_or active.now a false ≡ true → is_marked near.now a ≡ true }
+    ensures whole { IsWhole (tracked picture.new.rows changed.new) }
+    ensures rows { (is_active is_cancelled : ℕ → Bool)
+        → TellsBelow (length book.now.alerts.items) active.now is_active
+        → TellsBelow (length book.now.alerts.items) cancelled.now is_cancelled
+        → Mends 15 (status_page page (status_of (the_book book.now) is_active is_cancelled))
+        (tracked picture.old.rows changed.old) (tracked picture.new.rows changed.new) }
+{
+    fill_known(book, Some(near), active, cancelled, page, picture, changed)
+}
+
+// The same, where it may be known which alerts are near.
+fn fill_known(
+    book: &Book,
+    near: Option<&Marked>,
+    active: &[bool],
+    cancelled: &[bool],
+    page: u32,
+    picture: &mut Picture,
+    changed: &mut [bool; ROWS],
+)
+    requires active { length active.now ≡ length book.now.alerts.items }
+    requires cancelled { length cancelled.now ≡ length book.now.alerts.items }
+    requires near { IfSome near (λ n. (a : ℕ) → get_or active.now a false ≡ true
+        → is_marked n.now a ≡ true) }
+    ensures whole { IsWhole (tracked picture.new.rows changed.new) }
+    ensures rows { (is_active is_cancelled : ℕ → Bool)
+        → TellsBelow (length book.now.alerts.items) active.now is_active
+        → TellsBelow (length book.now.alerts.items) cancelled.now is_cancelled
+        → Mends 15 (status_page page (status_of (the_book book.now) is_active is_cancelled))
+        (tracked picture.old.rows changed.old) (tracked picture.new.rows changed.new) }
+{
+    let many = count_rows(book, near, active, cancelled);
     if many == 0 {
         fill_normal(&mut picture.rows, changed);
         return;
     }
     let mut places = Places::new();
-    gather(&mut places, book, active);
+    gather(&mut places, book, near, active);
     let first = first_row(page, many);
     fill_page(
         &mut picture.rows,

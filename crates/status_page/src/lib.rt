@@ -12,4 +12,4 @@ mod place;
 mod sections;
 
 pub use count::{status_rows, status_rows_among};
-pub use fill::fill_status;
+pub use fill::{fill_status, fill_status_among};

@@ -4,6 +4,7 @@ use Rattle.ecam_spec.specs.Situation.{condition_in, phase_in, active_in}
 use Rattle.ecam_spec.specs.Screen.{panel, display, cancelled_in}
 use Rattle.book_model.specs.Sealed.{the_book}
 use Rattle.book_model.proofs.BookLists.{many-alerts, many-pages, many-parameters}
+use Rattle.wakes.specs.Marks.{is_marked}
 use Rattle.system_display.specs.Selecting.{IsChoiceOf}
 use Rattle.fwc_lane.proofs.Showing.{active-is}
 use Rattle.fwc_lane.proofs.CrewMoments.{cancelled-told, first-told}
@@ -32,11 +33,15 @@ draw_page-requires-in-Page-clause-page c =
     let within = subst (IsChoiceOf (length (the_book c.args.book.now).pages)) c.in-Page.is (c.choice.ensures.within (the_book c.args.book.now) c.requires.fits.selector) in
     omega (arith, within, many-pages c.args.book.now)
 
-pub fill_status-requires-clause-active : goal.fill_status-requires-clause-active
-fill_status-requires-clause-active c = ap length c.active.ensures.value ∙ c.requires.fits.truths.active ∙ many-alerts c.args.book.now
+pub fill_status_among-requires-clause-active : goal.fill_status_among-requires-clause-active
+fill_status_among-requires-clause-active c = ap length c.active.ensures.value ∙ c.requires.fits.truths.active ∙ many-alerts c.args.book.now
 
-pub fill_status-requires-clause-cancelled : goal.fill_status-requires-clause-cancelled
-fill_status-requires-clause-cancelled c = ap length c.cancelled.ensures ∙ c.requires.fits.marks.many.cancelled ∙ many-alerts c.args.book.now
+pub fill_status_among-requires-clause-cancelled : goal.fill_status_among-requires-clause-cancelled
+fill_status_among-requires-clause-cancelled c = ap length c.cancelled.ensures ∙ c.requires.fits.marks.many.cancelled ∙ many-alerts c.args.book.now
+
+pub fill_status_among-requires-clause-near : goal.fill_status_among-requires-clause-near
+fill_status_among-requires-clause-near c = λ a on.
+    ap (λ xs. is_marked xs a) c.near.ensures ∙ c.requires.fits.truths.near.active a (sym (ap (λ xs. get_or xs a false) c.active.ensures.value) ∙ on)
 
 pub returns-in-Auto-clause-rows : goal.returns-in-Auto-clause-rows
 returns-in-Auto-clause-rows c = λ m k scene stays.
@@ -62,6 +67,6 @@ returns-in-Status-clause-rows c = λ m k scene stays.
     let d = c.args.book.now in
     let b = the_book d in
     status-page-drawn b m k _ _ c.in-Status.page (sym c.in-Status.is ∙ c.choice.ensures.choice (panel b m) (suc k) scene.selector)
-    (c.fill_status.ensures.rows (λ a. active_in b m a k) (λ a. cancelled_in b m a k)
+    (c.fill_status_among.ensures.rows (λ a. active_in b m a k) (λ a. cancelled_in b m a k)
     (λ a lt. c.active.ensures.tells b (condition_in b m) (phase_in b m) (suc k) scene.truths a (omega (arith, many-alerts d)) ∙ active-is b m a k)
     (λ a lt. ap (λ xs. get_or xs a false) c.cancelled.ensures ∙ cancelled-told b m k _ scene.marks a (omega (arith, many-alerts d))))

@@ -13,10 +13,10 @@ use Rattle.status_page.proofs.active.gather.Goals as goal
 pub loop-next-init : goal.loop-next-init
 unfolding below
 loop-next-init c = record {
-  most = c.next_active-next.ensures.end;
-  active = c.next_active-next.ensures.active;
+  most = c.next_known-next.ensures.end;
+  active = c.next_known-next.ensures.active;
   few = omega (arith, ap length c.requires.none);
-  places = c.requires.none ∙ sym c.next_active-next.ensures.none;
+  places = c.requires.none ∙ sym c.next_known-next.ensures.none;
 }
 
 pub overflow_cast-next : goal.overflow_cast-next
@@ -29,14 +29,14 @@ pub loop-next-preserved : goal.loop-next-preserved
 loop-next-preserved c =
     let active = flagged c.args.active.now in
     record {
-      most = c.next_active-next-in-loop-next.ensures.end;
-      active = c.next_active-next-in-loop-next.ensures.active;
-      few = omega (arith, c.loop-next.invariant.few, ap length c.push.ensures.items, length-append c.loop-next.places.items (c.loop-next.next ∷ []), c.next_active-next-in-loop-next.ensures.from);
+      most = c.next_known-next-in-loop-next.ensures.end;
+      active = c.next_known-next-in-loop-next.ensures.active;
+      few = omega (arith, c.loop-next.invariant.few, ap length c.push.ensures.items, length-append c.loop-next.places.items (c.loop-next.next ∷ []), c.next_known-next-in-loop-next.ensures.from);
       places =
           c.push.ensures.items
           ∙ ap (λ xs. xs ++ c.loop-next.next ∷ []) c.loop-next.invariant.places
           ∙ sym (active-more active c.loop-next.next (c.loop-next.invariant.active c.loop-next-test.true))
-          ∙ sym c.next_active-next-in-loop-next.ensures.none;
+          ∙ sym c.next_known-next-in-loop-next.ensures.none;
     }
 
 pub returns-clause-places : goal.returns-clause-places
