@@ -1,6 +1,5 @@
 // Advisories by a file of limits. A slash stands for the end of a line.
 use crate::books::{HYDRAULICS, LEVEL_FOUR};
-use crate::named::edited;
 use crate::outside::{does, file, lines_of, sound, two_files};
 use ecam_io::MemoryFile;
 use replay_core::Status;
@@ -12,7 +11,7 @@ const LIMITS: &str =
     "version = 1\n[[advisory]]\nname = \"hyd_press\"\nparam = \"g_press\"\npage = \"hyd\"\nlow = 1450\nhigh = 3200\nmargin = 100\nconfirm = 1\n";
 
 // A record, and what is written of it.
-const ADVISED: [(&str, &str); 4] = [
+const ADVISED: &[(&str, &str)] = &[
     (
         "W 1 ece40003/T/T/W 1 ec4e0003/T/W 1 6bb80003/T/E/",
         "@1/AD hyd_press 1/PG hyd/@3/AD -/PG -/END 4/",
@@ -27,7 +26,7 @@ const ADVISED: [(&str, &str); 4] = [
 ];
 
 // What stands in the place of what in the limits, and what is told of them.
-const FAULTS: [(&str, &str, &str); 4] = [
+const FAULTS: &[(&str, &str, &str)] = &[
     ("margin = 100", "margin = 900", "limits: A13 item 1\n"),
     ("\"g_press\"", "\"g_lo\"", "limits: A11 item 1\n"),
     ("version = 1", "version = 2", "limits: A03 item 0\n"),
@@ -60,8 +59,8 @@ fn values_that_drift_are_told(rt: HostRuntime) -> Result<(), Fail> {
     let alloc = rt.alloc();
     let words = " advise book record limits";
     for (record_text, output) in ADVISED {
-        let texts = (HYDRAULICS, record_text, LIMITS.as_bytes());
-        advises(&rt, alloc, words, texts, (Status::Done, output, ""))?;
+        let texts = (HYDRAULICS, *record_text, LIMITS.as_bytes());
+        advises(&rt, alloc, words, texts, (Status::Done, *output, ""))?;
     }
     let texts = (HYDRAULICS, "W 1 e0000003/T/T/A/", LIMITS.as_bytes());
     let want = (
@@ -78,9 +77,9 @@ fn limits_with_a_fault_are_refused(rt: HostRuntime) -> Result<(), Fail> {
     let alloc = rt.alloc();
     for words in [" advise book record limits", " advise book missing limits"] {
         for (old, new, line) in FAULTS {
-            let limits = edited(alloc, LIMITS, old, new)?;
+            let limits = LIMITS.replace(alloc, *old, new)?;
             let texts = (HYDRAULICS, "E/", limits.as_bytes());
-            let want = (Status::LimitsRefused, "", line);
+            let want = (Status::LimitsRefused, "", *line);
             advises(&rt, alloc, words, texts, want)?;
         }
         for (count, line) in [
@@ -102,7 +101,7 @@ fn limits_with_a_fault_are_refused(rt: HostRuntime) -> Result<(), Fail> {
 #[test]
 fn files_are_opened_in_order(rt: HostRuntime) -> Result<(), Fail> {
     let alloc = rt.alloc();
-    let faulty = edited(alloc, LIMITS, "version = 1", "version = 2")?;
+    let faulty = LIMITS.replace(alloc, "version = 1", "version = 2")?;
     let texts = (LEVEL_FOUR, "E/", faulty.as_bytes());
     let want = (Status::BookRefused, "", "book: F09 alert 1\n");
     for words in [" advise book missing limits", " advise book record missing"] {

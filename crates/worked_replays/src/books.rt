@@ -1,5 +1,29 @@
 // The books of the tests.
 
+// The book of a name in a table of worked records.
+pub(crate) fn book_named(name: &str) -> Option<&'static str> {
+    match name {
+        "ADVISORY" => Some(ADVISORY),
+        "CAUTION" => Some(CAUTION),
+        "CONFIRMED" => Some(CONFIRMED),
+        "SHORT_LIVED" => Some(SHORT_LIVED),
+        "INHIBITED" => Some(INHIBITED),
+        "TWO" => Some(TWO),
+        "NINE" => Some(NINE),
+        "CONFIRMED_ONCE" => Some(CONFIRMED_ONCE),
+        "PROCEDURE" => Some(PROCEDURE),
+        "HYDRAULICS" => Some(HYDRAULICS),
+        "WARNING" => Some(WARNING),
+        "PAGES" => Some(PAGES),
+        "HEALTH" => Some(HEALTH),
+        "CONFIRMED_ADVISORY" => Some(CONFIRMED_ADVISORY),
+        "HELD_ON" => Some(HELD_ON),
+        "ON_A_PRESS" => Some(ON_A_PRESS),
+        "INHIBITED_ADVISORY" => Some(INHIBITED_ADVISORY),
+        _ => None,
+    }
+}
+
 // One alert of level 1, which is one discrete.
 pub(crate) const ADVISORY: &str = "version = 1\nsystems = [\"HYD\"]\n\
 [[param]]\nname = \"g_lo\"\nkind = \"disc\"\nstale = 600\nsource = [{ bus = 0, label = \"270\", bit = 11 }]\n\

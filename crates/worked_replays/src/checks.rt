@@ -1,6 +1,6 @@
 // What `check` tells of a book.
 use crate::books::*;
-use crate::outside::{does, file, sound};
+use crate::outside::{book_file, does, sound};
 use replay_core::Status;
 use std::alloc::Global;
 use std::process::Abort;
@@ -12,8 +12,7 @@ pub(crate) fn checks(
     book: &[u8],
     want: (Status, &str, &str),
 ) -> Result<(), Fail> {
-    let mut files = Vec::new(alloc);
-    files.push(file(alloc, "book", book)?)?;
+    let files = book_file(alloc, book)?;
     does(rt, alloc, " check book", files, sound(), want)
 }
 

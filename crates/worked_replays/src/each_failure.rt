@@ -2,10 +2,10 @@
 ghost use Rattle.std.specs.Prelude.{◌<◌, ◌≤◌};
 
 use crate::books::{ADVISORY, HYDRAULICS, LEVEL_FOUR};
-use crate::outside::{Ending, ONE_BLOCK, Outside, ending_of, file, sound};
+use crate::items::put_items;
+use crate::outside::{Ending, ONE_BLOCK, Outside, ending_of, sound, two_files};
 use replay_core::Status;
 use std::alloc::{AllocError, Global};
-use std::fmt::Write as _;
 use std::process::Abort;
 use std::test::Fail;
 
@@ -24,31 +24,44 @@ pub(crate) const FAILURE_SHOWN: &str =
 pub(crate) fn replay(
     alloc: Global,
     book: &str,
-    record_text: &[u8],
+    record_text: &str,
     outside: Outside<'_>,
 ) -> Result<Ending, AllocError>
     requires read { 0 < outside.read_piece }
     requires write { 0 < outside.write_piece }
 {
-    let mut files = Vec::new(alloc);
-    files.push(file(alloc, "book", book.as_bytes())?)?;
-    files.push(file(alloc, "record", record_text)?)?;
+    let files = two_files(alloc, book, record_text)?;
     ending_of(alloc, " replay book record", files, outside)
+}
+
+// Asserts that it is so in the case of this number.
+pub(crate) fn holds(rt: &impl Abort, is_so: bool, what: &str, number: u32) {
+    assert!(rt; is_so, "{what} in case {number}");
+}
+
+// Asserts that a replay ends so, writes this, and tells this.
+fn ends_so(rt: &impl Abort, ending: &Ending, number: u32, want: (Status, &[u8], &str)) {
+    let (status, written, told) = want;
+    holds(rt, ending.status == status, "status", number);
+    holds(rt, ending.written.as_slice() == written, "written", number);
+    holds(
+        rt,
+        ending.told.as_slice() == told.as_bytes(),
+        "told",
+        number,
+    );
 }
 
 // What comes of a replay whose write of this number fails. The 32 bytes are written one by one.
 fn stops_at_write(rt: &impl Abort, ending: &Ending, n: u32)
     requires { 1 ≤ n }
 {
-    let (status, count, told) = if n < 33 {
-        (Status::WriteFault, n as usize - 1, "write fault\n")
-    } else {
-        (Status::Done, 32, "")
+    let whole = WHOLE.as_bytes();
+    let want = match whole.get(..n as usize - 1) {
+        Some(written) if n < 33 => (Status::WriteFault, written, "write fault\n"),
+        _ => (Status::Done, whole, ""),
     };
-    assert_eq!(rt; ending.status, status, "write {n}");
-    assert_eq!(rt; ending.written.len(), count, "write {n}");
-    assert!(rt; WHOLE.as_bytes().starts_with(&ending.written), "write {n}");
-    assert_eq!(rt; ending.told.as_slice(), told.as_bytes(), "write {n}");
+    ends_so(rt, ending, n, want);
 }
 
 #[test]
@@ -59,14 +72,14 @@ fn each_write_fails(rt: HostRuntime) -> Result<(), Fail> {
             write_piece: 1,
             ..sound()
         };
-        let ending = replay(rt.alloc(), ADVISORY, RECORD.as_bytes(), outside)?;
+        let ending = replay(rt.alloc(), ADVISORY, RECORD, outside)?;
         stops_at_write(&rt, &ending, n);
     }
     let outside = Outside {
         tells_failing: &[1],
         ..sound()
     };
-    let ending = replay(rt.alloc(), LEVEL_FOUR, b"E\n", outside)?;
+    let ending = replay(rt.alloc(), LEVEL_FOUR, "E\n", outside)?;
     assert_eq!(rt; ending.status, Status::BookRefused);
     assert_eq!(rt; ending.told.len(), 0);
     Ok(())
@@ -81,11 +94,16 @@ fn stops_at_call(rt: &impl Abort, ending: &Ending, n: u32) {
     } else {
         (Status::Done, "")
     };
-    assert_eq!(rt; ending.status, status, "call {n}");
-    assert_eq!(rt; ending.told.as_slice(), told.as_bytes(), "call {n}");
-    assert!(rt; whole.starts_with(&ending.written), "call {n}");
-    assert!(rt; n > 117 || ending.written.is_empty(), "call {n}");
-    assert_eq!(rt; ending.written.len() == whole.len(), n == 132, "call {n}");
+    holds(rt, ending.status == status, "status", n);
+    holds(rt, ending.told.as_slice() == told.as_bytes(), "told", n);
+    holds(rt, whole.starts_with(&ending.written), "written", n);
+    holds(rt, n > 117 || ending.written.is_empty(), "early", n);
+    holds(
+        rt,
+        (ending.written.len() == whole.len()) == (n == 132),
+        "whole",
+        n,
+    );
 }
 
 #[test]
@@ -96,74 +114,43 @@ fn each_open_and_each_read_fails(rt: HostRuntime) -> Result<(), Fail> {
             read_piece: 7,
             ..sound()
         };
-        let ending = replay(rt.alloc(), HYDRAULICS, FAILURE.as_bytes(), outside)?;
+        let ending = replay(rt.alloc(), HYDRAULICS, FAILURE, outside)?;
         stops_at_call(&rt, &ending, n);
     }
     Ok(())
 }
 
+// An alert, in which a number sign stands for its number.
+const ALERT: &str =
+    "[[alert]]\nname = \"n#\"\ntitle = \"ALERT #\"\nsystem = \"HYD\"\nlevel = 1\nwhen = \"g_lo\"\n";
+
 // So many alerts of one discrete, by one parameter.
-fn alerts(alloc: Global, count: u32) -> Result<String, Fail> {
+fn alerts(alloc: Global, count: u16) -> Result<String, Fail> {
     let mut book = String::from_str(
         alloc,
         "version = 1\nsystems = [\"HYD\"]\n[[param]]\nname = \"g_lo\"\nkind = \"disc\"\nstale = 600\nsource = [{ bus = 0, label = \"270\", bit = 11 }]\n",
     )?;
-    for i in 1..=count {
-        write!(
-            book,
-            "[[alert]]\nname = \"n{i}\"\ntitle = \"ALERT {i}\"\nsystem = \"HYD\"\nlevel = 1\nwhen = \"g_lo\"\n"
-        )?;
-    }
+    put_items(alloc, &mut book, 1..count.saturating_add(1), ALERT)?;
     Ok(book)
 }
 
-// From so many bytes of the record to so many, and what comes of them.
-const CUTS: [(usize, usize, Status, &str, &str); 7] = [
-    (0, 0, Status::RecordRefused, "", "record: NoEnd line 1\n"),
-    (1, 12, Status::RecordRefused, "", "record: Cut line 1\n"),
-    (13, 13, Status::RecordRefused, "", "record: NoEnd line 2\n"),
-    (14, 14, Status::RecordRefused, "", "record: Cut line 2\n"),
-    (
-        15,
-        15,
-        Status::RecordRefused,
-        ONE_BLOCK,
-        "record: NoEnd line 3\n",
-    ),
-    (
-        16,
-        16,
-        Status::RecordRefused,
-        ONE_BLOCK,
-        "record: Cut line 3\n",
-    ),
-    (17, 17, Status::Done, WHOLE, ""),
-];
-
-// What comes of the first so many bytes of the record.
-fn cut(alloc: Global, count: usize) -> Result<Ending, AllocError> {
-    let mut record_text = Vec::new(alloc);
-    for byte in RECORD.as_bytes().iter().take(count) {
-        record_text.push(*byte)?;
+// What comes of so many bytes of the record.
+fn cut_ending(count: u32) -> (Status, &'static [u8], &'static str) {
+    let refused = Status::RecordRefused;
+    match count {
+        0 => (refused, b"", "record: NoEnd line 1\n"),
+        1..=12 => (refused, b"", "record: Cut line 1\n"),
+        13 => (refused, b"", "record: NoEnd line 2\n"),
+        14 => (refused, b"", "record: Cut line 2\n"),
+        15 => (refused, ONE_BLOCK.as_bytes(), "record: NoEnd line 3\n"),
+        16 => (refused, ONE_BLOCK.as_bytes(), "record: Cut line 3\n"),
+        _ => (Status::Done, WHOLE.as_bytes(), ""),
     }
-    replay(alloc, ADVISORY, &record_text, sound())
-}
-
-// Whether a replay of so many bytes ends so, writes this, and tells this.
-fn ends_so(rt: &impl Abort, ending: &Ending, count: usize, want: (Status, &str, &str)) {
-    let (status, written, told) = want;
-    assert_eq!(rt; ending.status, status, "{count} bytes");
-    assert_eq!(rt;
-        ending.written.as_slice(),
-        written.as_bytes(),
-        "{count} bytes"
-    );
-    assert_eq!(rt; ending.told.as_slice(), told.as_bytes(), "{count} bytes");
 }
 
 fn a_full_book(rt: &impl Abort, alloc: Global) -> Result<(), Fail> {
     let book = alerts(alloc, 1024)?;
-    let ending = replay(alloc, book.as_str(), RECORD.as_bytes(), sound())?;
+    let ending = replay(alloc, book.as_str(), RECORD, sound())?;
     assert_eq!(rt; ending.status, Status::Done);
     let shown =
         b"@0\nL1 A ALERT 1\nL2 A ALERT 2\nL3 A ALERT 3\nL4 A ALERT 4\nL5 A ALERT 5\nL6 A ALERT 6\nL7 A ALERT 7\nFL W v OVF 1017\nEND 1\n";
@@ -173,11 +160,10 @@ fn a_full_book(rt: &impl Abort, alloc: Global) -> Result<(), Fail> {
 
 #[test]
 fn a_cut_record_and_a_full_book(rt: HostRuntime) -> Result<(), Fail> {
-    for (first, last, status, written, told) in CUTS {
-        for count in first..=last {
-            let ending = cut(rt.alloc(), count)?;
-            ends_so(&rt, &ending, count, (status, written, told));
-        }
+    for count in 0..=17_u32 {
+        let record_text = RECORD.get(..count as usize).unwrap_or("");
+        let ending = replay(rt.alloc(), ADVISORY, record_text, sound())?;
+        ends_so(&rt, &ending, count, cut_ending(count));
     }
     a_full_book(&rt, rt.alloc())
 }

@@ -121,40 +121,43 @@ fn a_file_is_not_read(rt: HostRuntime) -> Result<(), Fail> {
     Ok(())
 }
 
+// Words that are no command's.
+const FORMLESS: &[&str] = &[
+    "",
+    " replay",
+    " replay book",
+    " check",
+    " check book record",
+    " Check book",
+    " play book record",
+    " replay book record --limit",
+    " replay book record --limit ",
+    " replay book record --limit 4294967296",
+    " replay book record --limit 1x",
+    " replay book record --most 17",
+    " replay book record --limit 17 more",
+    " why book",
+    " why book record more",
+    " why book record --limit 17",
+    " drill book 1",
+    " drill book 1 1 1",
+    " drill book 18446744073709551616 1",
+    " drill book 000000000000000000001 1",
+    " drill book 1 1000001",
+    " drill book 1 00000001",
+    " drill book +1 1",
+    " drill book 1 -1",
+    " migrate",
+    " migrate book book",
+    " advise book record",
+    " advise book record limits limits",
+];
+
 #[test]
 fn words_without_a_form(rt: HostRuntime) -> Result<(), Fail> {
     let usage =
         "usage: check BOOK | replay BOOK RECORD [--limit N] | why BOOK RECORD | drill BOOK SEED MOMENTS | migrate BOOK | callouts BOOK RECORD NAME | advise BOOK RECORD LIMITS | report BOOK RECORD | words BOOK RECORD\n";
-    for words in [
-        "",
-        " replay",
-        " replay book",
-        " check",
-        " check book record",
-        " Check book",
-        " play book record",
-        " replay book record --limit",
-        " replay book record --limit ",
-        " replay book record --limit 4294967296",
-        " replay book record --limit 1x",
-        " replay book record --most 17",
-        " replay book record --limit 17 more",
-        " why book",
-        " why book record more",
-        " why book record --limit 17",
-        " drill book 1",
-        " drill book 1 1 1",
-        " drill book 18446744073709551616 1",
-        " drill book 000000000000000000001 1",
-        " drill book 1 1000001",
-        " drill book 1 00000001",
-        " drill book +1 1",
-        " drill book 1 -1",
-        " migrate",
-        " migrate book book",
-        " advise book record",
-        " advise book record limits limits",
-    ] {
+    for words in FORMLESS {
         let files = two_files(rt.alloc(), ADVISORY, "E\n")?;
         does(
             &rt,

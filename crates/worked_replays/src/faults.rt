@@ -14,7 +14,7 @@ const SOUND: &str = "version = 1\nsystems = [\"HYD\"]\n\
 [[memo]]\nname = \"pump\"\ntext = \"HYD PUMP\"\nzone = \"left\"\nwhen = \"g_press < 1450\"\n";
 
 // What stands behind it, and what is told of both.
-const FAULTS: [(&str, &str); 23] = [
+const FAULTS: &[(&str, &str)] = &[
     (
         "[[memo]]\nname = \"two\"\ntext = \"TWO\"\nzone = \"left\"\nwhen = \"g_lo\"\ncolor = \"G\"\n",
         "book: F04 memo 2\n",
@@ -111,7 +111,7 @@ const FAULTS: [(&str, &str); 23] = [
 
 // Two faults each, of which the one with the lesser code is told, else the one in the first section, else the one of
 // the lesser item.
-const PAIRS: [(&str, &str); 8] = [
+const PAIRS: &[(&str, &str)] = &[
     (
         "[[param]]\nname = \"two\"\nkind = \"bcd\"\nstale = 601\nsource = [{ bus = 0, label = \"270\" }]\n[[memo]]\nname = \"two\"\ntext = \"TWO \"\nzone = \"left\"\nwhen = \"g_lo\"\n",
         "book: F08 memo 2\n",
@@ -159,6 +159,6 @@ fn each_fault_of_a_book(rt: HostRuntime) -> Result<(), Fail> {
     let alloc = rt.alloc();
     let line = "OK alerts 1 params 2 memos 1 pages 1 slots 0\n";
     checks(&rt, alloc, SOUND.as_bytes(), (Status::Done, line, ""))?;
-    tells(&rt, alloc, &FAULTS)?;
-    tells(&rt, alloc, &PAIRS)
+    tells(&rt, alloc, FAULTS)?;
+    tells(&rt, alloc, PAIRS)
 }

@@ -15,6 +15,8 @@ mod failures;
 #[cfg(test)]
 mod faults;
 #[cfg(test)]
+mod items;
+#[cfg(test)]
 mod limits;
 #[cfg(test)]
 mod migrated;

@@ -1,12 +1,23 @@
 // Books and conditions as large as they may be.
 use crate::checks::checks;
+use crate::items::put_items;
 use replay_core::Status;
 use std::alloc::Global;
-use std::fmt::Write as _;
 use std::test::Fail;
 
 const FIRST: &str =
     "[[param]]\nname = \"p0\"\nkind = \"disc\"\nstale = 600\nsource = [{ bus = 0, label = \"270\", bit = 11 }]\n";
+
+// Further items, in which a number sign stands for the item's number.
+const PAGE: &str = "[[page]]\nname = \"g#\"\ntitle = \"HYD\"\nrow = []\n";
+
+const PARAM: &str =
+    "[[param]]\nname = \"p#\"\nkind = \"bcd\"\nstale = 600\nsource = [{ bus = 0, label = \"270\" }]\n";
+
+const ALERT: &str =
+    "[[alert]]\nname = \"a#\"\ntitle = \"A\"\nsystem = \"HYD\"\nlevel = 1\nwhen = \"p0\"\n";
+
+const MEMO: &str = "[[memo]]\nname = \"m#\"\ntext = \"M\"\nzone = \"left\"\nwhen = \"p0\"\n";
 
 // A book with so many items in each section.
 fn book_of(
@@ -18,34 +29,13 @@ fn book_of(
     memos: u16,
 ) -> Result<String, Fail> {
     let mut book = String::from_str(alloc, "version = 1\nsystems = [\"HYD\"")?;
-    for i in 1..systems {
-        write!(book, ", \"S{i}\"")?;
-    }
-    write!(book, "]\n{FIRST}")?;
-    for i in 0..pages {
-        write!(
-            book,
-            "[[page]]\nname = \"g{i}\"\ntitle = \"HYD\"\nrow = []\n"
-        )?;
-    }
-    for i in 1..params {
-        write!(
-            book,
-            "[[param]]\nname = \"p{i}\"\nkind = \"bcd\"\nstale = 600\nsource = [{{ bus = 0, label = \"270\" }}]\n"
-        )?;
-    }
-    for i in 0..alerts {
-        write!(
-            book,
-            "[[alert]]\nname = \"a{i}\"\ntitle = \"A\"\nsystem = \"HYD\"\nlevel = 1\nwhen = \"p0\"\n"
-        )?;
-    }
-    for i in 0..memos {
-        write!(
-            book,
-            "[[memo]]\nname = \"m{i}\"\ntext = \"M\"\nzone = \"left\"\nwhen = \"p0\"\n"
-        )?;
-    }
+    put_items(alloc, &mut book, 1..systems, ", \"S#\"")?;
+    book.push_str("]\n")?;
+    book.push_str(FIRST)?;
+    put_items(alloc, &mut book, 0..pages, PAGE)?;
+    put_items(alloc, &mut book, 1..params, PARAM)?;
+    put_items(alloc, &mut book, 0..alerts, ALERT)?;
+    put_items(alloc, &mut book, 0..memos, MEMO)?;
     Ok(book)
 }
 
@@ -69,17 +59,15 @@ fn a_book_with_as_many_items_as_it_may_have(rt: HostRuntime) -> Result<(), Fail>
     Ok(())
 }
 
+// A book with one alert, up to its condition.
+const CONDITIONED: &str = "version = 1\nsystems = [\"HYD\"]\n\
+[[param]]\nname = \"p0\"\nkind = \"disc\"\nstale = 600\nsource = [{ bus = 0, label = \"270\", bit = 11 }]\n\
+[[alert]]\nname = \"a\"\ntitle = \"A\"\nsystem = \"HYD\"\nlevel = 1\nwhen = \"";
+
 // A book with one alert, whose condition has so many bytes: blanks, and an end.
 fn with_condition(alloc: Global, length: usize, end: &str) -> Result<String, Fail> {
-    let mut book = String::from_str(alloc, "version = 1\nsystems = [\"HYD\"]\n")?;
-    write!(
-        book,
-        "{FIRST}[[alert]]\nname = \"a\"\ntitle = \"A\"\nsystem = \"HYD\"\nlevel = 1\nwhen = \""
-    )?;
-    for _ in end.len()..length {
-        write!(book, " ")?;
-    }
-    write!(book, "{end}\"\n")?;
+    let blanks = " ".repeat(alloc, length.saturating_sub(end.len()))?;
+    let book = format!(in alloc; "{CONDITIONED}{blanks}{end}\"\n")?;
     Ok(book)
 }
 
@@ -114,11 +102,8 @@ fn a_condition_as_long_as_it_may_be(rt: HostRuntime) -> Result<(), Fail> {
         ("", "book: F16 alert 1\n"),
         (", p0)", "book: F18 alert 1\n"),
     ] {
-        let mut end = String::from_str(alloc, "any(p0")?;
-        for _ in 1..63 {
-            write!(end, ", p0                          ")?;
-        }
-        write!(end, "{more}")?;
+        let names = ", p0                          ".repeat(alloc, 62)?;
+        let end = format!(in alloc; "any(p0{names}{more}")?;
         let book = with_condition(alloc, 2048, end.as_str())?;
         checks(&rt, alloc, book.as_bytes(), (Status::BookRefused, "", line))?;
     }

@@ -3,7 +3,7 @@ use crate::books::{ADVISORY, HYDRAULICS, LEVEL_FOUR, SLOTS};
 use crate::checks::checks;
 use crate::each_failure::{FAILURE, FAILURE_SHOWN};
 use crate::named::NAMED;
-use crate::outside::{does, ending_of, file, sound};
+use crate::outside::{Ending, book_file, does, ending_of, file, sound};
 use replay_core::Status;
 use std::alloc::Global;
 use std::process::Abort;
@@ -11,12 +11,15 @@ use std::test::Fail;
 
 // What `migrate` writes of a book.
 fn migrated(rt: &impl Abort, alloc: Global, book: &[u8]) -> Result<Vec<u8>, Fail> {
-    let mut files = Vec::new(alloc);
-    files.push(file(alloc, "book", book)?)?;
-    let ending = ending_of(alloc, " migrate book", files, sound())?;
-    assert_eq!(rt; ending.status, Status::Done);
-    assert_eq!(rt; ending.told.len(), 0);
-    Ok(ending.written)
+    let files = book_file(alloc, book)?;
+    let Ending {
+        status,
+        written,
+        told,
+    } = ending_of(alloc, " migrate book", files, sound())?;
+    assert_eq!(rt; status, Status::Done);
+    assert_eq!(rt; told.len(), 0);
+    Ok(written)
 }
 
 // Written once more it stays the same text, and what is told of it is what is told of the book.
@@ -46,9 +49,8 @@ fn a_migrated_book_has_as_much(rt: HostRuntime) -> Result<(), Fail> {
 #[test]
 fn a_migrated_book_shows_the_same(rt: HostRuntime) -> Result<(), Fail> {
     let alloc = rt.alloc();
-    let mut files = Vec::new(alloc);
     let book = migrated(&rt, alloc, HYDRAULICS.as_bytes())?;
-    files.push(file(alloc, "book", &book)?)?;
+    let mut files = book_file(alloc, &book)?;
     files.push(file(alloc, "record", FAILURE.as_bytes())?)?;
     does(
         &rt,
@@ -63,8 +65,7 @@ fn a_migrated_book_shows_the_same(rt: HostRuntime) -> Result<(), Fail> {
 #[test]
 fn a_book_with_a_fault_is_not_migrated(rt: HostRuntime) -> Result<(), Fail> {
     let alloc = rt.alloc();
-    let mut files = Vec::new(alloc);
-    files.push(file(alloc, "book", LEVEL_FOUR.as_bytes())?)?;
+    let files = book_file(alloc, LEVEL_FOUR.as_bytes())?;
     let want = (Status::BookRefused, "", "book: F09 alert 1\n");
     does(&rt, alloc, " migrate book", files, sound(), want)
 }

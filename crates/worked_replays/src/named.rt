@@ -2,7 +2,6 @@
 use crate::checks::checks;
 use crate::outside::{does, sound, two_files};
 use replay_core::Status;
-use std::alloc::{AllocError, Global};
 use std::test::Fail;
 
 // The advisory by a condition that waits for two moments and has a name.
@@ -11,25 +10,8 @@ pub(crate) const NAMED: &str = "version = 2\nsystems = [\"HYD\"]\n\
 [[term]]\nname = \"low\"\nwhen = \"conf(g_lo, 2)\"\n\
 [[alert]]\nname = \"g_rsvr\"\ntitle = \"HYD G RSVR LO LVL\"\nsystem = \"HYD\"\nlevel = 1\nwhen = \"low\"\n";
 
-// A text with another part in the place of one.
-pub(crate) fn edited(
-    alloc: Global,
-    text: &str,
-    old: &str,
-    new: &str,
-) -> Result<String, AllocError> {
-    let mut edited = String::new(alloc);
-    for (i, part) in text.split(old).enumerate() {
-        if i > 0 {
-            edited.push_str(new)?;
-        }
-        edited.push_str(part)?;
-    }
-    Ok(edited)
-}
-
 // What stands in the place of what, and what is told of it.
-const FAULTS: [(&str, &str, &str); 5] = [
+const FAULTS: &[(&str, &str, &str)] = &[
     ("conf(g_lo, 2)", "low", "book: F17 term 1\n"),
     ("\"low\"", "\"g_lo\"", "book: F11 term 1\n"),
     ("version = 2", "version = 1", "book: F04 top 0\n"),
@@ -53,7 +35,7 @@ fn a_condition_has_a_name(rt: HostRuntime) -> Result<(), Fail> {
         (Status::Done, shown, ""),
     )?;
     for (old, new, line) in FAULTS {
-        let book = edited(alloc, NAMED, old, new)?;
+        let book = NAMED.replace(alloc, *old, new)?;
         checks(&rt, alloc, book.as_bytes(), (Status::BookRefused, "", line))?;
     }
     Ok(())

@@ -12,14 +12,7 @@ pub(crate) const ONE_BLOCK: &str = "@0\nL1 A HYD G RSVR LO LVL\n";
 
 // Lines, behind each of which a slash stands.
 pub(crate) fn lines_of(alloc: Global, text: &str) -> Result<String, AllocError> {
-    let mut lines = String::new(alloc);
-    for line in text.split('/') {
-        if !line.is_empty() {
-            lines.push_str(line)?;
-            lines.push_str("\n")?;
-        }
-    }
-    Ok(lines)
+    text.replace(alloc, "/", "\n")
 }
 
 // What fails of the outside: the calls of these numbers, where a read gives and a write takes so many bytes, and the
@@ -56,14 +49,20 @@ pub(crate) fn file(alloc: Global, name: &str, bytes: &[u8]) -> Result<MemoryFile
     })
 }
 
+// The file of a book.
+pub(crate) fn book_file(alloc: Global, book: &[u8]) -> Result<Vec<MemoryFile>, AllocError> {
+    let mut files = Vec::new(alloc);
+    files.push(file(alloc, "book", book)?)?;
+    Ok(files)
+}
+
 // The files of a book and of a record.
 pub(crate) fn two_files(
     alloc: Global,
     book: &str,
     record_text: &str,
 ) -> Result<Vec<MemoryFile>, AllocError> {
-    let mut files = Vec::new(alloc);
-    files.push(file(alloc, "book", book.as_bytes())?)?;
+    let mut files = book_file(alloc, book.as_bytes())?;
     files.push(file(alloc, "record", record_text.as_bytes())?)?;
     Ok(files)
 }

@@ -58,42 +58,45 @@ fn a_record_without_a_fault(rt: HostRuntime) -> Result<(), Fail> {
     Ok(())
 }
 
+// A record with a fault, what is written of it, and what is told.
+const FAULTS: &[(&str, &str, &str)] = &[
+    ("", "", "record: NoEnd line 1\n"),
+    ("T", "", "record: Cut line 1\n"),
+    ("W 0 0000041d\nT\n", ONE_BLOCK, "record: NoEnd line 3\n"),
+    ("E\nT\n", "", "record: AfterEnd line 2\n"),
+    (
+        "AAAAAAAAAAAAAAAAAAAAAAAAAAAAAAAAA",
+        "",
+        "record: Long line 1\n",
+    ),
+    (
+        "AAAAAAAAAAAAAAAAAAAAAAAAAAAAAAAA\n",
+        "",
+        "record: Form line 1\n",
+    ),
+    ("T\nW 16 0000041d\n", "", "record: Form line 2\n"),
+    ("\n", "", "record: Form line 1\n"),
+    (
+        "W 0 0000041d\nT\nF FWC1\nE\n",
+        ONE_BLOCK,
+        "record: Form line 3\n",
+    ),
+    (
+        "W 0 0000041d\nT\nU 3\nE\n",
+        ONE_BLOCK,
+        "record: Form line 3\n",
+    ),
+];
+
 #[test]
 fn a_record_with_a_fault(rt: HostRuntime) -> Result<(), Fail> {
-    for (record_text, output, line) in [
-        ("", "", "record: NoEnd line 1\n"),
-        ("T", "", "record: Cut line 1\n"),
-        ("W 0 0000041d\nT\n", ONE_BLOCK, "record: NoEnd line 3\n"),
-        ("E\nT\n", "", "record: AfterEnd line 2\n"),
-        (
-            "AAAAAAAAAAAAAAAAAAAAAAAAAAAAAAAAA",
-            "",
-            "record: Long line 1\n",
-        ),
-        (
-            "AAAAAAAAAAAAAAAAAAAAAAAAAAAAAAAA\n",
-            "",
-            "record: Form line 1\n",
-        ),
-        ("T\nW 16 0000041d\n", "", "record: Form line 2\n"),
-        ("\n", "", "record: Form line 1\n"),
-        (
-            "W 0 0000041d\nT\nF FWC1\nE\n",
-            ONE_BLOCK,
-            "record: Form line 3\n",
-        ),
-        (
-            "W 0 0000041d\nT\nU 3\nE\n",
-            ONE_BLOCK,
-            "record: Form line 3\n",
-        ),
-    ] {
+    for (record_text, output, line) in FAULTS {
         replays(
             &rt,
             rt.alloc(),
             ADVISORY,
             record_text,
-            (Status::RecordRefused, output, line),
+            (Status::RecordRefused, *output, *line),
         )?;
     }
     Ok(())

@@ -1,15 +1,16 @@
 // Worked rows: books, records, and what is written of them.
 use crate::books::*;
+use crate::each_failure::{FAILURE, FAILURE_SHOWN};
 use crate::failures::in_pieces;
 use crate::outside::{does, lines_of, sound, two_files};
-use crate::records::{FAILURES, RECORDS, Worked};
+use crate::records::{FAILURES, RECORDS, row_of};
 use replay_core::Status;
-use std::alloc::{AllocError, Global};
+use std::alloc::Global;
 use std::process::Abort;
 use std::test::Fail;
 
 // What `why` writes.
-const STANDINGS: [(&str, &str, &str); 8] = [
+const STANDINGS: &[(&str, &str, &str)] = &[
     (
         HYDRAULICS,
         "W 1 6bb80003\nT\nW 0 0000041d\nT\nW 1 e0000003\nT\nW 0 80000c1d\nT\nP CLR\nT\nP STS\nT\nP RCL\nT\nE\n",
@@ -45,7 +46,7 @@ const STANDINGS: [(&str, &str, &str); 8] = [
 ];
 
 // What `drill` writes by a book, a seed and a number of moments.
-const DRILLS: [(&str, &str, &str); 4] = [
+const DRILLS: &[(&str, &str, &str)] = &[
     (
         ADVISORY,
         " drill book 1 1",
@@ -73,34 +74,29 @@ fn done(rt: &impl Abort, alloc: Global, words: &str, row: (&str, &str, &str)) ->
     does(rt, alloc, words, files, sound(), (Status::Done, row.2, ""))
 }
 
-// What `replay` writes of a worked record.
-fn output_of(alloc: Global, worked: Worked) -> Result<String, AllocError> {
-    let mut output = lines_of(alloc, worked.2)?;
-    output.push_str(lines_of(alloc, worked.3)?.as_str())?;
-    Ok(output)
-}
-
-fn replays(rt: &impl Abort, alloc: Global, worked: Worked) -> Result<(), Fail> {
-    let record_text = lines_of(alloc, worked.1)?;
-    let output = output_of(alloc, worked)?;
-    let row = (worked.0, record_text.as_str(), output.as_str());
-    done(rt, alloc, " replay book record", row)
-}
-
-#[test]
-fn what_replay_writes(rt: HostRuntime) -> Result<(), Fail> {
-    for worked in RECORDS {
-        replays(&rt, rt.alloc(), worked)?;
-    }
-    for worked in FAILURES {
-        replays(&rt, rt.alloc(), worked)?;
+// What `replay` writes of worked records.
+fn replays(rt: &impl Abort, alloc: Global, records: &str) -> Result<(), Fail> {
+    for line in records.lines() {
+        let worked = row_of(line).expect(rt, "a worked record");
+        let record_text = lines_of(alloc, worked.record_text)?;
+        let output = format!(in alloc; "{}{}", worked.shown, worked.end)?;
+        let output = lines_of(alloc, output.as_str())?;
+        let row = (worked.book, record_text.as_str(), output.as_str());
+        done(rt, alloc, " replay book record", row)?;
     }
     Ok(())
 }
 
 #[test]
+fn what_replay_writes(rt: HostRuntime) -> Result<(), Fail> {
+    replays(&rt, rt.alloc(), RECORDS)?;
+    replays(&rt, rt.alloc(), FAILURES)
+}
+
+#[test]
 fn where_alerts_stand(rt: HostRuntime) -> Result<(), Fail> {
-    for row in STANDINGS {
+    for (book, record_text, standings) in STANDINGS {
+        let row = (*book, *record_text, *standings);
         done(&rt, rt.alloc(), " why book record", row)?;
     }
     Ok(())
@@ -109,7 +105,7 @@ fn where_alerts_stand(rt: HostRuntime) -> Result<(), Fail> {
 #[test]
 fn what_drill_counts(rt: HostRuntime) -> Result<(), Fail> {
     for (book, words, line) in DRILLS {
-        done(&rt, rt.alloc(), words, (book, "", line))?;
+        done(&rt, rt.alloc(), words, (*book, "", *line))?;
     }
     Ok(())
 }
@@ -120,17 +116,14 @@ fn a_record_in_pieces(rt: HostRuntime) -> Result<(), Fail> {
     let alloc = rt.alloc();
     for piece in [1, 2, 3, 31, 4096] {
         assert!(rt; piece > 0);
-        let record_text = lines_of(alloc, RECORDS[17].1)?;
-        let files = two_files(alloc, RECORDS[17].0, record_text.as_str())?;
-        let output = output_of(alloc, RECORDS[17])?;
-        let want = (Status::Done, output.as_str(), "");
+        let files = two_files(alloc, HYDRAULICS, FAILURE)?;
         does(
             &rt,
             alloc,
             " replay book record",
             files,
             in_pieces(piece),
-            want,
+            (Status::Done, FAILURE_SHOWN, ""),
         )?;
     }
     Ok(())

@@ -21,7 +21,7 @@ const NO_END: (Status, &str, &str) = (
 );
 
 // A book, the words, a record, and what is written.
-const SHOWN: [(&str, &str, &str, &str); 11] = [
+const SHOWN: &[(&str, &str, &str, &str)] = &[
     (
         HYDRAULICS,
         " callouts book record g_press",
@@ -99,7 +99,7 @@ fn shows(
 fn records_are_shown(rt: HostRuntime) -> Result<(), Fail> {
     let alloc = rt.alloc();
     for (book, words, record_text, output) in SHOWN {
-        let want = (Status::Done, output, "");
+        let want = (Status::Done, *output, "");
         shows(&rt, alloc, book, words, record_text, sound(), want)?;
     }
     Ok(())
