@@ -33,7 +33,7 @@ const GOOD: &str =
     r#"{ name = "one", param = "g_press", page = "hyd", low = 1450, high = 3200, margin = 875, confirm = 1 }"#;
 
 /// What stands after a good advisory, with the fault of the file.
-const AFTER_A_GOOD_ONE: [(&str, u8, u32); 22] = [
+const AFTER_A_GOOD_ONE: &[(&str, u8, u32)] = &[
     (
         r#"{ name = "two", param = "g_press", page = "hyd", low = 1, high = 9, margin = 0, confirm = 0, unit = "PSI" }"#,
         4,
@@ -146,7 +146,7 @@ const AFTER_A_GOOD_ONE: [(&str, u8, u32); 22] = [
 ];
 
 /// Whole files, with their fault.
-const FILES: [(&str, u8, u32); 8] = [
+const FILES: &[(&str, u8, u32)] = &[
     ("version =", 2, 0),
     ("advisory = []", 3, 0),
     ("version = 2", 3, 0),
@@ -234,7 +234,7 @@ fn pressure(margin: i64, confirm: u32) -> Advisory {
 #[test]
 fn values_drift(rt: HostRuntime) {
     // The margin and the moments to confirm, and per moment the value, and whether it drifts then.
-    let runs: [(i64, u32, &[(Option<i64>, bool)]); 5] = [
+    let runs: &[(i64, u32, &[(Option<i64>, bool)])] = &[
         // inside its range, but not by the margin, it isn't back
         (
             100,

@@ -1,7 +1,7 @@
 use crate::Word;
 
 /// Words, and what their data say in binary from a lowest bit with a range.
-const BINARY: [(u32, u8, u32, Option<i64>); 8] = [
+const BINARY: &[(u32, u8, u32, Option<i64>)] = &[
     (0x70000000, 11, 1000, Some(-1000)),
     (0x6ffffc00, 11, 1000, Some(999)),
     (0x7ffffc00, 11, 1000, Some(-1)),
@@ -13,7 +13,7 @@ const BINARY: [(u32, u8, u32, Option<i64>); 8] = [
 ];
 
 /// Words, and what their data say in decimal.
-const DECIMAL: [(u32, Option<i64>); 6] = [
+const DECIMAL: &[(u32, Option<i64>)] = &[
     (0x048d1400, Some(12345)),
     (0x648d1400, Some(-12345)),
     (0x248d1400, None),
@@ -23,7 +23,7 @@ const DECIMAL: [(u32, Option<i64>); 6] = [
 ];
 
 /// A label, an SDI, data and an SSM, and the word that they make.
-const COMPOSED: [(u8, u8, u32, u8, u32); 9] = [
+const COMPOSED: &[(u8, u8, u32, u8, u32)] = &[
     (0o270, 0, 1, 0, 0x0000041d),
     (0o270, 0, 3, 0, 0x80000c1d),
     (0o100, 0, 32, 0, 0x80008002),
@@ -38,19 +38,19 @@ const COMPOSED: [(u8, u8, u32, u8, u32); 9] = [
 #[test]
 fn words_are_composed(rt: HostRuntime) {
     for (label, sdi, field, ssm, bits) in COMPOSED {
-        assert!(rt; sdi <= 3 && field < 1 << 19 && ssm <= 3);
-        assert_eq!(rt; Word::compose(label, sdi, field, ssm).bits(), bits);
+        assert!(rt; *sdi <= 3 && *field < 1 << 19 && *ssm <= 3);
+        assert_eq!(rt; Word::compose(*label, *sdi, *field, *ssm).bits(), *bits);
     }
 }
 
 #[test]
 fn words_are_read(rt: HostRuntime) {
     for (bits, low, range, value) in BINARY {
-        assert!(rt; low >= 11 && low <= 28 && range >= 1 && range <= 1000000);
-        assert_eq!(rt; Word::new(bits).bnr(low, range), value);
+        assert!(rt; *low >= 11 && *low <= 28 && *range >= 1 && *range <= 1000000);
+        assert_eq!(rt; Word::new(*bits).bnr(*low, *range), *value);
     }
     for (bits, value) in DECIMAL {
-        assert_eq!(rt; Word::new(bits).bcd(), value);
+        assert_eq!(rt; Word::new(*bits).bcd(), *value);
     }
     let discrete = Word::new(0x0000041d);
     assert_eq!(rt; discrete.label(), 0o270);

@@ -152,7 +152,7 @@ enum Change {
     InputAsk(u32),
 }
 
-const CHANGES: [(Change, u8, Section, u32); 17] = [
+const CHANGES: &[(Change, u8, Section, u32)] = &[
     (Change::Inhibit(2), 26, Section::Alert, 3),
     (Change::Inhibit(1), 26, Section::Alert, 2),
     (Change::Explain(2, "c"), 25, Section::Alert, 3),
@@ -235,11 +235,11 @@ fn the_least_fault_is_told(rt: HostRuntime) -> Result<(), Fail> {
     let mut draft = faultless(alloc)?;
     assert!(rt; told(alloc, &draft)?.is_none());
     for (one, code, section, item) in CHANGES {
-        put_in(alloc, &mut draft, one)?;
+        put_in(alloc, &mut draft, *one)?;
         let fault = BookFault {
-            code,
-            section,
-            item,
+            code: *code,
+            section: *section,
+            item: *item,
         };
         assert_eq!(rt; told(alloc, &draft)?, Some(fault));
     }

@@ -38,7 +38,7 @@ when = \"all(g_lo, g_press < 1450)\"\n\
 // The top, what stands after the items, and the code, section and item of the first fault.
 pub(crate) type Faulty = (&'static str, &'static str, u8, Section, u32);
 
-pub(crate) const FAULTS: [Faulty; 47] = [
+pub(crate) const FAULTS: &[Faulty] = &[
     // no document
     ("version =\n", "", 2, Section::Top, 0),
     ("systems = []\n", "", 3, Section::Top, 0),

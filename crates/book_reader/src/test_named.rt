@@ -4,7 +4,7 @@ use book_model::Section;
 
 pub(crate) const SECOND: &str = "version = 2\nsystems = [\"HYD\", \"ELEC\"]\n";
 
-pub(crate) const NAMED: [Faulty; 23] = [
+pub(crate) const NAMED: &[Faulty] = &[
     // known in version 2 alone
     (
         TOP,
@@ -164,7 +164,7 @@ pub(crate) const NAMED: [Faulty; 23] = [
 ];
 
 /// What stands after the items of a book without a fault, and the nodes of its last alert's condition.
-pub(crate) const USED: [(&str, usize); 6] = [
+pub(crate) const USED: &[(&str, usize)] = &[
     // a condition of another name, and one of another name still
     (
         "[[alert]]\nname = \"two\"\ntitle = \"TWO\"\nsystem = \"ELEC\"\nlevel = 1\nwhen = \"low\"\n[[term]]\nname = \"low\"\nwhen = \"conf(g_lo, 2)\"\n",

@@ -2,7 +2,7 @@
 use crate::test_books::{Faulty, TOP};
 use book_model::Section;
 
-pub(crate) const ORDER: [Faulty; 9] = [
+pub(crate) const ORDER: &[Faulty] = &[
     // the least code comes first, in whatever section
     (
         "version = 1.0\n",

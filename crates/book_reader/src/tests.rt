@@ -33,13 +33,13 @@ fn have_these_faults(rt: &impl Abort, alloc: Global, books: &[Faulty]) -> Result
 
 #[test]
 fn books_with_a_fault(rt: HostRuntime) -> Result<(), Fail> {
-    have_these_faults(&rt, rt.alloc(), &FAULTS)?;
-    have_these_faults(&rt, rt.alloc(), &NAMED)
+    have_these_faults(&rt, rt.alloc(), FAULTS)?;
+    have_these_faults(&rt, rt.alloc(), NAMED)
 }
 
 #[test]
 fn books_with_several_faults(rt: HostRuntime) -> Result<(), Fail> {
-    have_these_faults(&rt, rt.alloc(), &ORDER)
+    have_these_faults(&rt, rt.alloc(), ORDER)
 }
 
 fn loaded(read: Result<Draft, LoadError>) -> Option<Draft> {
@@ -115,7 +115,7 @@ fn with_many(
     Ok(told(read_book(alloc, text.as_bytes())))
 }
 
-const MANY: [(u32, usize, usize, Option<(u8, Section)>); 6] = [
+const MANY: &[(u32, usize, usize, Option<(u8, Section)>)] = &[
     (1, 0, 1024, None),
     (1, 0, 1025, Some((10, Section::Alert))),
     (2, 0, 1025, None),
@@ -127,11 +127,11 @@ const MANY: [(u32, usize, usize, Option<(u8, Section)>); 6] = [
 #[test]
 fn lists_have_their_limits(rt: HostRuntime) -> Result<(), Fail> {
     for (version, terms, alerts, wanted) in MANY {
-        let fault = with_many(rt.alloc(), version, terms, alerts)?;
+        let fault = with_many(rt.alloc(), *version, *terms, *alerts)?;
         let wanted = match wanted {
             Some((code, section)) => Some(BookFault {
-                code,
-                section,
+                code: *code,
+                section: *section,
                 item: 0,
             }),
             None => None,

@@ -123,7 +123,7 @@ fn a_sink_that_drops_all(rt: HostRuntime) {
 }
 
 // What is written to a tally, one text after the other, and its four numbers after each.
-const WRITTEN: [(&str, (u64, u64, u64, bool)); 8] = [
+const WRITTEN: &[(&str, (u64, u64, u64, bool))] = &[
     ("", (0, 0, 0, true)),
     ("@0\n", (3, 1, 1, true)),
     ("L1 A HYD G RSVR LO LVL\n", (26, 2, 1, true)),
@@ -140,10 +140,10 @@ fn a_sink_that_counts(rt: HostRuntime) {
     for (text, (bytes, lines, blocks, fresh)) in WRITTEN {
         assert_eq!(rt; put_all(&mut tally, text.as_bytes()), Ok(()), "{text}");
         let want = Tally {
-            bytes,
-            lines,
-            blocks,
-            fresh,
+            bytes: *bytes,
+            lines: *lines,
+            blocks: *blocks,
+            fresh: *fresh,
         };
         assert_eq!(rt; tally, want, "{text}");
     }

@@ -31,7 +31,7 @@ fn a_moment_in_pieces(rt: HostRuntime) {
 
 // Seeds, numbers of moments, and how many bytes their records have, with the digest of these (FNV-1a of 64 bits). They
 // come from a program of another hand. The fourth flies two flights and has strokes of all keys.
-const RECORDS: [(u64, u32, usize, u64); 6] = [
+const RECORDS: &[(u64, u32, usize, u64)] = &[
     (1, 0, 2, 0x08fb_1407_b595_db5e),
     (1, 40, 1131, 0x27ef_8846_2db0_41ab),
     (0, 40, 1131, 0x27ef_8846_2db0_41ab),
@@ -63,10 +63,10 @@ fn digest(mut maker: Maker, piece: usize) -> (usize, u64) {
 fn records_of_another_hand(rt: HostRuntime) {
     for (seed, moments, bytes, want) in RECORDS {
         for piece in [1, 41, 4096] {
-            assert!(rt; moments <= 1_000_000);
+            assert!(rt; *moments <= 1_000_000);
             assert_eq!(rt;
-                digest(Maker::new(seed, moments), piece),
-                (bytes, want),
+                digest(Maker::new(*seed, *moments), piece),
+                (*bytes, *want),
                 "{seed} {piece}"
             );
         }

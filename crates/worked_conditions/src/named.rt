@@ -7,7 +7,7 @@ use term_tree::{Cond, NamedTerm};
 
 // The conditions that have a name, beside two whose texts are long: `deep`, with a depth of 15, and `large`, with 63
 // nodes. A parameter hides the first, and the second hides the last.
-const TERMS: [(&str, &str); 6] = [
+const TERMS: &[(&str, &str)] = &[
     ("g_lo", "true"),
     ("low", "conf(g_lo, 2)"),
     ("off", "pump_off"),
@@ -17,7 +17,7 @@ const TERMS: [(&str, &str); 6] = [
 ];
 
 // What a text is read as.
-const READ: [(&str, &str); 12] = [
+const READ: &[(&str, &str)] = &[
     ("g_lo", "g_lo"),
     ("low", "conf(g_lo, 2)"),
     (" low ", "conf(g_lo, 2)"),
@@ -42,7 +42,7 @@ const READ: [(&str, &str); 12] = [
 ];
 
 // What a text is answered with.
-const TOLD: [(&str, Told); 23] = [
+const TOLD: &[(&str, Told)] = &[
     ("lower", Told::Unknown(0)),
     ("abcdefghijklmnopqrstuvwxy", Told::Unknown(0)),
     ("valid(low)", Told::Unknown(6)),
@@ -101,7 +101,7 @@ fn named(alloc: Global, title: &str, text: &str) -> Result<NamedTerm, Fail> {
 
 fn known(alloc: Global) -> Result<Vec<NamedTerm>, Fail> {
     let mut terms = Vec::new(alloc);
-    for (title, text) in &TERMS {
+    for (title, text) in TERMS {
         terms.push(named(alloc, title, text)?)?;
     }
     let deep = nested(alloc, "g_lo", 14)?;
@@ -152,11 +152,11 @@ fn named_conditions_are_written_whole(rt: HostRuntime) -> Result<(), Fail> {
 fn named_conditions_stand_in_texts(rt: HostRuntime) -> Result<(), Fail> {
     let alloc = rt.alloc();
     let terms = known(alloc)?;
-    for (text, spelled) in &READ {
+    for (text, spelled) in READ {
         let expected = tree(alloc, spelled, &[])?;
         assert!(rt; tree(alloc, text, &terms)? == expected, "{text}");
     }
-    for (text, expected) in &TOLD {
+    for (text, expected) in TOLD {
         assert_eq!(rt; told_by(answer(alloc, text, &terms)?), *expected, "{text}");
     }
     Ok(())

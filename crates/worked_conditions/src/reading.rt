@@ -20,7 +20,7 @@ pub(crate) enum Told {
     Memory,
 }
 
-const TEXTS: [(&str, Told); 147] = [
+const TEXTS: &[(&str, Told)] = &[
     // words
     ("true", Told::Read),
     (" false ", Told::Read),
@@ -257,7 +257,7 @@ pub(crate) fn many(alloc: Global, count: usize) -> Result<String, Fail> {
 
 #[test]
 fn texts_and_their_verdicts(rt: HostRuntime) -> Result<(), Fail> {
-    for (text, expected) in &TEXTS {
+    for (text, expected) in TEXTS {
         assert_eq!(rt; verdict_on(rt.alloc(), text)?, *expected, "{text}");
     }
     Ok(())

@@ -9,7 +9,7 @@ use term_text::{Names, read_term, write_term};
 
 // What is read, and what is then written. The parameters are g_lo, pump_off, alt, g_lo and true, of which the
 // last two are never meant; the alerts are hyd_g and g_lo.
-const ROWS: [(&str, &str); 32] = [
+const ROWS: &[(&str, &str)] = &[
     ("true", "true"),
     (" false ", "false"),
     ("g_lo", "g_lo"),
@@ -95,8 +95,8 @@ fn what_is_read_is_written(rt: HostRuntime) -> Result<(), Fail> {
         terms: &[],
     };
     for (text, want) in ROWS {
-        assert_eq!(rt; rewritten(alloc, text, &names)?.as_str(), want, "{text}");
-        assert_eq!(rt; rewritten(alloc, want, &names)?.as_str(), want, "{want}");
+        assert_eq!(rt; rewritten(alloc, text, &names)?.as_str(), *want, "{text}");
+        assert_eq!(rt; rewritten(alloc, want, &names)?.as_str(), *want, "{want}");
     }
     Ok(())
 }

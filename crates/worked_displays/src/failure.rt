@@ -35,7 +35,7 @@ type Moment = (
     &'static [u8],
 );
 
-const MOMENTS: [Moment; 9] = [
+const MOMENTS: &[Moment] = &[
     (
         false,
         false,

@@ -7,7 +7,7 @@ use warning_display::{LeftCount, fill_flags, fill_lamps};
 // then the text of the flags.
 type Flags = (bool, u32, u32, u32, &'static [u8]);
 
-const FLAGS: [Flags; 17] = [
+const FLAGS: &[Flags] = &[
     (false, 0, 0, 0, b""),
     (true, 0, 0, 0, b"v"),
     (false, 2, 0, 0, b"OVF 2"),
@@ -64,7 +64,7 @@ fn flags_stand_in_their_order(rt: HostRuntime) {
 }
 
 // Each sound, and the text of its row.
-const SOUNDS: [(Sound, &[u8]); 5] = [
+const SOUNDS: &[(Sound, &[u8])] = &[
     (Sound::Chime, b"SC"),
     (Sound::Repetitive, b"CRC"),
     (Sound::Cavalry, b"CAV"),
@@ -97,7 +97,7 @@ fn warned(rt: &impl Abort, picture: &mut Picture) {
 #[test]
 fn lamps_and_sounds_have_their_rows(rt: HostRuntime) {
     let mut picture = Picture::blank();
-    for (sound, text) in SOUNDS.iter() {
+    for (sound, text) in SOUNDS {
         sounded(&rt, &mut picture, *sound, text);
     }
     warned(&rt, &mut picture);

@@ -24,7 +24,7 @@ type Mended = (
     [bool; 5],
 );
 
-const MENDED: [Mended; 6] = [
+const MENDED: &[Mended] = &[
     (
         &[],
         0,

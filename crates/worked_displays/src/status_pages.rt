@@ -28,7 +28,7 @@ const BOOK: &str = "version = 1\nsystems = [\"HYD\", \"ELEC\"]\n\
 // the page.
 type Page = (&'static [u8; 9], &'static [u8; 9], u32, u32, &'static [u8]);
 
-const PAGES: [Page; 17] = [
+const PAGES: &[Page] = &[
     (b"---------", b"012345678", 0, 0, b"G NORMAL"),
     (
         b"01--4----",
@@ -170,7 +170,7 @@ fn status_pages_show_their_rows(rt: HostRuntime) -> Result<(), Fail> {
 
 // With nineteen rows, and so two pages: STS, EMER CANC of a caution, or CLR, by its letter, and the rows that stand then.
 // At CLR no status page is shown, and what stood is left.
-const STRUCK: [(u8, &[u8]); 9] = [
+const STRUCK: &[(u8, &[u8])] = &[
     (b'S', FIRST_OF_TWO),
     (b'S', b"A S40"),
     (b'S', FIRST_OF_TWO),

@@ -23,7 +23,7 @@ type Shown = (
     &'static [u8],
 );
 
-const SHOWN: [Shown; 11] = [
+const SHOWN: &[Shown] = &[
     (
         Some(0),
         Some(3000),

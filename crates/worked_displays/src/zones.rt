@@ -55,7 +55,7 @@ type Titled = (
     &'static [u8],
 );
 
-const TITLED: [Titled; 5] = [
+const TITLED: &[Titled] = &[
     (
         b"123456789",
         b"A ALERT 1/A ALERT 2/A ALERT 3/A ALERT 4/A ALERT 5/A ALERT 6/A ALERT 7",
@@ -90,7 +90,7 @@ type Lined = (
     &'static [u8],
 );
 
-const LINED: [Lined; 7] = [
+const LINED: &[Lined] = &[
     (
         true,
         [true, true, true, true, true, true, true],
@@ -159,7 +159,7 @@ const LINED: [Lined; 7] = [
 // Whether the first line is done; then the left zone, the flags, and which rows changed.
 type WhileDone = (bool, &'static [u8], &'static [u8], &'static [u8]);
 
-const WHILE_DONE: [WhileDone; 3] = [
+const WHILE_DONE: &[WhileDone] = &[
     (
         false,
         b"A HYD G RSVR LO LVL/C LINE 1/C LINE 2/C LINE 3/C LINE 4/C LINE 5/C LINE 6",
@@ -184,7 +184,7 @@ const WHILE_DONE: [WhileDone; 3] = [
 // changed.
 type Right = ([bool; 4], [bool; 6], &'static [u8], u32, &'static [u8]);
 
-const RIGHT: [Right; 5] = [
+const RIGHT: &[Right] = &[
     (
         [false, false, false, false],
         [false, false, false, false, false, false],

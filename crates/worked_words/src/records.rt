@@ -3,7 +3,7 @@ use crate::views::{book_of_alerts, lines_of, words_of};
 use std::test::Fail;
 
 /// The level of the one alert, a record, and what is written of it.
-const RECORDS: [(u8, &str, &str); 6] = [
+const RECORDS: &[(u8, &str, &str)] = &[
     (1, "W 0 0000041d/T/E/", "W 15 80008002/W 15 00000482/T/E/"),
     (1, "F 1/F 2/T/E/", "W 15 a0000002/W 15 20000082/T/E/"),
     // A record without a moment has no word.
@@ -29,7 +29,7 @@ const RECORDS: [(u8, &str, &str); 6] = [
 ];
 
 /// So many alerts, and what is written while all are shown.
-const MANY: [(u32, &str); 5] = [
+const MANY: &[(u32, &str)] = &[
     (1, "W 15 80008002/W 15 00000482/T/E/"),
     (16, "W 15 80008002/W 15 83fffc82/T/E/"),
     (17, "W 15 80008002/W 15 83fffc82/W 15 80000582/T/E/"),
@@ -47,7 +47,7 @@ const MANY: [(u32, &str); 5] = [
 fn words_of_records(rt: HostRuntime) -> Result<(), Fail> {
     let alloc = rt.alloc();
     for (level, record, written) in RECORDS {
-        let book = book_of_alerts(alloc, 1, level)?;
+        let book = book_of_alerts(alloc, 1, *level)?;
         let out = words_of(alloc, &book, &lines_of(alloc, record)?, 4096)?;
         assert_eq!(rt;
             out.bytes(),
@@ -56,7 +56,7 @@ fn words_of_records(rt: HostRuntime) -> Result<(), Fail> {
         );
     }
     for (count, written) in MANY {
-        let book = book_of_alerts(alloc, count, 1)?;
+        let book = book_of_alerts(alloc, *count, 1)?;
         let out = words_of(alloc, &book, "W 0 0000041d\nT\nE\n", 4096)?;
         assert_eq!(rt;
             out.bytes(),
