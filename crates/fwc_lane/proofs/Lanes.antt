@@ -115,6 +115,7 @@ fits-with b old p q i fits own idle = record {
   terms = fits.terms;
   lines = fits.lines;
   memos = fits.memos;
+  status_lines = fits.status_lines;
   truths_moments = fits.truths_moments;
   marks_moments = fits.marks_moments;
   attention_moments = fits.attention_moments;

@@ -1,6 +1,7 @@
 -- The five zones of a moment, each filled or left alone, are its picture.
 use Rattle.std.proofs.Common.{◌≡◌, ℕ, suc, ◌+◌, ◌<◌, ◌≤◌, false, not, ◌||◌, List, [], ◌∷◌, ◌++◌, length, get_or, Option, Some, None, refl, sym, ap, subst, ◌∙◌, arith}
 use Rattle.std.proofs.Math.Bool.{false-or}
+use Rattle.std.specs.Prelude.{nat_lt}
 use Rattle.ecam_spec.specs.declared.kinds.Choice.{Choice}
 use Rattle.ecam_spec.specs.declared.kinds.Choice.TheVariants.{Auto, Page, Status}
 use Rattle.ecam_spec.specs.Book as plain
@@ -99,7 +100,7 @@ pub record Draws (b : Book) (m : ℕ → Moment) (k : ℕ) (was counts : FlagCou
   pub whole_w : IsWhole w
   pub left : ((j : ℕ) → k ≡ suc j → LeftStands b m j s.rows was.left) → FillsLeft (left_in b m k) counts.left s t
   pub right : ((j : ℕ) → k ≡ suc j → RightStands b m j t.rows was.right) → FillsRight (right_in b m k) counts.right t u
-  pub status : ((j : ℕ) → k ≡ suc j → was.status ≡ length (status_in b m j)) → counts.status ≡ length (status_in b m k)
+  pub status : ((j : ℕ) → k ≡ suc j → was.status ≡ nat_lt 0 (length (status_in b m j))) → counts.status ≡ nat_lt 0 (length (status_in b m k))
   pub flags : AreCounts b m k counts → ((j : ℕ) → k ≡ suc j → FlagsStand b m j u.rows was) → Mends 14 (flag_rows_in b m k) u v
   pub display : ((j : ℕ) → k ≡ suc j → StandAt 15 (display_rows_in b m j) v.rows) → Mends 15 (display_rows_in b m k) v w
   pub lamps : ((j : ℕ) → k ≡ suc j → StandAt 33 (lamp_rows_in b m j) w.rows) → Mends 33 (lamp_rows_in b m k) w x

@@ -1,6 +1,7 @@
 -- Each zone of a moment: left alone where nothing turned that it shows, else filled by what the moment shows.
 use Rattle.std.proofs.Common.{◌≡◌, ◌↔◌, ℕ, zero, suc, ◌<◌, Bool, true, false, ◌||◌, ◌==◌, List, [], ◌∷◌, ◌++◌, length, get_or, slice_get, Option, Some, None, refl, sym, ap, subst, ◌∙◌}
 use Rattle.std.specs.Prelude.{filter, ℤ, codes, decimal, nat_lt, if◌then◌else◌}
+use Rattle.std.specs.Int.{from_bool}
 use Rattle.std.specs.Option.{option_and_then}
 use Rattle.ecam_spec.specs.declared.kinds.Choice.{Choice}
 use Rattle.ecam_spec.specs.declared.kinds.Choice.TheVariants.{Auto, Page, Status}
@@ -8,7 +9,7 @@ use Rattle.ecam_spec.specs.Book.{Book, Memo}
 use Rattle.ecam_spec.specs.Past.{previous}
 use Rattle.ecam_spec.specs.Term.{holds}
 use Rattle.ecam_spec.specs.Crew.{normal, target}
-use Rattle.ecam_spec.specs.Picture.{Row}
+use Rattle.ecam_spec.specs.Picture.{Row, blank_row}
 use Rattle.ecam_spec.specs.History.{Moment}
 use Rattle.ecam_spec.specs.LeftZone.{left_zone, has_more, overflow}
 use Rattle.ecam_spec.specs.StatusPage.{flags, flags_row, status_page}
@@ -47,11 +48,23 @@ along : {X Y : Type 0} {x y : X} → x ≡ y → (f : X → Y) → f x ≡ f y
 along same f = ap f same
 
 -- of the rows of the status page the flags tell only whether there are any
-flags-same : (p q : Bool) (i j n k : ℕ) (these those : List Row) → p ≡ q → i ≡ j → n ≡ k → length these ≡ length those → flags_row (flags p i n these) ∷ [] ≡ flags_row (flags q j k those) ∷ []
+flags-same : (p q : Bool) (i j n k : ℕ) (these those : List Row) → p ≡ q → i ≡ j → n ≡ k → nat_lt 0 (length these) ≡ nat_lt 0 (length those) → flags_row (flags p i n these) ∷ [] ≡ flags_row (flags q j k those) ∷ []
 unfolding flags
 flags-same p q i j n k these those more beyond right status =
     ap (λ x. flags_row (flags x i n these) ∷ []) more ∙ ap (λ x. flags_row (flags q x n these) ∷ []) beyond ∙ ap (λ x. flags_row (flags q j x these) ∷ []) right
-    ∙ ap (λ x. flags_row ((if q then codes "v" ∷ [] else []) ++ (if nat_lt 0 j then (codes "OVF " ++ decimal j) ∷ [] else []) ++ (if nat_lt 0 k then (codes "RGT " ++ decimal k) ∷ [] else []) ++ (if nat_lt 0 x then codes "STS" ∷ [] else [])) ∷ []) status
+    ∙ ap (λ x. flags_row ((if q then codes "v" ∷ [] else []) ++ (if nat_lt 0 j then (codes "OVF " ++ decimal j) ∷ [] else []) ++ (if nat_lt 0 k then (codes "RGT " ++ decimal k) ∷ [] else []) ++ (if x then codes "STS" ∷ [] else [])) ∷ []) status
+
+-- one row where there are any
+abbrev some_row : Bool → List Row
+some_row some = if some then blank_row ∷ [] else []
+
+some-long : (some : Bool) → length (some_row some) ≡ from_bool some
+some-long true = refl
+some-long false = refl
+
+some-told : (some : Bool) → nat_lt 0 (length (some_row some)) ≡ some
+some-told true = refl
+some-told false = refl
 
 module _ (b : Book) (m : ℕ → Moment) where
   -- ---- the left zone
@@ -108,12 +121,12 @@ module _ (b : Book) (m : ℕ → Moment) where
   -- ---- the status page
 
   pub status-stays : (k : ℕ) (t : Turned) (truths : Bool) → AreTurned b m k t → (truths ≡ false) ↔ Unchanged b (condition_in b m) (phase_in b m) k → (t.first || (truths || t.marks)) ≡ false
-      → (count : ℕ) → ((j : ℕ) → k ≡ suc j → count ≡ length (status_in b m j)) → count ≡ length (status_in b m k)
-  status-stays zero t truths turned same off count was = absurd (let on : t.first ≡ true = turned.first in let none : t.first ≡ false = left-false t.first _ off in let w : ⊥ = cc in w)
-  status-stays (suc j) t truths turned same off count was =
+      → (has : Bool) → ((j : ℕ) → k ≡ suc j → has ≡ nat_lt 0 (length (status_in b m j))) → has ≡ nat_lt 0 (length (status_in b m k))
+  status-stays zero t truths turned same off has was = absurd (let on : t.first ≡ true = turned.first in let none : t.first ≡ false = left-false t.first _ off in let w : ⊥ = cc in w)
+  status-stays (suc j) t truths turned same off has was =
       let rest = right-false t.first _ off in
       let kept = same.0 (left-false truths _ rest) in
-      was j refl ∙ ap length (sym (status-kept b m (suc j) j (active-kept (suc j) j refl kept) (turned.cancelled j refl (right-false truths _ rest))))
+      was j refl ∙ ap (λ rows. nat_lt 0 (length rows)) (sym (status-kept b m (suc j) j (active-kept (suc j) j refl kept) (turned.cancelled j refl (right-false truths _ rest))))
 
   pub status-drawn : (k : ℕ) → status_of b (λ a. active_in b m a k) (λ a. cancelled_in b m a k) ≡ status_in b m k
   unfolding status_of status_in
@@ -130,8 +143,14 @@ module _ (b : Book) (m : ℕ → Moment) where
       let right : right_beyond (right_in b m (suc j)) ≡ right_beyond (right_in b m j) = sym now.right ∙ ap (λ (c : FlagCounts). c.right) same ∙ stood.counted.right in
       let more : has_more (left_in b m (suc j)) ≡ has_more (left_in b m j) = sym now.left.more ∙ ap (λ (c : LeftCount). c.more) left ∙ stood.counted.left.more in
       let beyond : overflow (left_in b m (suc j)) ≡ overflow (left_in b m j) = sym now.left.beyond ∙ ap (λ (c : LeftCount). c.beyond) left ∙ stood.counted.left.beyond in
-      let status : length (status_in b m (suc j)) ≡ length (status_in b m j) = sym now.status ∙ ap (λ (c : FlagCounts). c.status) same ∙ stood.counted.status in
+      let status : nat_lt 0 (length (status_in b m (suc j))) ≡ nat_lt 0 (length (status_in b m j)) = sym now.status ∙ ap (λ (c : FlagCounts). c.status) same ∙ stood.counted.status in
       mends_kept 14 (flag_rows_in b m (suc j)) s (subst (λ rows. StandAt 14 rows s.rows) (sym (flags-same _ _ _ _ _ _ _ _ more beyond right status)) stood.zone)
+
+  pub flags-drawn : (k n : ℕ) (counts : FlagCounts) (s t : TrackedRows) → AreCounts b m k counts → n ≡ from_bool counts.status
+      → ((rows : List Row) → length rows ≡ n → Mends 14 (flags_row (flags counts.left.more counts.left.beyond counts.right rows) ∷ []) s t) → Mends 14 (flag_rows_in b m k) s t
+  flags-drawn k n counts s t are is fills =
+      subst (λ rows. Mends 14 rows s t) (flags-same _ _ _ _ _ _ _ _ are.left.more are.left.beyond are.right (some-told counts.status ∙ are.status))
+      (fills (some_row counts.status) (some-long counts.status ∙ sym is))
 
   -- ---- the system display
 

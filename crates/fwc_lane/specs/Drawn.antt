@@ -1,5 +1,5 @@
 -- What stands in the picture of a lane after some moments, and what FL tells of it.
-use Rattle.std.specs.Prelude.{◌≡◌, ℕ, suc, List, [], ◌∷◌, length}
+use Rattle.std.specs.Prelude.{◌≡◌, ℕ, suc, nat_lt, List, [], ◌∷◌, length}
 use Rattle.ecam_spec.specs.Book.{Book}
 use Rattle.ecam_spec.specs.Picture.{Row, Picture}
 use Rattle.ecam_spec.specs.History.{Moment}
@@ -32,13 +32,13 @@ pub record CountsLeft (rows : List LeftRow) (count : LeftCount) : Type 0 where
   pub beyond : count.beyond ≡ overflow rows
   pub more : count.more ≡ has_more rows
 
--- these are the numbers of which FL tells in moment k
+-- this is what FL tells of in moment k
 pub record AreCounts (b : Book) (m : ℕ → Moment) (k : ℕ) (counts : FlagCounts) : Type 0 where
   pub left : CountsLeft (left_in b m k) counts.left
   pub right : counts.right ≡ right_beyond (right_in b m k)
-  pub status : counts.status ≡ length (status_in b m k)
+  pub status : counts.status ≡ nat_lt 0 (length (status_in b m k))
 
--- after k moments this picture is shown, blank before the first, and these are its numbers
+-- after k moments this picture is shown, blank before the first, and this is what FL tells of
 pub record IsDrawn (b : Book) (m : ℕ → Moment) (k : ℕ) (shown : Picture) (counts : FlagCounts) : Type 0 where
   pub picture : shown ≡ picture_before (picture_in b m) k
   pub counted : (j : ℕ) → k ≡ suc j → AreCounts b m j counts

@@ -6,14 +6,15 @@ use Rattle.param_table.specs.TableState.{ParamsFit}
 use Rattle.alert_truth.specs.TruthsState.{TruthsFit}
 use Rattle.crew_marks.specs.MarksState.{MarksFit}
 use Rattle.attention.specs.State.{AttentionFits}
+use Rattle.status_page.specs.StatusOf.{TellsStatusLines}
 use Rattle.system_display.specs.Selecting.{SelectorFits}
 use Rattle.system_display.specs.Pages.{AreShort}
 use Rattle.fwc_lane.specs.TermsFit.{TermsFit}
 use Rattle.fwc_lane.specs.Calm.{IsCalm, IsIdle}
 use Rattle.fwc_lane.specs.declared.lane.Lane.{Lane}
 
--- its parts were made for the book, and have counted the same moments, and it is calm and idle where it says so. Nothing is
--- said of any history
+-- its parts were made for the book, and have counted the same moments; it tells whether the book has status lines, and it is
+-- calm and idle where it says so. Nothing is said of any history
 pub record LaneFits (b : Book) (l : Lane) : Type 0 where
   pub params : ParamsFit b l.params
   pub truths : TruthsFit b l.truths
@@ -26,6 +27,7 @@ pub record LaneFits (b : Book) (l : Lane) : Type 0 where
   pub terms : TermsFit b l.terms
   pub lines : length l.lines.items ≡ length (lines_of b.alerts)
   pub memos : length l.memos.items ≡ length b.memos
+  pub status_lines : TellsStatusLines b l.has_status_lines
   pub truths_moments : l.truths.moments ≡ l.moments
   pub marks_moments : l.marks.moments ≡ l.moments
   pub attention_moments : l.attention.moments ≡ l.moments

@@ -12,13 +12,14 @@ use Rattle.system_display.specs.Pages.{AreShort}
 use Rattle.alert_truth.specs.TruthsState.{TruthsFit, TruthsStand}
 use Rattle.crew_marks.specs.MarksState.{MarksFit, MarksStand}
 use Rattle.attention.specs.State.{AttentionStands}
+use Rattle.status_page.specs.StatusOf.{TellsStatusLines}
 use Rattle.system_display.specs.Selecting as selecting
 use Rattle.ecam_spec.specs.declared.kinds.Choice.{Choice}
 use Rattle.ecam_spec.specs.declared.kinds.Choice.TheVariants.{Auto, Page, Status}
 use Rattle.fwc_lane.specs.declared.scene.Turned.{Turned}
 use Rattle.fwc_lane.specs.declared.scene.Scene.{Scene}
 
--- its parts were made for the book
+-- its parts were made for the book, and it tells whether that has status lines
 pub record SceneFits (b : Book) (s : Scene) : Type 0 where
   pub truths : TruthsFit b s.truths.now
   pub marks : MarksFit b s.marks.now
@@ -30,6 +31,7 @@ pub record SceneFits (b : Book) (s : Scene) : Type 0 where
   pub short : AreShort s.values.now
   pub first : 1 ≤ s.phase.number
   pub last : s.phase.number ≤ 10
+  pub status_lines : TellsStatusLines b s.has_status_lines
 
 -- it is what moment k shows, and a parameter whose flag isn't set has the value of the moment before
 pub record SceneStands (b : Book) (m : ℕ → Moment) (k : ℕ) (s : Scene) : Type 0 where

@@ -1,13 +1,13 @@
 // What FL tells of.
 use warning_display::LeftCount;
 
-/// The numbers of which FL tells: what of the left zone and of the right stands beyond their rows, and how many rows the
-/// status page has.
+/// What FL tells of: what of the left zone and of the right stands beyond their rows, and whether the status page has any
+/// row.
 #[derive(Clone, Copy, Debug, PartialEq, Eq)]
 pub struct FlagCounts {
     pub left: LeftCount,
     pub right: u32,
-    pub status: u32,
+    pub status: bool,
 }
 
 impl FlagCounts {
@@ -19,7 +19,7 @@ impl FlagCounts {
                 more: false,
             },
             right: 0,
-            status: 0,
+            status: false,
         }
     }
 }

@@ -12,7 +12,7 @@ ghost use Rattle.fwc_lane.specs.Drawn.{IsDrawn};
 use crate::counts::FlagCounts;
 use crate::display::draw_display;
 use crate::scene::{Scene, Turned};
-use crate::zones::{count_status, draw_flags, draw_lamps, draw_left, draw_right};
+use crate::zones::{draw_flags, draw_lamps, draw_left, draw_right, has_status};
 use book_model::Book;
 use ecam_kinds::{Picture, ROWS, Row};
 
@@ -26,7 +26,8 @@ fn forget(_rows: &[Row], changed: &mut [bool])
 }
 
 /// Mends the picture so that it shows the moment, tells in `changed` exactly the rows that differ from what they were, and
-/// answers the numbers of which FL tells. A zone of which nothing turned costs nothing; no picture is made on the way.
+/// answers what FL tells of. A zone of which nothing turned costs nothing; no picture is made on the way, and of a status
+/// page that isn't shown no row is made or counted.
 pub fn draw(
     book: &Book,
     scene: &Scene<'_>,
@@ -48,7 +49,7 @@ pub fn draw(
     forget(&picture.rows, changed);
     let left = draw_left(book, scene, turned, was.left, picture, changed);
     let right = draw_right(book, scene, turned, was.right, picture, changed);
-    let status = count_status(book, scene, turned, was.status);
+    let status = has_status(book, scene, turned, was.status);
     let counts = FlagCounts {
         left,
         right,

@@ -34,6 +34,7 @@ use crew_marks::Marks;
 use ecam_kinds::{Event, Phase, Picture, ROWS};
 use flight_phases::PhaseState;
 use param_table::Params;
+use status_page::has_status_lines;
 use std::alloc::{AllocError, Global};
 use system_display::Selector;
 use term_eval::Env;
@@ -82,7 +83,9 @@ pub struct Lane {
     pub picture: Picture,
     /// Which rows of the picture differ from those of the moment before; before the first moment none.
     pub changed: [bool; ROWS],
-    // The numbers of which FL tells in the picture.
+    /// Some alert of the book has status lines. Nothing changes it.
+    pub has_status_lines: bool,
+    // What FL tells of in the picture.
     counts: FlagCounts,
 }
 
@@ -152,6 +155,7 @@ impl Lane {
             moments: 0,
             picture: Picture::blank(),
             changed: [false; ROWS],
+            has_status_lines: has_status_lines(book),
             counts: FlagCounts::none(),
         })
     }
@@ -222,11 +226,13 @@ impl Lane {
     /// is another, and for the conditions that may turn by that a look at each temporal node and at each node that turns; in
     /// the first moment one at each node of all. Of alerts, lines and memos it looks at those whose condition may turn, and,
     /// where an alert turned or a key acts on them, at the alerts of which something is told or kept; a zone of the picture
-    /// is filled only where something that it shows turned. A Tick in which no parameter may have another value, no
-    /// condition is due and no key acts, after one that left all at rest, costs a few looks and writes, besides what the
-    /// end of a moment costs the parameters: it looks at no condition, alert, line, memo or row. After another such Tick,
-    /// with no key between them and the phase not timed, it costs eight looks and eight counts in all, and where conditions
-    /// or mailboxes wait for the moment, a few looks and writes at each.
+    /// is filled only where something that it shows turned. Where an alert or a mark turned, it seeks the first alert with
+    /// rows on the status page: a look for each 64 alerts and at each near one up to that, and, where the book has no status
+    /// lines, before that a look at the flags of the cancelled, which ends it where none is set. A Tick in which no parameter
+    /// may have another value, no condition is due and no key acts, after one that left all at rest, costs a few looks and
+    /// writes, besides what the end of a moment costs the parameters: it looks at no condition, alert, line, memo or row.
+    /// After another such Tick, with no key between them and the phase not timed, it costs eight looks and eight counts in
+    /// all, and where conditions or mailboxes wait for the moment, a few looks and writes at each.
     // (It stands in its caller, so that a word goes to its sources at once.)
     #[inline(always)]
     pub fn event(&mut self, book: &Book, event: &Event, one_up: bool, two_up: bool)
@@ -441,6 +447,7 @@ impl Lane {
             self.marks.normal(),
         );
         let scene = Scene {
+            has_status_lines: self.has_status_lines,
             phase: stepped.phase,
             values: &self.values,
             lines: &self.lines,

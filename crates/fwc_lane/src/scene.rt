@@ -61,6 +61,8 @@ impl Turned {
 /// All that a moment shows. It lends its lists, and copies nothing.
 #[derive(Clone, Copy)]
 pub struct Scene<'a> {
+    /// Whether some alert of the book has status lines.
+    pub has_status_lines: bool,
     pub phase: Phase,
     /// Per parameter its value.
     pub values: &'a [Option<i64>],

@@ -1,5 +1,5 @@
 // The zones of the picture, each filled only where something that it shows turned.
-ghost use Rattle.std.specs.Prelude.{◌≡◌, ◌<◌, ◌==◌, ◌||◌, ℕ, suc, false, true, length};
+ghost use Rattle.std.specs.Prelude.{◌≡◌, ◌<◌, ◌==◌, ◌||◌, ℕ, suc, nat_lt, false, true, length};
 ghost use Rattle.ecam_spec.specs.Book as plain;
 ghost use Rattle.ecam_spec.specs.History.{Moment};
 ghost use Rattle.ecam_spec.specs.Screen.{left_in, right_in, status_in};
@@ -17,7 +17,7 @@ use crate::counts::FlagCounts;
 use crate::scene::{Scene, Turned};
 use book_model::Book;
 use ecam_kinds::{Picture, ROWS};
-use status_page::status_rows_among;
+use status_page::has_status_rows_among;
 use warning_display::{LeftCount, fill_flags, fill_lamps, fill_left_ranked, fill_right};
 
 // Whether anything that the left zone shows turned.
@@ -99,19 +99,22 @@ fn status_turned(turned: Turned, truths: bool) -> bool
     turned.first || truths || turned.marks
 }
 
-/// How many rows the status page has.
-pub fn count_status(book: &Book, scene: &Scene<'_>, turned: Turned, was: u32) -> u32
+/// Whether the status page has any row. Costs nothing where no alert and no mark turned, unless the moment is the first; else
+/// a look for each 64 alerts and at each near one, up to the first that has rows there, and, where the book has no status
+/// lines, before that a look at each flag of the cancelled, up to the first that is set: where none is, there are no rows.
+pub fn has_status(book: &Book, scene: &Scene<'_>, turned: Turned, was: bool) -> bool
     requires { SceneFits (the_book book.now) scene.now }
     ensures { (m : ℕ → Moment) (k : ℕ) → SceneStands (the_book book.now) m k scene.now
         → AreTurned (the_book book.now) m k turned
-        → ((j : ℕ) → k ≡ suc j → was ≡ length (status_in (the_book book.now) m j))
-        → result ≡ length (status_in (the_book book.now) m k) }
+        → ((j : ℕ) → k ≡ suc j → was ≡ nat_lt 0 (length (status_in (the_book book.now) m j)))
+        → result ≡ nat_lt 0 (length (status_in (the_book book.now) m k)) }
 {
     if !status_turned(turned, scene.truths.changed()) {
         return was;
     }
-    status_rows_among(
+    has_status_rows_among(
         book,
+        scene.has_status_lines,
         scene.truths.near(),
         scene.truths.active(),
         scene.marks.cancelled(),
@@ -143,7 +146,13 @@ pub fn draw_flags(
     if is_kept(first, was, counts) {
         return;
     }
-    fill_flags(counts.left, counts.right, counts.status, picture, changed);
+    fill_flags(
+        counts.left,
+        counts.right,
+        u32::from(counts.status),
+        picture,
+        changed,
+    );
 }
 
 fn is_dark(first: bool, turned: bool) -> bool

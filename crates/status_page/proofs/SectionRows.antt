@@ -1,5 +1,5 @@
 -- The lines of a section, one alert more; and that each line of an alert stands in exactly one of the five sections.
-use Rattle.std.proofs.Common.{◌≡◌, ℕ, zero, suc, ◌+◌, ◌<◌, Bool, true, false, List, [], ◌∷◌, ◌++◌, map, length, take, get_or, cond, eqb, refl, sym, ◌∙◌, ap, subst, arith}
+use Rattle.std.proofs.Common.{◌≡◌, ℕ, zero, suc, ◌+◌, ◌<◌, ◌≤◌, Bool, true, false, List, [], ◌∷◌, ◌++◌, map, length, take, get_or, cond, eqb, refl, sym, ◌∙◌, ap, subst, arith}
 use Rattle.std.specs.Prelude.{filter, All, ◌==◌}
 use Rattle.std.specs.List.{flat_map}
 use Rattle.std.proofs.lemmas.List.{append-nil, map-append, length-append, length-map, take_more}
@@ -89,6 +89,14 @@ count-more alerts a each =
     let new = sections-length f (0, Cyan) (1, White) (2, Cyan) (3, Green) (4, Amber) in
     let old = sections-length g (0, Cyan) (1, White) (2, Cyan) (3, Green) (4, Amber) in
     omega (arith, new, old, all, section-longer (0, Cyan) alerts a, section-longer (1, White) alerts a, section-longer (2, Cyan) alerts a, section-longer (3, Green) alerts a, section-longer (4, Amber) alerts a)
+
+-- and takes none away, wherever its lines stand
+pub count-least : (alerts : List Alert) (a : Alert) → section_count alerts ≤ section_count (alerts ++ a ∷ [])
+unfolding sections
+count-least alerts a =
+    let new = sections-length (section_rows (alerts ++ a ∷ [])) (0, Cyan) (1, White) (2, Cyan) (3, Green) (4, Amber) in
+    let old = sections-length (section_rows alerts) (0, Cyan) (1, White) (2, Cyan) (3, Green) (4, Amber) in
+    omega (arith, new, old, section-longer (0, Cyan) alerts a, section-longer (1, White) alerts a, section-longer (2, Cyan) alerts a, section-longer (3, Green) alerts a, section-longer (4, Amber) alerts a)
 
 pub count-none : section_count [] ≡ 0
 unfolding sections section_rows

@@ -11,5 +11,5 @@ mod near;
 mod place;
 mod sections;
 
-pub use count::{status_rows, status_rows_among};
+pub use count::{has_status_lines, has_status_rows_among, status_rows};
 pub use fill::{fill_status, fill_status_among};

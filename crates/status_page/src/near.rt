@@ -25,8 +25,9 @@ pub(crate) fn next_known(near: Option<&Marked>, active: &[bool], from: usize) ->
     }
 }
 
-// The place of the first active alert from one on, where each of them is near.
-fn next_among(near: &Marked, active: &[bool], from: usize) -> usize
+/// The place of the first active alert from one on, where each of them is near; the number of alerts where there is none.
+/// Costs a look for each 64 alerts and at each near one that it goes over.
+pub(crate) fn next_among(near: &Marked, active: &[bool], from: usize) -> usize
     requires from { from ≤ length active.now }
     requires near { (a : ℕ) → get_or active.now a false ≡ true → is_marked near.now a ≡ true }
     ensures from { from ≤ result }

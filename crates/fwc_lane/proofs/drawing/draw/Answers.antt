@@ -19,7 +19,7 @@ returns-clause-drawn c = λ m k scene turned was.
       whole_w = c.draw_display.ensures.whole;
       left = c.draw_left-left.ensures.rows m k scene turned;
       right = c.draw_right-right.ensures.rows m k scene turned;
-      status = c.count_status-status.ensures m k scene turned;
+      status = c.has_status-status.ensures m k scene turned;
       flags = c.draw_flags.ensures.rows (the_book c.args.book.now) m k turned.first;
       display = c.draw_display.ensures.rows m k scene turned;
       lamps = c.draw_lamps.ensures.rows (the_book c.args.book.now) m k turned.first scene;
@@ -28,7 +28,7 @@ returns-clause-drawn c = λ m k scene turned was.
 
 pub returns-clause-changed : goal.returns-clause-changed
 returns-clause-changed c = λ m k scene turned was.
-    draws-changed (the_book c.args.book.now) m k c.args.was (record { left = c.draw_left-left.result; right = c.draw_right-right.result; status = c.count_status-status.result })
+    draws-changed (the_book c.args.book.now) m k c.args.was (record { left = c.draw_left-left.result; right = c.draw_right-right.result; status = c.has_status-status.result })
     (tracked c.args.picture.now.rows c.forget.new.changed)
     (tracked c.draw_left-left.new.picture.rows c.draw_left-left.new.changed)
     (tracked c.draw_right-right.new.picture.rows c.draw_right-right.new.changed)
@@ -43,7 +43,7 @@ returns-clause-changed c = λ m k scene turned was.
       whole_w = c.draw_display.ensures.whole;
       left = c.draw_left-left.ensures.rows m k scene turned;
       right = c.draw_right-right.ensures.rows m k scene turned;
-      status = c.count_status-status.ensures m k scene turned;
+      status = c.has_status-status.ensures m k scene turned;
       flags = c.draw_flags.ensures.rows (the_book c.args.book.now) m k turned.first;
       display = c.draw_display.ensures.rows m k scene turned;
       lamps = c.draw_lamps.ensures.rows (the_book c.args.book.now) m k turned.first scene;

@@ -1,19 +1,15 @@
-use Rattle.std.proofs.Common.{◌≡◌, ◌+◌, map, length, cond, sym, ap, subst, ◌∙◌, arith}
+use Rattle.std.proofs.Common.{◌≡◌, ◌+◌, map, length, cond, sym, ap, ◌∙◌, arith}
 use Rattle.std.specs.Prelude.{filter}
 use Rattle.std.proofs.lemmas.Bool.{lt-ltb, le-ltb}
-use Rattle.std.proofs.lemmas.List.{length-map}
-use Rattle.ecam_spec.specs.Book as plain
 use Rattle.ecam_spec.specs.Places.{below}
 use Rattle.ecam_spec.specs.Situation.{alert_at}
-use Rattle.book_model.specs.View.{status_of}
 use Rattle.book_model.specs.Sealed.{the_book}
 use Rattle.book_model.specs.Told.{flagged}
 use Rattle.book_model.proofs.BookLists.{many-alerts}
-use Rattle.book_model.proofs.BookReads.{alert-read}
-use Rattle.book_model.proofs.BookLimits.{sizes, alert-sound}
+use Rattle.book_model.proofs.BookLimits.{sizes}
 use Rattle.status_page.proofs.SectionRows.{section_count, count-none}
 use Rattle.status_page.proofs.ActiveBelow.{active-more}
-use Rattle.status_page.proofs.Counting.{Sectioned, one-few, as_one, lines-few, lines-on, titles-on, total-told}
+use Rattle.status_page.proofs.Counting.{one-few, as_one, lines-few, lines-read, sectioned, lines-on, titles-on, total-told}
 use Rattle.status_page.proofs.count.count_rows.Goals as goal
 
 pub loop-next-init : goal.loop-next-init
@@ -58,10 +54,8 @@ loop-next-preserved c =
     let same = c.alerts-alerts.ensures.value in
     let is = c.index-alerts-next.is in
     let few = lines-few d sealed alerts next own same c.loop-next-test.true is c.len.result c.len.ensures in
-    let read = alert-read d alerts next own same c.loop-next-test.true is in
-    let sound = alert-sound d sealed alerts next own same c.loop-next-test.true is in
-    let long : c.len.result ≡ length (alert_at b next).status = omega (arith, few.0, length-map own.status.items status_of, ap (λ (a : plain.Alert). length a.status) read) in
-    let each : Sectioned (alert_at b next) = subst Sectioned (sym read) (λ j e h. (sound.status j e h).section) in
+    let long = c.len.ensures ∙ lines-read d alerts next own same c.loop-next-test.true is in
+    let each = sectioned d alerts next own same c.loop-next-test.true is sealed in
     let one = as_one (flagged c.args.cancelled.now next) in
     let is_active = c.loop-next.invariant.active (omega (arith, c.loop-next-test.true, ap length same, c.requires.active)) in
     let more = sym (c.next_known-next-in-loop-next.ensures.none ∙ active-more active next is_active) in

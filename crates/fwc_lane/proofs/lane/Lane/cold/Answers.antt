@@ -22,6 +22,7 @@ returns-clause-fits c = record {
   terms = c.clear-2.ensures.fits (the_book c.args.book.now) c.requires.terms;
   lines = c.requires.lines;
   memos = c.requires.memos;
+  status_lines = c.requires.status_lines;
   truths_moments = c.clear-3.ensures.moments;
   marks_moments = c.clear-4.ensures.moments;
   attention_moments = c.clear-5.ensures.moments;

@@ -18,6 +18,7 @@ returns-clause-fits c = λ b fits other. record {
   terms = c.copy_from-2.ensures.fits b fits.terms;
   lines = ap length (c.copy_from_slice-2.ensures.items ∙ c.deref-2.ensures.value) ∙ other.lines;
   memos = ap length (c.copy_from_slice-3.ensures.items ∙ c.deref-3.ensures.value) ∙ other.memos;
+  status_lines = fits.status_lines;
   truths_moments = c.copy_from-3.ensures.moments ∙ other.truths_moments;
   marks_moments = ap (λ (m : CrewMarks). m.moments) c.copy_from-4.ensures ∙ other.marks_moments;
   attention_moments = c.copy_from-5.ensures.moments ∙ other.attention_moments;

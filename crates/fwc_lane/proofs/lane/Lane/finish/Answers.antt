@@ -37,6 +37,7 @@ returns-clause-fits c =
       terms = terms-with b terms terms.dues c.copy_from.new.self c.args.one_up c.args.two_up c.step_conditions-stepped.ensures.terms refl;
       lines = c.step_conditions-stepped.ensures.lines ∙ fits.lines;
       memos = c.step_conditions-stepped.ensures.memos ∙ fits.memos;
+      status_lines = fits.status_lines;
       truths_moments = omega (arith, c.step_conditions-stepped.ensures.moments, fits.truths_moments);
       marks_moments = omega (arith, c.step_crew.ensures.marks_moments, fits.marks_moments);
       attention_moments = omega (arith, c.step_crew.ensures.attention_moments, fits.attention_moments);

@@ -24,6 +24,7 @@ returns-clause-fits c =
       terms = terms-with b old.terms c.pass-4.new.self old.terms.keys old.terms.one_up old.terms.two_up fits.terms (ap length c.pass-4.ensures);
       lines = fits.lines;
       memos = fits.memos;
+      status_lines = fits.status_lines;
       truths_moments = omega (arith, c.pass.ensures.moments, fits.truths_moments);
       marks_moments = omega (arith, c.pass-2.ensures.moments, fits.marks_moments);
       attention_moments = omega (arith, c.go_on.ensures.moments, fits.attention_moments);

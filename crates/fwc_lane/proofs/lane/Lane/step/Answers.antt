@@ -20,6 +20,7 @@ finish-requires-clause-fits c =
       terms = begin.fits;
       lines = fits.lines;
       memos = fits.memos;
+      status_lines = fits.status_lines;
       truths_moments = fits.truths_moments;
       marks_moments = fits.marks_moments;
       attention_moments = fits.attention_moments;

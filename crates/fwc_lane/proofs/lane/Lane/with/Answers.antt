@@ -20,6 +20,7 @@ returns-clause-fits c = record {
   terms = c.requires.fits;
   lines = c.in_ok-values.ensures.lines;
   memos = c.in_ok-values.ensures.memos;
+  status_lines = c.has_status_lines.ensures;
   truths_moments = c.in_ok-marks.ensures.truths_moments;
   marks_moments = c.in_ok-marks.ensures.marks_moments;
   attention_moments = c.in_ok-marks.ensures.attention_moments;
