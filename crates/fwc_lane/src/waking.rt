@@ -106,6 +106,8 @@ fn mark_counted(woken: &mut Marked, cells: &mut Cells, term: usize, size: usize)
 }
 
 /// Wakes the conditions that name the flight phase, where it is another.
+// (It stands by itself, since the phase seldom turns.)
+#[inline(never)]
 pub fn wake_phase(terms: &mut Terms, book: &Book, other: bool, phase: Phase)
     requires fits { TermsFit (the_book book.now) terms.old }
     requires first { 1 ≤ phase.number }
@@ -186,7 +188,9 @@ fn are_unheard(watch: &Watch, book: &Book) -> bool
     watch.is_silent(first, first + 25)
 }
 
-// Wakes the conditions that name the key of this number, where it is another.
+// Wakes the conditions that name the key of this number, where it is another. (It stands by itself, since a key seldom
+// turns.)
+#[inline(never)]
 fn wake_key(terms: &mut Terms, book: &Book, number: usize, other: bool, pressed: bool)
     requires number { number < 25 }
     requires fits { TermsFit (the_book book.now) terms.old }
@@ -247,6 +251,8 @@ fn key_at(number: usize) -> Option<Key>
 }
 
 /// Wakes the conditions that name a computer which came up or failed.
+// (It stands by itself, since a computer seldom does.)
+#[inline(never)]
 pub fn wake_computers(terms: &mut Terms, book: &Book, one_up: bool, two_up: bool)
     requires fits { TermsFit (the_book book.now) terms.old }
     ensures fits { TermsFit (the_book book.now) terms.new }
@@ -309,7 +315,9 @@ pub fn wake_first(
     wake_due(woken, stirred, dues, cells, codes, now);
 }
 
-// Marks all conditions below this number in both sets, and counts their nodes.
+// Marks all conditions below this number in both sets, and counts their nodes. (It stands by itself, since only the first
+// moment calls it.)
+#[inline(never)]
 fn wake_all(
     woken: &mut Marked,
     stirred: &mut Marked,
