@@ -1,23 +1,59 @@
 // The alerts of a moment, in the book's order.
-ghost use Rattle.std.specs.Prelude.{◌≡◌, ◌<◌, ◌≤◌, ◌^◌, ◌+◌, ℕ, suc, length};
+ghost use Rattle.std.specs.Prelude.{◌≡◌, ◌<◌, ◌≤◌, ◌^◌, ◌+◌, ℕ, suc, length, slice_get, Some};
+ghost use Rattle.ecam_spec.specs.Book as plain;
 ghost use Rattle.ecam_spec.specs.History.{Moment};
 ghost use Rattle.ecam_spec.specs.Situation.{condition_in, phase_in};
 ghost use Rattle.book_model.specs.Sealed.{the_book};
-ghost use Rattle.book_model.specs.Conditions.{alerts_from, lines_from};
+ghost use Rattle.ecam_spec.specs.TermNames.{IsWithin};
+ghost use Rattle.book_model.specs.View.{tree_in, placed_of};
+ghost use Rattle.book_model.specs.Conditions.{alerts_from, lines_from, places};
 ghost use Rattle.alert_truth.specs.TruthsState.{TruthsFit, TruthsStand};
-ghost use Rattle.fwc_lane.specs.Conditions.{BookHalf, AlertsHalf, WasPhase};
+ghost use Rattle.fwc_lane.specs.Conditions.{BookHalf, AlertsHalf, StepsTerm, WasPhase};
 ghost use Rattle.fwc_lane.specs.Given.{Lends};
 ghost use Rattle.fwc_lane.specs.TermsFit.{TermsFit};
 
-use crate::conditions::step_term;
+use crate::conditions::{step_later, step_term};
 use crate::next::{next_alert, next_due};
 use crate::numbers::alert_number;
 use crate::terms::Terms;
 use crate::waking::{differ, is_other_phase, wake_alert};
 use alert_truth::Truths;
-use book_model::Book;
+use book_model::{Book, Term};
 use ecam_kinds::Phase;
 use term_eval::Env;
+
+// Steps the condition of an alert, which sees these alerts. (What it sees is gathered in the first moment alone, since nothing
+// of it is looked at in a later one.)
+#[inline(always)]
+fn step_own(
+    terms: &mut Terms,
+    number: usize,
+    own: &Term,
+    before: &[bool],
+    env: &Env<'_>,
+    now: u64,
+) -> bool
+    requires place { (b : plain.Book) × TermsFit b terms.old
+        × (slice_get (places b) number ≡ Some (placed_of own.now)) }
+    requires names { IsWithin (length env.now.values.now) (length before.now) (tree_in own.now) }
+    requires first { 1 ≤ env.now.phase.number }
+    requires last { env.now.phase.number ≤ 10 }
+    requires now { now < 2 ^ 63 }
+    ensures fits { (b : plain.Book) → TermsFit b terms.old → TermsFit b terms.new }
+    ensures steps { (b : plain.Book) → TermsFit b terms.old
+        → slice_get (places b) number ≡ Some (placed_of own.now)
+        → StepsTerm (places b) (record env.now { active = before.entry }) now number (placed_of own.now)
+        terms.old terms.new result }
+{
+    if now > 0 {
+        return step_later(terms, number, now);
+    }
+    let earlier = Env {
+        active: before,
+        ..*env
+    };
+    step_term(terms, number, own, &earlier, now)
+}
 
 /// Steps one alert and its condition by moment `now`. The condition sees the alerts before it in the book as they are in
 /// this moment, and no others. An alert that becomes active, or is active no longer, wakes the conditions that name it.
@@ -47,11 +83,8 @@ fn step_alert(
 {
     let own = &book.alerts()[alert].when;
     let was = truths.active()[alert];
-    let earlier = Env {
-        active: &truths.active()[..alert],
-        ..*env
-    };
-    let holds = step_term(terms, alert_number(alert), own, &earlier, now);
+    let before = &truths.active()[..alert];
+    let holds = step_own(terms, alert_number(alert), own, before, env, now);
     let active = truths.step_one(book, alert, holds, env.phase);
     let other = differ(active, was);
     wake_alert(terms, book, alert, other, active);

@@ -6,6 +6,7 @@ ghost use Rattle.ecam_spec.specs.TermSize.{Placed};
 ghost use Rattle.book_model.specs.View.{tree_in, placed_of};
 ghost use Rattle.book_model.specs.Conditions.{places};
 ghost use Rattle.wakes.specs.Marks.{is_marked};
+ghost use Rattle.term_eval.specs.declared.env.Env.{Env};
 ghost use Rattle.fwc_lane.specs.Conditions.{StepsTerm};
 ghost use Rattle.fwc_lane.specs.TermsFit.{TermsFit};
 
@@ -33,8 +34,7 @@ pub fn step_term(terms: &mut Terms, number: usize, _term: &Term, env: &Env<'_>, 
     step_numbered(terms, number, env, now)
 }
 
-/// The same of the condition that has this number. (The look stands where it is asked for, since many conditions that are
-/// asked aren't stirred.)
+/// The same of the condition that has this number.
 #[inline(always)]
 pub fn step_numbered(terms: &mut Terms, number: usize, env: &Env<'_>, now: u64) -> bool
     requires place { (b : plain.Book) × (p : Placed) × TermsFit b terms.old
@@ -49,35 +49,67 @@ pub fn step_numbered(terms: &mut Terms, number: usize, env: &Env<'_>, now: u64) 
         → IsWithin (length env.now.values.now) (length env.now.active.now) p.tree
         → StepsTerm (places b) env.now now number p terms.old terms.new result }
 {
+    if now > 0 {
+        return step_later(terms, number, now);
+    }
+    begin_term(terms, number, env)
+}
+
+/// The same in a moment that isn't the first. What the condition names was told to it where it turned, so that nothing of the
+/// moment is looked at here.
+// (The look stands where it is asked for, since many conditions that are asked aren't stirred.)
+#[inline(always)]
+pub fn step_later(terms: &mut Terms, number: usize, now: u64) -> bool
+    requires place { (b : plain.Book) × (p : Placed) × TermsFit b terms.old
+        × (slice_get (places b) number ≡ Some p) }
+    requires later { 0 < now }
+    requires now { now < 2 ^ 63 }
+    ensures fits { (b : plain.Book) → TermsFit b terms.old → TermsFit b terms.new }
+    ensures steps { (b : plain.Book) (p : Placed) (env : Env) → TermsFit b terms.old
+        → slice_get (places b) number ≡ Some p
+        → StepsTerm (places b) env now number p terms.old terms.new result }
+{
     if !terms.stirred.has(number) {
         return terms.truths[number];
     }
-    run_term(terms, number, env, now)
+    run_term(terms, number, now)
 }
 
-// Steps one that is stirred.
+// Steps one in the first moment. (It stands by itself, since only the first moment calls it.)
 #[inline(never)]
-fn run_term(terms: &mut Terms, number: usize, env: &Env<'_>, now: u64) -> bool
+fn begin_term(terms: &mut Terms, number: usize, env: &Env<'_>) -> bool
     requires place { (b : plain.Book) × (p : Placed) × TermsFit b terms.old
         × (slice_get (places b) number ≡ Some p)
         × IsWithin (length env.now.values.now) (length env.now.active.now) p.tree }
-    requires woken { is_marked terms.old.woken number ≡ true }
     requires first { 1 ≤ env.now.phase.number }
     requires last { env.now.phase.number ≤ 10 }
-    requires now { now < 2 ^ 63 }
     ensures fits { (b : plain.Book) → TermsFit b terms.old → TermsFit b terms.new }
     ensures steps { (b : plain.Book) (p : Placed) → TermsFit b terms.old
         → slice_get (places b) number ≡ Some p
         → IsWithin (length env.now.values.now) (length env.now.active.now) p.tree
-        → StepsTerm (places b) env.now now number p terms.old terms.new result }
+        → StepsTerm (places b) env.now 0 number p terms.old terms.new result }
 {
     let codes = terms.codes.table();
-    if now == 0 {
-        let steps = codes.code(number);
-        let start = codes.start(number);
-        let turn = terms.cells.begin(&mut terms.nodes, steps, start, env);
-        return note(terms, number, turn);
-    }
+    let steps = codes.code(number);
+    let start = codes.start(number);
+    let turn = terms.cells.begin(&mut terms.nodes, steps, start, env);
+    note(terms, number, turn)
+}
+
+// Steps one that is stirred in a later moment.
+#[inline(never)]
+fn run_term(terms: &mut Terms, number: usize, now: u64) -> bool
+    requires place { (b : plain.Book) × (p : Placed) × TermsFit b terms.old
+        × (slice_get (places b) number ≡ Some p) }
+    requires woken { is_marked terms.old.woken number ≡ true }
+    requires later { 0 < now }
+    requires now { now < 2 ^ 63 }
+    ensures fits { (b : plain.Book) → TermsFit b terms.old → TermsFit b terms.new }
+    ensures steps { (b : plain.Book) (p : Placed) (env : Env) → TermsFit b terms.old
+        → slice_get (places b) number ≡ Some p
+        → StepsTerm (places b) env now number p terms.old terms.new result }
+{
+    let codes = terms.codes.table();
     let parts = codes.parts(number);
     let turn = terms.cells.run(
         &mut terms.nodes,

@@ -74,6 +74,9 @@ fn turn_each(
         → MarksEach b asking.now woken.old cells.old woken.new cells.new }
     ensures stirs { AreWoken woken.old stirred.old → AreWoken woken.new stirred.new }
 {
+    if asking.is_empty() {
+        return;
+    }
     let mut fresh = 0;
     for asker in asking {
         let term = asker.term as usize;

@@ -1,37 +1,18 @@
-use Rattle.std.proofs.Common.{◌<◌, false, length, sym, ◌∙◌, arith}
-use Rattle.std.proofs.lemmas.List.{get_or_default}
-use Rattle.std.proofs.lemmas.Option.{slice_get_within}
+use Rattle.std.proofs.Common.{◌≡◌, subst, arith}
 use Rattle.book_model.specs.Conditions.{places}
-use Rattle.condition_codes.specs.Places.{nodes_before}
-use Rattle.fwc_lane.proofs.Stepping.{rest-asked, half-rest}
+use Rattle.fwc_lane.specs.Conditions.{StepsTerm}
 use Rattle.fwc_lane.proofs.conditions.step_numbered.Goals as goal
 
-pub has-requires : goal.has-requires
-has-requires c =
+pub step_later-requires-clause-place : goal.step_later-requires-clause-place
+step_later-requires-clause-place c =
     let (b, p, fits, here, names) = c.requires.place in
-    let inside : c.args.number < length (places b) = slice_get_within (places b) c.args.number p here in
-    omega (arith, inside, fits.stirred_room)
+    (b, p, fits, here)
 
-pub index-requires : goal.index-requires
-index-requires c =
-    let (b, p, fits, here, names) = c.requires.place in
-    let inside : c.args.number < length (places b) = slice_get_within (places b) c.args.number p here in
-    omega (arith, inside, fits.truths, c.args.terms.now.truths.ok.0)
+pub returns-then-now-gt0-clause-steps : goal.returns-then-now-gt0-clause-steps
+returns-then-now-gt0-clause-steps c = λ b p fits here names. c.step_later.ensures.steps b p c.args.env.now fits here
 
-pub returns-then-not-has-clause-steps : goal.returns-then-not-has-clause-steps
-returns-then-not-has-clause-steps c = λ b p fits here names.
-    let off = sym c.has.ensures ∙ c.if-not-has.true in
-    let inside : c.args.number < length (places b) = slice_get_within (places b) c.args.number p here in
-    record {
-      truth = λ worlds hit visited at shows tells half.
-          c.index.ensures
-          ∙ get_or_default c.args.terms.now.truths.items c.args.number c.index.result.now false (omega (arith, inside, fits.truths))
-          ∙ (rest-asked (worlds c.args.number) hit c.args.now c.args.number (nodes_before (places b) c.args.number) p c.args.terms.now c.requires.now tells (half.left c.args.number _ (omega arith) at) off).told;
-      stands = λ worlds hit visited at apart shows tells half.
-          half-rest (places b) worlds c.args.now c.args.number p at hit visited c.args.terms.now c.requires.now tells off half;
-    }
-
-pub run_term-requires-clause-woken : goal.run_term-requires-clause-woken
-run_term-requires-clause-woken c =
-    let (b, p, fits, here, names) = c.requires.place in
-    fits.stirs c.args.number (sym c.has.ensures ∙ c.if-not-has.false)
+pub returns-clause-steps : goal.returns-clause-steps
+returns-clause-steps c = λ b p fits here names.
+    let first : 0 ≡ c.args.now = omega (arith, c.if-now-gt0.false) in
+    subst (λ k. StepsTerm (places b) c.args.env.now k c.args.number p c.args.terms.now c.begin_term.new.terms c.begin_term.result) first
+    (c.begin_term.ensures.steps b p fits here names)

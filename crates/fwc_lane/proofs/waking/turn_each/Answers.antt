@@ -1,4 +1,5 @@
 use Rattle.std.proofs.Common.{◌≡◌, ◌+◌, ◌*◌, ◌&&◌, ◌||◌, false, ◌==◌, ℕ, take, get_or, subst, sym, ap, ◌∙◌, arith}
+use Rattle.std.proofs.lemmas.Bool.Decides.{nat_tests}
 use Rattle.std.proofs.lemmas.List.{take_all}
 use Rattle.std.proofs.lemmas.List.Folds.{list_any_more}
 use Rattle.std.proofs.lemmas.Option.{slice_get-get_or, slice_get_within}
@@ -10,7 +11,7 @@ use Rattle.term_eval.specs.declared.reading.Test.TheVariants.{IsSet}
 use Rattle.wakes.specs.Marks.{is_marked, room}
 use Rattle.condition_codes.specs.declared.askers.Asker.{Asker}
 use Rattle.fwc_lane.specs.Waking.{TurnsEach}
-use Rattle.fwc_lane.proofs.Turning.{turns-more, AddsEach, adds-asker, adds-few, marks-all, listed-asks, are-linked, asks-within, marks-then, marks-else, woken-more}
+use Rattle.fwc_lane.proofs.Turning.{turns-none, turns-more, AddsEach, adds-asker, adds-few, marks-all, listed-asks, are-linked, asks-within, marks-then, marks-else, woken-more}
 use Rattle.fwc_lane.proofs.waking.turn_each.Goals.{then-turn, else-turn}
 use Rattle.fwc_lane.proofs.waking.turn_each.Goals as goal
 
@@ -63,6 +64,13 @@ mark-requires c =
     let (o, own) = can.asks c.loop-asker.asker-index a (slice_get-get_or c.args.asking.now c.loop-asker.asker-index none c.loop-asker-test.true) in
     omega (arith, can.enough, (c.loop-asker.invariant.turns b can).same, slice_get_within (places b) a.term own.place own.there)
 
+pub put-requires : goal.put-requires
+put-requires c =
+    let (b, can) = c.requires.can in
+    let a = get_or c.args.asking.now c.loop-asker.asker-index none in
+    let (o, own) = can.asks c.loop-asker.asker-index a (slice_get-get_or c.args.asking.now c.loop-asker.asker-index none c.loop-asker-test.true) in
+    omega (arith, can.also, (c.loop-asker.invariant.adds b can).same, slice_get_within (places b) a.term own.place own.there)
+
 pub loop-asker-preserved : goal.loop-asker-preserved
 loop-asker-preserved c = record {
   turns = λ b can.
@@ -112,6 +120,11 @@ loop-asker-preserved c = record {
       ] in
       woken-more a.term c.turn.result c.loop-asker.woken c.put.new.self c.loop-asker.stirred c.if-turn.stirred c.put.ensures.marks marked (c.loop-asker.invariant.stirs woken);
 }
+
+pub returns-then-is_empty-clause-turns : goal.returns-then-is_empty-clause-turns
+returns-then-is_empty-clause-turns c b can =
+    subst (λ l. TurnsEach b l c.args.reading c.args.nodes.now c.args.stirred.now c.args.nodes.now c.args.stirred.now)
+    (take_all 0 c.args.asking.now (grind (arith, nat_tests))) (turns-none b c.args.reading c.args.nodes.now c.args.stirred.now)
 
 pub returns-clause-turns : goal.returns-clause-turns
 returns-clause-turns c b can =
