@@ -175,6 +175,7 @@ fn fill_display(
         ),
         Choice::Status(page) => fill_status_among(
             book,
+            scene.has_status_lines,
             scene.truths.near(),
             scene.truths.active(),
             scene.marks.cancelled(),

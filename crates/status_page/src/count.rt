@@ -72,6 +72,27 @@ pub fn has_status_lines(book: &Book) -> bool
     false
 }
 
+/// Whether it is known without a look at any alert that the status page has no row, since no alert of the book has status
+/// lines and none is cancelled. Costs a look at each flag of `cancelled`, up to the first that is set, where there are no
+/// such lines.
+pub(crate) fn is_surely_bare(
+    _book: &Book,
+    has_status_lines: bool,
+    _active: &[bool],
+    cancelled: &[bool],
+) -> bool
+    requires lines { TellsStatusLines (the_book _book.now) has_status_lines }
+    ensures { result ≡ true → (is_active is_cancelled : ℕ → Bool)
+        → TellsBelow (length _book.now.alerts.items) _active.now is_active
+        → TellsBelow (length _book.now.alerts.items) cancelled.now is_cancelled
+        → length (status_of (the_book _book.now) is_active is_cancelled) ≡ 0 }
+{
+    if has_status_lines {
+        return false;
+    }
+    !cancelled.contains(&true)
+}
+
 /// Whether the status page has any row, where each active alert is near, and `has_status_lines` tells whether any alert of the
 /// book has status lines. Where it isn't set it costs a look at each flag of `cancelled`, up to the first that is set, and
 /// nothing more where none is. Else, or where one is, it costs a look for each 64 alerts and at each near one, up to the first
@@ -92,7 +113,7 @@ pub fn has_status_rows_among(
         → TellsBelow (length book.now.alerts.items) cancelled.now is_cancelled
         → result ≡ nat_lt 0 (length (status_of (the_book book.now) is_active is_cancelled)) }
 {
-    if !has_status_lines && !cancelled.contains(&true) {
+    if is_surely_bare(book, has_status_lines, active, cancelled) {
         return false;
     }
     let alerts = book.alerts();

@@ -10,11 +10,11 @@ ghost use Rattle.zone_rows.specs.Mended.{Mends};
 ghost use Rattle.status_page.specs.Behind.{AppendsBehind};
 ghost use Rattle.book_model.specs.Told.{TellsBelow, flagged};
 ghost use Rattle.wakes.specs.Marks.{is_marked};
-ghost use Rattle.status_page.specs.StatusOf.{rows_at, status_of};
+ghost use Rattle.status_page.specs.StatusOf.{TellsStatusLines, rows_at, status_of};
 
 use crate::active::{Places, gather};
 use crate::cancelled::put_cancelled;
-use crate::count::count_rows;
+use crate::count::{count_rows, is_surely_bare};
 use crate::place::{Place, ROOM};
 use crate::sections::put_section;
 use book_model::Book;
@@ -51,10 +51,13 @@ pub fn fill_status(
     fill_known(book, None, active, cancelled, page, picture, changed)
 }
 
-/// The same, where each active alert is near. In place of the two looks at each flag it costs as often a look for each 64
-/// alerts, and at the flag of each near one.
+/// The same, where each active alert is near, and `has_status_lines` tells whether any alert of the book has status lines.
+/// Where it isn't set, it first costs a look at each flag of `cancelled`, up to the first that is set, and where none is, the
+/// rows alone besides. Else, or where one is, it costs in place of the two looks at each flag of `active` as often a look for
+/// each 64 alerts, and at the flag of each near one.
 pub fn fill_status_among(
     book: &Book,
+    has_status_lines: bool,
     near: &Marked,
     active: &[bool],
     cancelled: &[bool],
@@ -64,6 +67,7 @@ pub fn fill_status_among(
 )
     requires active { length active.now ≡ length book.now.alerts.items }
     requires cancelled { length cancelled.now ≡ length book.now.alerts.items }
+    requires lines { TellsStatusLines (the_book book.now) has_status_lines }
     requires near { (a : ℕ) → get_or active.now a false ≡ true → is_marked near.now a ≡ true }
     ensures whole { IsWhole (tracked picture.new.rows changed.new) }
     ensures rows { (is_active is_cancelled : ℕ → Bool)
@@ -72,6 +76,10 @@ pub fn fill_status_among(
         → Mends 15 (status_page page (status_of (the_book book.now) is_active is_cancelled))
         (tracked picture.old.rows changed.old) (tracked picture.new.rows changed.new) }
 {
+    if is_surely_bare(book, has_status_lines, active, cancelled) {
+        fill_normal(&mut picture.rows, changed);
+        return;
+    }
     fill_known(book, Some(near), active, cancelled, page, picture, changed)
 }
 

@@ -39,6 +39,9 @@ fill_status_among-requires-clause-active c = ap length c.active.ensures.value �
 pub fill_status_among-requires-clause-cancelled : goal.fill_status_among-requires-clause-cancelled
 fill_status_among-requires-clause-cancelled c = ap length c.cancelled.ensures ∙ c.requires.fits.marks.many.cancelled ∙ many-alerts c.args.book.now
 
+pub fill_status_among-requires-clause-lines : goal.fill_status_among-requires-clause-lines
+fill_status_among-requires-clause-lines c = c.requires.fits.status_lines
+
 pub fill_status_among-requires-clause-near : goal.fill_status_among-requires-clause-near
 fill_status_among-requires-clause-near c = λ a on.
     ap (λ xs. is_marked xs a) c.near.ensures ∙ c.requires.fits.truths.near.active a (sym (ap (λ xs. get_or xs a false) c.active.ensures.value) ∙ on)

@@ -2,24 +2,17 @@ use Rattle.std.proofs.Common.{◌≡◌, ◌+◌, not, length, ltb, true, false,
 use Rattle.std.specs.Prelude.{filter}
 use Rattle.std.proofs.lemmas.Bool.{eqb-true, not-false, or_parts, lt-ltb}
 use Rattle.ecam_spec.specs.Places.{below}
-use Rattle.ecam_kinds.proofs.Strokes.{any-set, none-set}
 use Rattle.book_model.specs.Sealed.{the_book}
 use Rattle.book_model.specs.Told.{flagged}
 use Rattle.book_model.proofs.BookLists.{many-alerts}
 use Rattle.book_model.proofs.LevelPlaces.{filter_below-none}
-use Rattle.status_page.specs.StatusOf.{TellsStatusLines}
 use Rattle.status_page.proofs.ActiveBelow.{active-more}
-use Rattle.status_page.proofs.Counting.{row_count, lines-read, sectioned, rows-none, rows-on, some-own, none-on, none-below, rows-least, any-told}
+use Rattle.status_page.proofs.Counting.{row_count, lines-read, sectioned, rows-none, rows-on, some-own, none-on, rows-least, any-told}
 use Rattle.status_page.proofs.count.has_status_rows_among.Goals as goal
 
-pub returns-then-not-contains : goal.returns-then-not-contains
-unfolding TellsStatusLines
-returns-then-not-contains c = λ active cancelled tells told.
-    let b = the_book c.args.book.now in
-    let unset = sym (c.contains.ensures.value ∙ any-set c.args.cancelled.now) ∙ c.if-not-contains.true in
-    let none = none-below b (flagged c.args.cancelled.now) (flagged c.args.active.now) (length b.alerts)
-    (λ a h. (ap length (c.requires.lines.0 c.if-not-has_status_lines.true a h), none-set c.args.cancelled.now a unset)) in
-    sym (any-told b c.args.active.now c.args.cancelled.now active cancelled _ (many-alerts c.args.book.now) tells told ∙ ap (ltb 0) none)
+pub returns-then-is_surely_bare : goal.returns-then-is_surely_bare
+returns-then-is_surely_bare c = λ active cancelled tells told.
+    sym (ap (ltb 0) (c.is_surely_bare.ensures c.if-is_surely_bare.true active cancelled tells told))
 
 pub loop-next-init : goal.loop-next-init
 loop-next-init c =
