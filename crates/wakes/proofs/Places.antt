@@ -1,11 +1,11 @@
 -- Numbers are put into rows and taken out of them.
-use Rattle.std.proofs.Common.{◌≡◌, ℕ, zero, suc, max, Global, refl, replicate, ◌+◌, ◌-◌, ◌*◌, ◌/◌, ◌%◌, ◌^◌, ◌<◌, ◌≤◌, Bool, true, false, not, ◌&&◌, ◌||◌, ◌==◌, List, length, get_or, set, slice_index, bit_or, bit_and, sym, ap, ◌∙◌, inl, inr, arith}
+use Rattle.std.proofs.Common.{◌≡◌, ◌≢◌, ℕ, zero, suc, max, Global, refl, replicate, ◌+◌, ◌-◌, ◌*◌, ◌/◌, ◌%◌, ◌^◌, ◌<◌, ◌≤◌, Bool, true, false, not, ◌&&◌, ◌||◌, ◌==◌, List, length, get_or, set, slice_index, bit_or, bit_and, sym, ap, ◌∙◌, inl, inr, arith}
 use lib.Pow.{pow_mono}
 use Rattle.std.proofs.Math.Nat.{lt-div-mul-add, div-mul-le_self, mul-le-mul_right}
 use Rattle.std.proofs.lemmas.Bool.{cases_eq, cases_lt, eq-eqb, ne_eqb, eqb-true, or_cases, or_left, or_right, and_from, and_right, and_parts, true≢false}
 use Rattle.std.proofs.lemmas.List.{get_or-set_same, get_or-set_other, get_or_default, with_items_is}
 use Rattle.std.proofs.lemmas.Nat.{pow-add, pow_pos, div_below, le-div}
-use Rattle.std.proofs.lemmas.Nat.Bits.{bit_at_set_same, bit_at_set_other, bit_at_clear_same, bit_at_clear_other, bit_at-zero}
+use Rattle.std.proofs.lemmas.Nat.Bits.{bit_at_set_same, bit_at_set_other, bit_at_clear_same, bit_at_clear_other, bit_at-zero, bit_at_and, bit_at-lt}
 use Rattle.std.specs.Box.{boxed_slice_items, boxed_slice_with_items}
 use Rattle.std.specs.declared.boxed.BoxedSlice.{BoxedSlice}
 use Rattle.std.specs.Int.{w64, bit_at}
@@ -242,3 +242,29 @@ module _ (old : Rows) (is : IsRows old) where
       | inl at ↦ omega (arith, (which r (m % 64) g (item / 2 ^ old.shift) at).1, in-group item (omega (arith, within)))
       | inr before ↦ is.groups r g low before
     ]
+
+  -- rows in which a group is busy no more
+  module _ (busy' : List ℕ) (s group v : ℕ) (row : s < length old.busy) (few : group < 64) (here : v ≡ get_or old.busy s v)
+      (new : busy' ≡ set old.busy s (bit_and v (18446744073709551615 - 1 * 2 ^ group % 2 ^ 64))) where
+    pub rest-busy : ((i : ℕ) → i < old.count → i / 2 ^ old.shift ≡ group → waits_in old s i ≡ false)
+        → (r i : ℕ) → r < 64 → i < old.count → waits_in old r i ≡ true → is_busy busy' r (i / 2 ^ old.shift) ≡ true
+    rest-busy none r i low lt on =
+        bit-cleared old.busy busy' s group v row few here new r (i / 2 ^ old.shift) (omega (arith, in-group i (omega (arith, lt)), few-groups))
+        ∙ ap (λ b. not b && is_busy old.busy r (i / 2 ^ old.shift)) (not-both r s (i / 2 ^ old.shift) group (λ e f. true≢false (sym on ∙ ap (λ n. waits_in old n i) e ∙ none i lt f)))
+        ∙ is.busy r i low lt on
+
+    pub was-busy : (r g : ℕ) → is_busy busy' r g ≡ true → is_busy old.busy r g ≡ true
+    was-busy r g on = elim (cases_eq r s) [
+      | inl e ↦
+          let mask = 18446744073709551615 - 1 * 2 ^ group % 2 ^ 64 in
+          let bit : bit_at (bit_and v mask) g ≡ 1 = eqb-true _ 1 (sym (own old.busy busy' s v _ row here new r g e) ∙ on) in
+          let old-bit : bit_at v g ≡ 1 = omega (arith, bit, bit_at_and v mask g, bit_at-lt v g) in
+          sym (was old.busy busy' s v _ row here new r g e) ∙ ap (λ n. n == 1) old-bit
+      | inr ne ↦ sym (other old.busy busy' s v _ row here new r g ne) ∙ on
+    ]
+
+    pub other-busy : (g : ℕ) → is_busy busy' s g ≡ true → g ≢ group
+    other-busy g on e =
+        let bit : is_busy busy' s group ≡ false =
+        own old.busy busy' s v _ row here new s group refl ∙ ap (λ n. n == 1) (bit_at_clear_same w64 v group few) in
+        true≢false (sym on ∙ ap (is_busy busy' s) e ∙ bit)

@@ -1,6 +1,6 @@
 // The rows in which numbers wait for a moment.
-ghost use Rattle.std.specs.Prelude.{◌≡◌, ℕ, ◌+◌, ◌*◌, ◌/◌, ◌%◌, ◌<◌, ◌≤◌, ◌^◌, ◌==◌, ◌||◌, ◌&&◌, not, false, length, slice_index, IfOk};
-ghost use Rattle.wakes.specs.Turning.{IsRows, FindsGroup, waits_in};
+ghost use Rattle.std.specs.Prelude.{◌≡◌, ◌≢◌, ℕ, ◌+◌, ◌*◌, ◌/◌, ◌%◌, ◌<◌, ◌≤◌, ◌^◌, ◌==◌, ◌||◌, ◌&&◌, not, true, false, length, slice_index, IfOk};
+ghost use Rattle.wakes.specs.Turning.{IsRows, FindsGroup, is_busy, waits_in};
 ghost use Rattle.std.specs.Box.{boxed_slice_items};
 
 use crate::marked::{bits_from, lowest};
@@ -97,6 +97,72 @@ impl Rows {
             ≡ (not (r == moment % 64 && i == item) && waits_in self.old r i) }
     {
         self.words[place(moment, item)] &= !(1 << (item % 64));
+    }
+
+    /// The first number that waits in a moment's row, or how many there are. It goes over the first group and those that are
+    /// busy, up to the number's; one in which it finds none that waits is busy no more. Its cost is one look where the number
+    /// is one of the first 64, else two more for each of these groups, a write for each in which it finds none, and a look for
+    /// each 64 numbers of a group, which has no more than that where there are less than 4096.
+    #[inline(always)]
+    pub fn first(&mut self, moment: u64) -> usize
+        requires { IsRows self.old }
+        ensures rows { IsRows self.new }
+        ensures count { self.new.count ≡ self.old.count }
+        ensures waits { (r i : ℕ) → waits_in self.new r i ≡ waits_in self.old r i }
+        ensures end { result ≤ self.old.count }
+        ensures none { (i : ℕ) → i < result → waits_in self.old (moment % 64) i ≡ false }
+    {
+        let word = self.words[place(moment, 0)];
+        if word != 0 {
+            return lowest(word);
+        }
+        self.first_later(moment)
+    }
+
+    // The first number that waits in a moment's row, or how many there are, where none of the first 64 does.
+    #[inline(always)]
+    fn first_later(&mut self, moment: u64) -> usize
+        requires rows { IsRows self.old }
+        requires none { (i : ℕ) → i < 64 → waits_in self.old (moment % 64) i ≡ false }
+        ensures rows { IsRows self.new }
+        ensures count { self.new.count ≡ self.old.count }
+        ensures waits { (r i : ℕ) → waits_in self.new r i ≡ waits_in self.old r i }
+        ensures end { result ≤ self.old.count }
+        ensures none { (i : ℕ) → i < result → waits_in self.old (moment % 64) i ≡ false }
+    {
+        let row = (moment % 64) as usize;
+        let mut group = 0;
+        let mut start = 64;
+        loop {
+            let end = (group + 1) << self.shift;
+            start = next_word(&self.words, row, start, end);
+            if start < end {
+                return start + lowest(self.words[start + row]);
+            }
+            self.rest_group(row, group);
+            if self.busy[row] == 0 {
+                return self.count;
+            }
+            group = lowest(self.busy[row]);
+            start = group << self.shift;
+        }
+    }
+
+    // A group of which no number waits in a row is busy there no more.
+    #[inline(always)]
+    fn rest_group(&mut self, row: usize, group: usize)
+        requires rows { IsRows self.old }
+        requires row { row < 64 }
+        requires group { group < 64 }
+        requires none { (i : ℕ) → i < self.old.count → i / 2 ^ self.old.shift ≡ group
+            → waits_in self.old row i ≡ false }
+        ensures rows { IsRows self.new }
+        ensures count { self.new.count ≡ self.old.count }
+        ensures waits { (r i : ℕ) → waits_in self.new r i ≡ waits_in self.old r i }
+        ensures busy { (g : ℕ) → is_busy self.new.busy row g ≡ true
+            → (g ≢ group) × (is_busy self.old.busy row g ≡ true) }
+    {
+        self.busy[row] &= !(1 << group);
     }
 
     /// The first number from one on that waits in a moment's row, or how many there are. Its cost is one look where it waits

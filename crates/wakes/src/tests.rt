@@ -65,6 +65,8 @@ fn takes_in_order_beyond_one_word(rt: HostRuntime) -> Result<(), Fail> {
     assert_eq!(rt; wakes.take(1), Some(63));
     assert_eq!(rt; wakes.take(1), Some(64));
     assert_eq!(rt; wakes.take(1), Some(640));
+    wakes.set(70, 1);
+    assert_eq!(rt; wakes.take(1), Some(70));
     assert_eq!(rt; wakes.take(1), Some(1399));
     assert_eq!(rt; wakes.take(1), None);
     assert_eq!(rt; wakes.take(2), Some(65));

@@ -167,7 +167,7 @@ impl Wheel {
         ensures first { FirstDue (keys_of self.old) self.old.time result }
     {
         let now = self.time;
-        let mut item = self.rows.next(now, 0);
+        let mut item = self.rows.first(now);
         while item < self.keys.len() {
             let key = self.keys[item];
             if key <= now {

@@ -34,7 +34,7 @@ loop-item-preserved c =
       keys = inv.keys;
       time = inv.time;
       looks = put-looks keys c.loop-item.self.rows c.take_out.new.self rows now item c.index-key.result.now inv.looks within is late taken.count taken.waits put.never put.waits put.rows put.count;
-      within = omega (arith, c.next-item-in-loop-item.ensures.end, put.count, taken.count, inv.looks.count);
+      within = omega (arith, c.next-item.ensures.end, put.count, taken.count, inv.looks.count);
       before = λ j lt. elim (cases_lt j (item + 1)) [
         | inl near ↦
             elim (cases_eq j item) [
@@ -45,7 +45,7 @@ loop-item-preserved c =
                   put-others keys c.loop-item.self.rows c.take_out.new.self rows now item c.index-key.result.now inv.looks within is late taken.count taken.waits put.never put.waits
                   j (omega (arith, near, within)) (inv.before j (omega (arith, near, ne)))
             ]
-        | inr far ↦ c.next-item-in-loop-item.ensures.none j far lt
+        | inr far ↦ c.next-item.ensures.none j far lt
       ];
     }
 
