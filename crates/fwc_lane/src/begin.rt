@@ -17,11 +17,12 @@ use crate::waking::{wake_computers, wake_first, wake_keys};
 use book_model::Book;
 use param_table::Params;
 
-/// Begins the end of moment `now`: reads its values, and marks and counts the conditions that are due, and those that name
-/// a value, a key or a computer that is another than it was, whose nodes that ask for it are told. Tells in `turned` which
-/// values are, and answers whether some is. Its cost is a look for each 64 parameters, a write of a byte for each, a look at
-/// each source of those that may have another value, three at each key if one is or was pressed, a few looks and writes for
-/// each condition that is due and for each node that asks for what is another, and a look at each that is told.
+/// Begins the end of moment `now`: reads its values, and marks and counts the conditions that are due, and those that name a
+/// value, a key or a computer that is another than it was, whose nodes that ask for it are told. Tells in `turned` which
+/// values are, and answers whether some is. Its cost is a look for each 64 parameters, a write of a byte for each, at most
+/// two writes for each 64 conditions, a look at each source of those that may have another value, three at each key if one
+/// is or was pressed, a few looks and writes for each condition that is due and for each node that asks for what is another,
+/// and a look at each that is told.
 pub fn begin_moment(
     terms: &mut Terms,
     values: &mut Vec<Option<i64>>,

@@ -14,7 +14,7 @@ use book_model::Book;
 use condition_codes::{Askers, Codes};
 use std::alloc::{AllocError, Global};
 use term_eval::{Cells, Nodes};
-use wakes::{Marked, Wakes};
+use wakes::{BitSet, Marked, Wakes};
 use watch_lists::Watch;
 
 /// All that is kept of the conditions, each under its number in stepping order: by which code it is stepped, what it
@@ -34,7 +34,7 @@ pub struct Terms {
     /// Per condition the moment in which it turns by itself.
     pub dues: Wakes,
     /// The conditions that the moment which is stepped wakes, whose nodes are counted. Between moments it says nothing.
-    pub woken: Marked,
+    pub woken: BitSet,
     /// Those of them that may turn, which alone are stepped: of which a temporal node is to be looked at, or the first node
     /// turned. Between moments it says nothing.
     pub stirred: Marked,
@@ -87,7 +87,7 @@ impl Terms {
         let cells = Cells::new(alloc, book.slots())?;
         let truths = vec![in alloc; false; count]?;
         let dues = Wakes::new(alloc, count)?;
-        let woken = Marked::new(alloc, count)?;
+        let woken = BitSet::new(alloc, count)?;
         let stirred = Marked::new(alloc, count)?;
         let watch = Watch::new(alloc, book)?;
         let line_alerts = alerts_of_lines(alloc, book)?;

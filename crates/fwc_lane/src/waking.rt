@@ -22,7 +22,7 @@ use book_model::Book;
 use condition_codes::{Asker, CodeTable};
 use ecam_kinds::{Key, Keys, Phase};
 use term_eval::{Cells, Nodes, Reading};
-use wakes::{Marked, Wakes};
+use wakes::{BitSet, Marked, Wakes};
 use watch_lists::Watch;
 
 /// Wakes the conditions that name the operand of this number, where it is another than it was, counts the nodes of each that
@@ -57,7 +57,7 @@ pub fn wake(terms: &mut Terms, book: &Book, operand: usize, other: bool, reading
 fn turn_each(
     nodes: &mut Nodes,
     cells: &mut Cells,
-    woken: &mut Marked,
+    woken: &mut BitSet,
     stirred: &mut Marked,
     codes: &CodeTable,
     asking: &[Asker],
@@ -93,7 +93,7 @@ fn turn_each(
 
 // Marks a condition of so many nodes, and counts these where it wasn't marked before.
 #[inline(always)]
-fn mark_counted(woken: &mut Marked, cells: &mut Cells, term: usize, size: usize)
+fn mark_counted(woken: &mut BitSet, cells: &mut Cells, term: usize, size: usize)
     requires room { term < room woken.old }
     ensures room { room woken.new ≡ room woken.old }
     ensures marks { (j : ℕ) → is_marked woken.new j ≡ (j == term || is_marked woken.old j) }
@@ -277,10 +277,10 @@ pub fn wake_computers(terms: &mut Terms, book: &Book, one_up: bool, two_up: bool
 }
 
 /// Begins to gather the conditions that moment `now` wakes, each of which is stirred too: all in the first, else those that
-/// are due; the others are due when they were. The nodes of each are counted. Its cost is at most two writes for each 64
-/// conditions, and a few for each that it wakes.
+/// are due; the others are due when they were. The nodes of each are counted. Its cost is one write for each 64
+/// conditions, one more where any was stirred in the moment before, and a few for each that it wakes.
 pub fn wake_first(
-    woken: &mut Marked,
+    woken: &mut BitSet,
     stirred: &mut Marked,
     dues: &mut Wakes,
     cells: &mut Cells,
@@ -322,7 +322,7 @@ pub fn wake_first(
 // moment calls it.)
 #[inline(never)]
 fn wake_all(
-    woken: &mut Marked,
+    woken: &mut BitSet,
     stirred: &mut Marked,
     cells: &mut Cells,
     codes: &CodeTable,
@@ -351,7 +351,7 @@ fn wake_all(
 
 // Marks the conditions that are due in both sets, and counts their nodes. The others are due when they were.
 fn wake_due(
-    woken: &mut Marked,
+    woken: &mut BitSet,
     stirred: &mut Marked,
     dues: &mut Wakes,
     cells: &mut Cells,

@@ -91,18 +91,6 @@ impl Marked {
         self.end = self.end.max(i + 1);
     }
 
-    /// Puts a number in, and answers whether it wasn't in before. Its cost is one look and one write.
-    pub fn put(&mut self, i: usize) -> bool
-        requires { i < room self.old }
-        ensures new { result ≡ not (is_marked self.old i) }
-        ensures room { room self.new ≡ room self.old }
-        ensures marks { (j : ℕ) → is_marked self.new j ≡ (j == i || is_marked self.old j) }
-    {
-        let is_new = !self.has(i);
-        self.mark(i);
-        is_new
-    }
-
     /// Puts in all numbers of another set of the same room. Its cost is one write for each 64 numbers.
     pub fn join(&mut self, other: &Marked)
         requires { room self.old ≡ room other.now }

@@ -1,5 +1,5 @@
 // A few numbers that are marked, and a few that are due.
-use crate::{Marked, Wakes};
+use crate::{BitSet, Marked, Wakes};
 use std::test::Fail;
 
 #[test]
@@ -18,8 +18,7 @@ fn goes_through_in_order(rt: HostRuntime) -> Result<(), Fail> {
     assert_eq!(rt; marked.has(64), false);
     assert_eq!(rt; marked.first_from(4), Some(130));
     assert_eq!(rt; marked.first_from(131), None);
-    assert_eq!(rt; marked.put(130), false);
-    assert_eq!(rt; marked.put(7), true);
+    marked.mark(7);
     assert_eq!(rt; marked.first_from(4), Some(7));
     let mut others = Marked::new(rt.alloc(), 200)?;
     others.mark(199);
@@ -32,6 +31,17 @@ fn goes_through_in_order(rt: HostRuntime) -> Result<(), Fail> {
     assert_eq!(rt; others.count_from(200, 300), 0);
     marked.clear();
     assert_eq!(rt; marked.first_from(0), None);
+    Ok(())
+}
+
+#[test]
+fn tells_which_are_new(rt: HostRuntime) -> Result<(), Fail> {
+    let mut set = BitSet::new(rt.alloc(), 200)?;
+    assert_eq!(rt; set.put(130), true);
+    assert_eq!(rt; set.put(130), false);
+    assert_eq!(rt; set.put(66), true);
+    set.clear();
+    assert_eq!(rt; set.put(130), true);
     Ok(())
 }
 
