@@ -14,7 +14,7 @@ use crate::routing::Routing;
 use crate::rules::Rule;
 use book_model::Book;
 use std::boxed::BoxedSlice;
-use wakes::{Marked, Wakes};
+use wakes::{Marked, Wakes, mark_in};
 
 /// The words that came last, and what became of it since the moment before.
 #[derive(Drop)]
@@ -60,12 +60,12 @@ impl Held {
         now.after = u64::from(clock) + 1;
         if !all_fresh(before, clock) {
             let hearers = &listeners[before.hearers.first..before.hearers.end];
-            mark_begun(&mut self.changed, hearers, before, clock, bits);
+            mark_begun(self.changed.words_mut(), hearers, before, clock, bits);
             let end = u64::from(clock) + 1 + u64::from(before.hearers.soonest);
             self.dues.set(mailbox, end);
         } else if before.bits != bits {
             let hearers = &listeners[before.hearers.first..before.hearers.end];
-            mark_turned(&mut self.changed, hearers, before.bits, bits);
+            mark_turned(self.changed.words_mut(), hearers, before.bits, bits);
         }
     }
 
@@ -167,7 +167,7 @@ impl Held {
             return;
         }
         let hearers = &listeners[looked.hearers.first..looked.hearers.end];
-        let next = mark_ending(&mut self.changed, hearers, looked, clock);
+        let next = mark_ending(self.changed.words_mut(), hearers, looked, clock);
         self.dues.set(mailbox, next);
     }
 }
@@ -192,7 +192,7 @@ pub fn received_at(
 }
 
 // A word comes that differs from the one before, which is fresh: marks the parameters of those to whom it says something else.
-fn mark_turned(changed: &mut Marked, listeners: &[Listener], old: u32, new: u32)
+fn mark_turned(changed: &mut [u64], listeners: &[Listener], old: u32, new: u32)
     requires { All (λ l. l.param < room changed.old) listeners.now }
     ensures room { room changed.new ≡ room changed.old }
     ensures marks { (p : ℕ) → is_marked changed.new p
@@ -201,14 +201,15 @@ fn mark_turned(changed: &mut Marked, listeners: &[Listener], old: u32, new: u32)
 {
     for i in 0..listeners.len() {
         let listener = listeners[i];
-        changed.mark_if(usize::from(listener.param), !says_same(listener, old, new));
+        let turns = !says_same(listener, old, new);
+        mark_in(changed, usize::from(listener.param), turns);
     }
 }
 
 // A word comes where the one before isn't fresh for all: marks the parameters of those for whom it isn't, and of those to
 // whom this one says something else.
 #[inline(never)]
-fn mark_begun(changed: &mut Marked, listeners: &[Listener], before: Mailbox, clock: u32, bits: u32)
+fn mark_begun(changed: &mut [u64], listeners: &[Listener], before: Mailbox, clock: u32, bits: u32)
     requires early { before.after ≤ 2 ^ 32 }
     requires params { All (λ l. l.param < room changed.old) listeners.now }
     ensures room { room changed.new ≡ room changed.old }
@@ -220,14 +221,14 @@ fn mark_begun(changed: &mut Marked, listeners: &[Listener], before: Mailbox, clo
         let listener = listeners[i];
         let fresh = is_fresh(held_for(before, listener.stale), clock);
         let same = fresh & says_same(listener, before.bits, bits);
-        changed.mark_if(usize::from(listener.param), !same);
+        mark_in(changed, usize::from(listener.param), !same);
     }
 }
 
 // Marks the parameters of those for whom the word ends to be fresh with this moment, and answers when the mailbox is looked at
 // next: when the word is no longer fresh for the first of those for whom it still is.
 #[inline(never)]
-fn mark_ending(changed: &mut Marked, listeners: &[Listener], mailbox: Mailbox, clock: u32) -> u64
+fn mark_ending(changed: &mut [u64], listeners: &[Listener], mailbox: Mailbox, clock: u32) -> u64
     requires early { mailbox.after ≤ 2 ^ 32 }
     requires params { All (λ l. l.param < room changed.old) listeners.now }
     ensures next { IsNextLook clock mailbox listeners.now result }
@@ -240,7 +241,8 @@ fn mark_ending(changed: &mut Marked, listeners: &[Listener], mailbox: Mailbox, c
     for i in 0..listeners.len() {
         let listener = listeners[i];
         let received = held_for(mailbox, listener.stale);
-        changed.mark_if(usize::from(listener.param), is_ending(received, clock));
+        let ends = is_ending(received, clock);
+        mark_in(changed, usize::from(listener.param), ends);
         next = next.min(next_look(received, clock));
     }
     next

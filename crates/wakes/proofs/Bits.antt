@@ -96,11 +96,6 @@ module _ (words new : List ℕ) (i v : ℕ) (room : i < 64 * length words) (here
   marks-where true is j = marks is j ∙ sym (ap (λ b. b || is_marked words j) (and-true (j == i)))
   marks-where false is j = ap (λ ws. is_marked ws j) (same is) ∙ sym (ap (λ b. b || is_marked words j) (and-false (j == i)))
 
-  pub marked-ends-where : (on : Bool) → (end later : ℕ) → new ≡ set words (i / 64) (bit_or v (from_bool on * 2 ^ (i % 64) % 2 ^ 64)) → EndsAt words end → end ≤ later → i < later → later ≤ 64 * length words → EndsAt new later
-  marked-ends-where true = marked-ends
-  marked-ends-where false = λ end later is e le lt fits.
-      subst (λ ws. EndsAt ws later) (sym (same is)) record { few = e.few; within = fits; none = λ j past. e.none j (omega arith) }
-
   pub unmarked-ends : (end : ℕ) → new ≡ set words (i / 64) (bit_and v (18446744073709551615 - 1 * 2 ^ (i % 64) % 2 ^ 64)) → EndsAt words end → EndsAt new end
   unmarked-ends end is e =
       let long = same-length _ is in

@@ -4,3 +4,4 @@ pub mod Counting
 pub mod Places
 pub mod Wheels
 pub mod Groups
+pub mod Lent

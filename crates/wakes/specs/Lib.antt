@@ -2,3 +2,4 @@ pub mod Marks
 pub mod MarkedEnd
 pub mod Due
 pub mod Turning
+pub mod Lending

@@ -11,4 +11,4 @@ mod wheel;
 
 pub use bit_set::BitSet;
 pub use due::Wakes;
-pub use marked::{Marked, bits_from, lowest};
+pub use marked::{Marked, bits_from, lowest, mark_in};

@@ -4,6 +4,8 @@ ghost use Rattle.std.specs.Int.{bit_at};
 ghost use Rattle.std.specs.Box.{boxed_slice_items};
 ghost use Rattle.wakes.specs.Marks.{is_marked, marked_below, room, Finds};
 ghost use Rattle.wakes.specs.MarkedEnd.{EndsAt};
+ghost use Rattle.wakes.specs.Lending.{LendsWords};
+ghost use Rattle.std.specs.Borrow.{sem};
 
 use std::alloc::{AllocError, Global};
 use std::boxed::BoxedSlice;
@@ -19,7 +21,12 @@ pub struct Marked {
 
 // A number is in the set where its bit is set.
 impl Model for Marked {
+    ghost use Rattle.std.specs.Prelude.{ℕ, List};
+
     ghost Value = { List ℕ };
+
+    ghost use Rattle.std.specs.Box.{boxed_slice_items};
+    ghost use Rattle.wakes.specs.MarkedEnd.{EndsAt};
 
     ghost view = { λ s. boxed_slice_items s.words };
 
@@ -80,15 +87,15 @@ impl Marked {
         self.end = self.end.max(i + 1);
     }
 
-    /// Puts a number in where `on` is set. Its cost is one write, without a branch.
+    /// The words, of 64 numbers each from 0 on, to put many numbers in. Until the set is cleared a search goes over all of
+    /// them, as if each number had been put in. Its cost is one write.
     #[inline(always)]
-    pub fn mark_if(&mut self, i: usize, on: bool)
-        requires { i < room self.old }
-        ensures room { room self.new ≡ room self.old }
-        ensures marks { (j : ℕ) → is_marked self.new j ≡ ((j == i && on) || is_marked self.old j) }
+    pub fn words_mut(&mut self) -> &mut [u64]
+        ensures* writes_back { sem 𝓛 (LendsWords self.entry result) }
+        ensures value { result.now ≡ self.old }
     {
-        self.words[i / 64] |= u64::from(on) << (i % 64);
-        self.end = self.end.max(i + 1);
+        self.end = 64 * self.words.len();
+        self.words.as_mut_slice()
     }
 
     /// Puts in all numbers of another set of the same room. Its cost is one write for each 64 numbers.
@@ -175,6 +182,16 @@ impl Marked {
         }
         count_in(&self.words, from, last)
     }
+}
+
+/// Puts a number in where `on` is set, in the words of a set. Its cost is one write, without a branch.
+#[inline(always)]
+pub fn mark_in(words: &mut [u64], i: usize, on: bool)
+    requires { i < room words.old }
+    ensures room { room words.new ≡ room words.old }
+    ensures marks { (j : ℕ) → is_marked words.new j ≡ ((j == i && on) || is_marked words.old j) }
+{
+    words[i / 64] |= u64::from(on) << (i % 64);
 }
 
 // Puts the bits of other words in.

@@ -19,14 +19,14 @@ loop-i-preserved c =
     let clock = c.args.clock in
     let held = held_for c.args.mailbox l.stale in
     let less : i < length ls = omega arith in
-    let ends : c.is_ending.result ≡ is_ending clock held = c.is_ending.ensures ∙ ap (is_ending clock) c.held_for-received.ensures in
+    let ends : c.is_ending-ends.result ≡ is_ending clock held = c.is_ending-ends.ensures ∙ ap (is_ending clock) c.held_for-received.ensures in
     let next : c.next_look.result ≡ next_look clock held = c.next_look.ensures ∙ ap (next_look clock) c.held_for-received.ensures in
     record {
-      room = c.mark_if.ensures.room ∙ c.loop-i.invariant.room;
+      room = c.mark_in.ensures.room ∙ c.loop-i.invariant.room;
       marks = λ p.
-          c.mark_if.ensures.marks p
-          ∙ any_marked (λ (x : Listener). p == x.param && is_ending clock (held_for c.args.mailbox x.stale)) ls i none (p == c.from.result && c.is_ending.result) (is_marked c.loop-i.changed p) (is_marked c.args.changed.now p) less
-          (ap (λ n. p == n && c.is_ending.result) c.from.ensures ∙ ap (λ b. p == l.param && b) ends) (c.loop-i.invariant.marks p);
+          c.mark_in.ensures.marks p
+          ∙ any_marked (λ (x : Listener). p == x.param && is_ending clock (held_for c.args.mailbox x.stale)) ls i none (p == c.from.result && c.is_ending-ends.result) (is_marked c.loop-i.changed p) (is_marked c.args.changed.now p) less
+          (ap (λ n. p == n && c.is_ending-ends.result) c.from.ensures ∙ ap (λ b. p == l.param && b) ends) (c.loop-i.invariant.marks p);
       later = omega (arith, c.loop-i.invariant.later, next, next_later clock held c.ranges.clock.fits, c.min-next.ensures);
       due = λ k d below fresh. elim (cases_lt k i) [
         | inl before ↦ omega (arith, c.loop-i.invariant.due k d before fresh, c.min-next.ensures)

@@ -1,7 +1,8 @@
 use Rattle.std.proofs.Common.{◌≡◌, ◌==◌, ◌&&◌, ◌||◌, not, true, false, get_or, sym, ap, subst, ◌∙◌}
 use Rattle.std.specs.List.{list_any}
 use Rattle.std.proofs.lemmas.List.{get_or_default}
-use Rattle.wakes.specs.Marks.{is_marked}
+use Rattle.wakes.specs.Marks.{is_marked, room}
+use Rattle.wakes.proofs.Lent.{come_back}
 use Rattle.param_table.specs.declared.mailbox.Listener.{Listener}
 use Rattle.param_table.specs.declared.mailbox.Mailbox.{Mailbox}
 use Rattle.param_table.specs.HeldValues.{all_fresh, hearers_of, keeps_saying, says_same, unused}
@@ -17,7 +18,9 @@ returns-then-before-bits-clause-marks c = λ p.
     let old = is_marked c.args.self.now.changed p in
     let is : c.index-before.result.now ≡ m = c.index-before.ensures ∙ get_or_default boxes c.args.mailbox c.index-before.result.now unused c.requires.mailbox in
     let fresh : all_fresh c.args.clock m ≡ true = sym (c.all_fresh.ensures ∙ ap (all_fresh c.args.clock) is) ∙ c.if-not-all_fresh.false in
-    subst (λ (b : Mailbox). is_marked c.mark_turned.new.changed p ≡ (list_any (λ (l : Listener). p == l.param && not (says_same l b.bits bits)) (hearers_of ls b) || old)) is (c.mark_turned.ensures.marks p)
+    ap (λ ws. is_marked ws p) (come_back c.args.self.now.changed c.mark_turned.new.changed (c.mark_turned.ensures.room ∙ ap room c.words_mut-then-before-bits.ensures.value))
+    ∙ subst (λ (b : Mailbox). is_marked c.mark_turned.new.changed p ≡ (list_any (λ (l : Listener). p == l.param && not (says_same l b.bits bits)) (hearers_of ls b) || is_marked c.words_mut-then-before-bits.result.now p)) is (c.mark_turned.ensures.marks p)
+    ∙ ap (λ ws. list_any (λ (l : Listener). p == l.param && not (says_same l m.bits bits)) (hearers_of ls m) || is_marked ws p) c.words_mut-then-before-bits.ensures.value
     ∙ ap (λ t. t || old) (fresh_marks c.args.clock bits m p (hearers_of ls m) fresh c.requires.listed.soonest)
 
 pub returns-else-before-bits-clause-marks : goal.returns-else-before-bits-clause-marks
