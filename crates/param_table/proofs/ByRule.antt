@@ -1,15 +1,16 @@
 -- The rules of all places, and what a source holds by its rule.
-use Rattle.std.proofs.Common.{◌≡◌, ℕ, ◌*◌, ◌/◌, ◌≤◌, List, length, get_or, slice_index, Option, Some, None, refl, sym, ap, ◌∙◌, subst, arith, inl, inr}
+use Rattle.std.proofs.Common.{◌≡◌, ℕ, ◌*◌, ◌/◌, ◌<◌, ◌≤◌, List, length, get_or, slice_index, Option, Some, None, refl, sym, ap, ◌∙◌, subst, arith, inl, inr}
 use Rattle.std.specs.Option.{option_map_or}
 use Rattle.std.proofs.lemmas.Bool.{cases_lt}
 use Rattle.std.proofs.lemmas.Option.{same_Some, none-some}
-use Rattle.std.proofs.lemmas.List.{get_or_past}
+use Rattle.std.proofs.lemmas.List.{get_or_default, get_or_past}
 use Rattle.ecam_spec.specs.Book.{Source, Parameter}
 use Rattle.book_model.specs.View.{source_of}
 use Rattle.book_model.specs.SourcePlaces.{source_at}
 use Rattle.book_model.proofs.SourcePlaces.{no_source}
 use Rattle.param_table.specs.declared.rules.Rule.{Rule}
 use Rattle.param_table.specs.declared.mailbox.Mailbox.{Mailbox}
+use Rattle.param_table.specs.declared.routing.Routing.{Routing}
 use Rattle.param_table.specs.HeldValues.{nothing, unused, held_for, received_at, mailbox_at, due_at}
 use Rattle.param_table.specs.Rules.{IsRule, RuleIs, AreRules}
 
@@ -19,6 +20,12 @@ rule-is params n rules are many q = elim (cases_lt q n) [
   | inl within ↦ are.each q within
   | inr past ↦ subst (IsRule params q) (sym (get_or_past rules q None (omega (arith, past, are.count)))) (no_source params q (omega arith))
 ]
+
+-- the rule that a look at a place finds
+pub rule_there : (routing looked : Routing) (q : ℕ) (o : Option Rule) (r : Rule) → looked ≡ routing → q < length routing.rules.items.items
+    → o ≡ get_or looked.rules.items.items q o → o ≡ Some r → get_or routing.rules.items.items q None ≡ Some r
+rule_there routing looked q o r same within found is =
+    sym (get_or_default routing.rules.items.items q o None within) ∙ ap (λ (t : Routing). get_or t.rules.items.items q o) (sym same) ∙ sym found ∙ is
 
 -- the rule of a source
 pub some_rule : (params : List Parameter) (q : ℕ) (s : Source) (o : Option Rule) → IsRule params q o → source_at params q ≡ Some s → (r : Rule) × (o ≡ Some r) × RuleIs params q r

@@ -3,7 +3,7 @@ ghost use Rattle.std.specs.Prelude.{◌≡◌, ℕ, ◌/◌, ◌<◌, ◌≤◌,
 ghost use Rattle.std.specs.List.{list_any};
 ghost use Rattle.book_model.specs.Sealed.{the_book};
 ghost use Rattle.wakes.specs.Marks.{is_marked, room};
-ghost use Rattle.param_table.specs.HeldValues.{all_fresh, delivered, due_at, emptied, held_for, hearers_of, is_ending, keeps_saying, mailbox_at, received_at, says_same, unused};
+ghost use Rattle.param_table.specs.HeldValues.{all_fresh, delivered, due_at, emptied, held_for, hearers_of, is_ending, keeps_saying, received_at, says_same, unused};
 ghost use Rattle.param_table.specs.HeldState.{AreDue, AreEarly, AreListed, CopiedWords, IsNextLook, WillLook};
 ghost use Rattle.param_table.specs.Routes.{AreRouted};
 ghost use Rattle.param_table.specs.TableState.{HeldFits};
@@ -172,23 +172,14 @@ impl Held {
     }
 }
 
-/// What the source at a place holds. Its cost is a look at its rule and one at its mailbox.
+/// What a source holds, by its rule. Its cost is a look at its mailbox.
 #[inline(always)]
-pub fn received_at(
-    rules: &[Option<Rule>],
-    mailboxes: &[Mailbox],
-    _clock: u32,
-    place: usize,
-) -> Received
-    requires place { place < length rules.now }
-    requires mailbox { mailbox_at rules.now place < length mailboxes.now }
+pub fn held_by(rule: &Rule, mailboxes: &[Mailbox], _clock: u32) -> Received
+    requires mailbox { rule.now.mailbox < length mailboxes.now }
     requires early { AreEarly _clock mailboxes.now }
-    ensures { result ≡ received_at rules.now mailboxes.now place }
+    ensures { result ≡ held_for (slice_index_or mailboxes.now rule.now.mailbox unused) rule.now.stale }
 {
-    match rules[place] {
-        None => Received { bits: 0, end: 0 },
-        Some(rule) => held_for(mailboxes[usize::from(rule.mailbox)], rule.stale),
-    }
+    held_for(mailboxes[usize::from(rule.mailbox)], rule.stale)
 }
 
 // A word comes that differs from the one before, which is fresh: marks the parameters of those to whom it says something else.

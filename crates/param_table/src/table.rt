@@ -13,7 +13,7 @@ ghost use Rattle.param_table.specs.HeldState.{AreEarly};
 ghost use Rattle.param_table.specs.Routes.{AreRouted};
 ghost use Rattle.param_table.specs.HeldValues.{first_given, given_by, set_back};
 
-use crate::held::{Held, look_soon, received_at};
+use crate::held::{Held, held_by, look_soon};
 use crate::mailbox::{Mailbox, set_back};
 use crate::received::{HALF, is_fresh};
 use crate::routing::{SharedRouting, routing_of};
@@ -303,12 +303,11 @@ impl Params {
         ensures bound { IfSome result
             (IsValueOf (parameter_with (the_book _book.now).parameters place).kind) }
     {
-        let rules = &self.routing.table().rules;
-        let received = received_at(rules, &self.held.mailboxes, self.clock, place);
+        let rule = self.routing.table().rules[place]?;
+        let received = held_by(&rule, &self.held.mailboxes, self.clock);
         if !is_fresh(received, self.clock) {
             return None;
         }
-        let rule = rules[place]?;
         reading(rule.kind, &rule.source, &Word::new(received.bits))
     }
 
