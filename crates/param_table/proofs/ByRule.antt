@@ -1,18 +1,20 @@
 -- The rules of all places, and what a source holds by its rule.
-use Rattle.std.proofs.Common.{◌≡◌, ℕ, ◌*◌, ◌/◌, ◌<◌, ◌≤◌, List, length, get_or, slice_index, Option, Some, None, refl, sym, ap, ◌∙◌, subst, arith, inl, inr}
+use Rattle.std.proofs.Common.{◌≡◌, ℕ, ◌*◌, ◌/◌, ◌<◌, ◌≤◌, List, length, get_or, slice_index, Option, Some, None, All, refl, sym, ap, ◌∙◌, subst, arith, inl, inr}
 use Rattle.std.specs.Option.{option_map_or}
 use Rattle.std.proofs.lemmas.Bool.{cases_lt}
 use Rattle.std.proofs.lemmas.Option.{same_Some, none-some}
 use Rattle.std.proofs.lemmas.List.{get_or_default, get_or_past}
 use Rattle.ecam_spec.specs.Book.{Source, Parameter}
-use Rattle.book_model.specs.View.{source_of}
+use Rattle.ecam_spec.specs.KeepsLimits.{IsSoundParameter}
 use Rattle.book_model.specs.SourcePlaces.{source_at}
-use Rattle.book_model.proofs.SourcePlaces.{no_source}
+use Rattle.book_model.proofs.SourcePlaces.{no_source, sound_source}
 use Rattle.param_table.specs.declared.rules.Rule.{Rule}
 use Rattle.param_table.specs.declared.mailbox.Mailbox.{Mailbox}
 use Rattle.param_table.specs.declared.routing.Routing.{Routing}
 use Rattle.param_table.specs.HeldValues.{nothing, unused, held_for, received_at, mailbox_at, due_at}
+use Rattle.param_table.specs.Masks.{IsReadable, low_of}
 use Rattle.param_table.specs.Rules.{IsRule, RuleIs, AreRules}
+use Rattle.param_table.proofs.Masks.{readable}
 
 -- past the end there is neither a rule nor a source
 pub rule-is : (params : List Parameter) (n : ℕ) (rules : List (Option Rule)) → AreRules params n rules → 3 * length params ≤ n → (q : ℕ) → IsRule params q (get_or rules q None)
@@ -39,10 +41,16 @@ rule_source params q r (Some t) rule is = subst (RuleIs params q) (same_Some t r
 
 pub no_rule : (params : List Parameter) (q : ℕ) (o : Option Rule) → IsRule params q o → source_at params q ≡ None → o ≡ None
 no_rule params q None rule none = refl
-no_rule params q (Some r) rule none = absurd (none-some (source_of r.source) (sym none ∙ rule.source))
+no_rule params q (Some r) rule none = absurd (none-some rule.source (sym none ∙ rule.there))
 
 pub no_rule_past : (params : List Parameter) (rules : List (Option Rule)) → AreRules params (3 * length params) rules → (q p : ℕ) → q / 3 ≡ p → length params ≤ p → get_or rules q None ≡ None
 no_rule_past params rules are q p row past = get_or_past rules q None (omega (arith, row, past, are.count))
+
+-- words are read by a sound source's rule as they can be
+pub rule_readable : (params : List Parameter) (q : ℕ) (r : Rule) → RuleIs params q r → All IsSoundParameter params → IsReadable r.kind r.low r.range
+rule_readable params q r rule sound =
+    subst (λ low. IsReadable r.kind low r.range) (sym rule.low)
+    (subst (IsReadable r.kind (low_of r.kind rule.source)) (sym rule.range) (readable r.kind rule.source (sound_source params q rule.source sound rule.there)))
 
 -- what is held where no rule is, and by a rule
 pub by_none : (rules : List (Option Rule)) (mailboxes : List Mailbox) (q : ℕ) → get_or rules q None ≡ None → received_at rules mailboxes q ≡ nothing

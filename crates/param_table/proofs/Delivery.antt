@@ -11,7 +11,6 @@ use Rattle.ecam_spec.specs.Book.{Source, Parameter}
 use Rattle.ecam_spec.specs.KeepsLimits.{IsSoundParameter, IsSoundSource}
 use Rattle.ecam_spec.specs.Value.{reading}
 use Rattle.wakes.specs.Marks.{is_marked, room}
-use Rattle.book_model.specs.View.{source_of}
 use Rattle.book_model.specs.SourcePlaces.{parameter_with, source_at}
 use Rattle.book_model.proofs.SourcePlaces.{sound_source}
 use Rattle.param_table.specs.declared.received.Received.{Received}
@@ -21,7 +20,7 @@ use Rattle.param_table.specs.declared.mailbox.Mailbox.{Mailbox}
 use Rattle.param_table.specs.declared.routing.Routing.{Routing}
 use Rattle.param_table.specs.declared.rules.Rule.{Rule}
 use Rattle.param_table.specs.declared.held.Held.{Held}
-use Rattle.param_table.specs.Masks.{may_say, mask_of, modes_of}
+use Rattle.param_table.specs.Masks.{may_say, low_of, mask_of, modes_of}
 use Rattle.param_table.specs.Rules.{RuleIs}
 use Rattle.param_table.specs.Routes.{listener_of, IsListener, AreListeners, Tells, AreRouted}
 use Rattle.param_table.specs.HeldValues.{unused, given, renewed, held_for, received_at, all_fresh, hearers_of, delivered, says_same, keeps_saying, due_at}
@@ -75,7 +74,7 @@ neither false true on = absurd (false≢true on)
 neither false false on = (refl, refl)
 
 -- words that say the same to a listener give the same to its source
-same_reading : (kind : Kind) (s : Source) (l : Listener) (old new : ℕ) → IsSoundSource s → l.mask ≡ mask_of kind s → l.modes ≡ modes_of kind
+same_reading : (kind : Kind) (s : Source) (l : Listener) (old new : ℕ) → IsSoundSource s → l.mask ≡ mask_of kind (low_of kind s) → l.modes ≡ modes_of kind
     → says_same l old new ≡ true → reading kind s new ≡ reading kind s old
 same_reading kind s l old new sound mask modes same = elim (either (bit_and (bit_xor old new) l.mask == 0) (not (may_say l.modes old || may_say l.modes new)) same) [
   | inl none ↦ sym (reading-same kind s old new sound (sym (ap (bit_and (bit_xor old new)) mask) ∙ eqb-true (bit_and (bit_xor old new) l.mask) 0 none))
@@ -178,12 +177,13 @@ module _ (params : List Parameter) (routing : Routing) (clock m bits : ℕ) (old
         let l = listener_of q r in
         let on = (listener params routing boxes m routed within (λ x. IsListener rules m x) there.are.each (λ (x : Listener). q / 3 == x.param && not (keeps_saying clock bits before x)) (unmarked (q / 3) off).0 q r is own).1 in
         let parts = and_parts (ltb clock (held_for before r.stale).end) (says_same l before.bits bits) (says_on (q / 3 == q / 3) (keeps_saying clock bits before l) (eq-eqb (q / 3) (q / 3) refl) on) in
-        let source : source_of r.source ≡ s = same_Some (source_of r.source) s (sym rule.source ∙ source_is) in
+        let source : rule.source ≡ s = same_Some rule.source s (sym rule.there ∙ source_is) in
+        let low : r.low ≡ low_of kind s = rule.low ∙ ap (λ k. low_of k rule.source) rule.kind ∙ ap (low_of kind) source in
         let later : ltb clock (clock + 1 + r.stale) ≡ true = grind (arith, nat_tests) in
         ap (given clock kind s) (held-own q r is own)
         ∙ ap (λ b. cond b (reading kind s bits) None) later
         ∙ same_reading kind s l before.bits bits (sound_source params q s sound source_is)
-        (ap (λ k. mask_of k (source_of r.source)) rule.kind ∙ ap (mask_of kind) source) (ap modes_of rule.kind) parts.1
+        (ap (λ k. mask_of k r.low) rule.kind ∙ ap (mask_of kind) low) (ap modes_of rule.kind) parts.1
         ∙ sym (ap (λ b. cond b (reading kind s before.bits) None) parts.0)
         ∙ sym (ap (given clock kind s) (held_here params routing boxes m routed within q r is own))
 

@@ -4,7 +4,6 @@ use Rattle.std.specs.List.{list_any}
 use Rattle.std.proofs.lemmas.Bool.{cases_eq, eqb-true}
 use Rattle.std.proofs.lemmas.Option.{same_Some}
 use Rattle.ecam_spec.specs.Book.{Parameter}
-use Rattle.book_model.specs.View.{source_of}
 use Rattle.book_model.proofs.SourcePlaces.{place_within}
 use Rattle.param_table.specs.declared.mailbox.Listener.{Listener}
 use Rattle.param_table.specs.declared.mailbox.Mailbox.{Mailbox}
@@ -35,7 +34,7 @@ module _ (params : List Parameter) (routing : Routing) (boxes : List Mailbox) (m
 
   -- a listener's place has a source
   place_few : (q : ℕ) (r : Rule) → get_or rules q None ≡ Some r → q < 3 * length params
-  place_few q r is = place_within params q (source_of r.source) (rule_source params q r (get_or rules q None) (rule_at q) is).source
+  place_few q r is = let rule = rule_source params q r (get_or rules q None) (rule_at q) is in place_within params q rule.source rule.there
 
   pub are_listed : (many : ℕ) → length params ≤ many → AreListed routing.listeners.items.items many box
   are_listed many room = record {

@@ -10,7 +10,7 @@ use Rattle.ecam_spec.specs.KeepsLimits.{IsSoundSource}
 use Rattle.ecam_spec.specs.Value.{reading}
 use Rattle.ecam_spec.specs.Word.{sum_from, bit, ssm}
 use Rattle.ecam_spec.specs.Reading.{discrete, raw, binary, digit, has_digits, decimal}
-use Rattle.param_table.specs.Masks.{mask_of, modes_of, may_say}
+use Rattle.param_table.specs.Masks.{low_of, reads, IsReadable, mask_of, modes_of, may_say}
 
 -- each number below n passes
 abbrev below : (ℕ → Bool) → ℕ → Bool
@@ -114,8 +114,20 @@ module _ (a b low : ℕ) (least : low ≤ 28) (same : (i : ℕ) → low ≤ i �
   same_decimal few =
       rw (same_ssm, same_digit 27 3 (omega arith) (omega arith), same_digit 23 4 (omega arith) (omega arith), same_digit 19 4 (omega arith) (omega arith), same_digit 15 4 (omega arith) (omega arith), same_digit 11 4 (omega arith) (omega arith)) refl
 
+-- what a source's word says, by the lowest bit of its data
+pub reads-own : (kind : Kind) (s : Source) (bits : ℕ) → reads kind (low_of kind s) s.range bits ≡ reading kind s bits
+unfolding reading
+reads-own Disc s bits = refl
+reads-own Bnr s bits = refl
+reads-own Bcd s bits = refl
+
+pub readable : (kind : Kind) (s : Source) → IsSoundSource s → IsReadable kind (low_of kind s) s.range
+readable Disc s sound = record { least = sound.bit_low; most = sound.bit_high; range_low = sound.range_low; range_high = sound.range_high }
+readable Bnr s sound = record { least = sound.low_low; most = sound.low_high; range_low = sound.range_low; range_high = sound.range_high }
+readable Bcd s sound = record { least = omega arith; most = omega arith; range_low = sound.range_low; range_high = sound.range_high }
+
 -- two words that differ in no bit of the mask say the same
-pub reading-same : (kind : Kind) (s : Source) (a b : ℕ) → IsSoundSource s → bit_and (bit_xor a b) (mask_of kind s) ≡ 0 → reading kind s a ≡ reading kind s b
+pub reading-same : (kind : Kind) (s : Source) (a b : ℕ) → IsSoundSource s → bit_and (bit_xor a b) (mask_of kind (low_of kind s)) ≡ 0 → reading kind s a ≡ reading kind s b
 unfolding reading discrete
 reading-same Disc s a b sound none =
     let mask = is_disc_mask s.bit sound.bit_low sound.bit_high in

@@ -8,7 +8,6 @@ use Rattle.std.proofs.lemmas.List.{get_or_default}
 use Rattle.ecam_spec.specs.Book.{Source, Parameter}
 use Rattle.ecam_spec.specs.Word.{label, is_odd, sdi}
 use Rattle.ecam_spec.specs.Value.{BusWord, takes, has_sdi}
-use Rattle.book_model.specs.View.{source_of}
 use Rattle.book_model.specs.SourcePlaces.{parameter_with, source_at, listens, last_below}
 use Rattle.book_model.proofs.SourcePlaces.{place_within}
 use Rattle.param_table.specs.declared.received.Received.{Received}
@@ -94,12 +93,12 @@ module _ (params : List Parameter) (routing : Routing) (boxes : List Mailbox) (r
       → (s : Source) × (source_at params q ≡ Some s) × ((w.bus == s.bus && label w.bits == s.label) ≡ true) × (slot ≡ slot_of s.sdi)
   of_slot slot few q r is same =
       let rule = rule_source params q r (get_or rules q None) (rule-is params (3 * length params) rules routed.rules (omega arith) q) is in
-      let s = source_of r.source in
-      let within = place_within params q s rule.source in
-      let mailbox = rule_mailbox q r is s rule.source in
-      let some = number-own params s.bus s.label (slot_of s.sdi) (3 * length params) q within (passes-own params q s rule.source) in
+      let s = rule.source in
+      let within = place_within params q s rule.there in
+      let mailbox = rule_mailbox q r is s rule.there in
+      let some = number-own params s.bus s.label (slot_of s.sdi) (3 * length params) q within (passes-own params q s rule.there) in
       let one = one_number params s.bus s.label (slot_of s.sdi) (3 * length params) w.bus (label w.bits) slot (suc l) (sym mailbox ∙ same ∙ route_number slot few) some in
-      (s, rule.source, rw (eq-eqb w.bus s.bus (sym one.0), eq-eqb (label w.bits) s.label (sym one.1)) refl, sym one.2)
+      (s, rule.there, rw (eq-eqb w.bus s.bus (sym one.0), eq-eqb (label w.bits) s.label (sym one.1)) refl, sym one.2)
 
   takes_by : (q : ℕ) (s : Source) → source_at params q ≡ Some s → takes s w ≡ true → takes_at params w q ≡ true
   takes_by q s there so = ap (λ o. option_map_or (λ (t : Source). takes t w) o false) there ∙ so

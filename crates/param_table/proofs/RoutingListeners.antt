@@ -10,13 +10,12 @@ use Rattle.std.proofs.lemmas.List.{get_or_past}
 use Rattle.std.proofs.lemmas.List.Folds.{list_any-append}
 use Rattle.std.proofs.lemmas.List.Elements.{All-append, All-nil}
 use Rattle.ecam_spec.specs.Book.{Source, Parameter}
-use Rattle.book_model.specs.View.{source_of}
 use Rattle.book_model.specs.SourcePlaces.{source_at, listens, last_below}
 use Rattle.param_table.specs.declared.mailbox.Listener.{Listener}
 use Rattle.param_table.specs.declared.rules.Rule.{Rule}
 use Rattle.param_table.specs.declared.rules.Numbered.{Numbered}
 use Rattle.param_table.specs.HeldValues.{mailbox_at}
-use Rattle.param_table.specs.Rules.{AreNumbered, slot_of, number_of}
+use Rattle.param_table.specs.Rules.{AreNumbered, RuleIs, slot_of, number_of}
 use Rattle.param_table.specs.Routes.{IsListener, AreListeners, listener_of}
 use Rattle.param_table.proofs.Sources.{source_there}
 use Rattle.param_table.proofs.Chains.{is_past, past_fails, found_passes}
@@ -29,24 +28,26 @@ has_place q ls = list_any (λ (l : Listener). l.place == q) ls
 
 module _ (params : List Parameter) where
   -- the place is still to come
-  pub record IsAhead (q : ℕ) (r : Rule) (next : Option ℕ) : Type 0 where
+  pub record IsAhead (q : ℕ) (next : Option ℕ) : Type 0 where
     pub at : ℕ
     pub is : next ≡ Some at
     pub behind : q ≤ at
     pub source : Source
     pub there : source_at params at ≡ Some source
-    pub bus : source.bus ≡ r.source.bus
-    pub label : source.label ≡ r.source.label
+    pub own : Source
+    pub owned : source_at params q ≡ Some own
+    pub bus : source.bus ≡ own.bus
+    pub label : source.label ≡ own.label
 
   -- the listeners of the places behind the next one are found
   pub record Looks (rules : List (Option Rule)) (mailbox : ℕ) (next : Option ℕ) (ls : List Listener) : Type 0 where
     pub there : IfSome next (λ h. (h < 3 * length params) × ((s : Source) × (source_at params h ≡ Some s)))
     pub each : All (IsListener rules mailbox) ls
-    pub all : (q : ℕ) (r : Rule) → get_or rules q None ≡ Some r → r.mailbox ≡ mailbox → (has_place q ls ≡ true) ⊎ IsAhead q r next
+    pub all : (q : ℕ) (r : Rule) → get_or rules q None ≡ Some r → r.mailbox ≡ mailbox → (has_place q ls ≡ true) ⊎ IsAhead q next
 
   pub found_all : (rules : List (Option Rule)) (mailbox : ℕ) (next : Option ℕ) (ls : List Listener) → Looks rules mailbox next ls → next ≡ None → AreListeners rules mailbox ls
   found_all rules mailbox next ls looks end = record { each = looks.each; all = λ q r is own. by q r (looks.all q r is own) } where
-    by : (q : ℕ) (r : Rule) → (has_place q ls ≡ true) ⊎ IsAhead q r next → has_place q ls ≡ true
+    by : (q : ℕ) (r : Rule) → (has_place q ls ≡ true) ⊎ IsAhead q next → has_place q ls ≡ true
     by q r (inl found) = found
     by q r (inr ahead) = absurd (none-some ahead.at (sym end ∙ ahead.is))
 
@@ -62,18 +63,19 @@ module _ (params : List Parameter) where
       | inr past ↦ absurd (none-some r (sym (get_or_past rules q None (omega (arith, past, are.rules.count))) ∙ is))
     ]
 
-    pub its_source : (q : ℕ) (r : Rule) → get_or rules q None ≡ Some r → source_at params q ≡ Some (source_of r.source)
-    its_source q r is = (rule_source params q r (get_or rules q None) (are.rules.each q (within q r is)) is).source
+    pub its_rule : (q : ℕ) (r : Rule) → get_or rules q None ≡ Some r → RuleIs params q r
+    its_rule q r is = rule_source params q r (get_or rules q None) (are.rules.each q (within q r is)) is
 
-    its_number : (q : ℕ) (r : Rule) → get_or rules q None ≡ Some r → r.mailbox ≡ number_of params r.source.bus r.source.label (slot_of r.source.sdi) (3 * length params)
-    its_number q r is = sym (ap (λ o. option_map_or (λ (t : Rule). t.mailbox) o 0) is) ∙ are.rules.mailbox q (source_of r.source) (within q r is) (its_source q r is)
+    its_number : (q : ℕ) (r : Rule) (s : Source) → get_or rules q None ≡ Some r → source_at params q ≡ Some s → r.mailbox ≡ number_of params s.bus s.label (slot_of s.sdi) (3 * length params)
+    its_number q r s is there = sym (ap (λ o. option_map_or (λ (t : Rule). t.mailbox) o 0) is) ∙ are.rules.mailbox q s (within q r is) there
 
     -- those of one mailbox listen to one bus and label
-    pub one_chain : (q l : ℕ) (r t : Rule) → get_or rules q None ≡ Some r → get_or rules l None ≡ Some t → r.mailbox ≡ t.mailbox → (t.source.bus ≡ r.source.bus) × (t.source.label ≡ r.source.label)
-    one_chain q l r t is also same =
+    pub one_chain : (q l : ℕ) (r t : Rule) (s u : Source) → get_or rules q None ≡ Some r → get_or rules l None ≡ Some t → source_at params q ≡ Some s → source_at params l ≡ Some u
+        → r.mailbox ≡ t.mailbox → (u.bus ≡ s.bus) × (u.label ≡ s.label)
+    one_chain q l r t s u is also there there' same =
         let n = 3 * length params in
-        let one = one_number params t.source.bus t.source.label (slot_of t.source.sdi) n r.source.bus r.source.label (slot_of r.source.sdi) n (sym (its_number l t also) ∙ sym same ∙ its_number q r is)
-        (number-own params t.source.bus t.source.label (slot_of t.source.sdi) n l (within l t also) (passes-own params l (source_of t.source) (its_source l t also))) in
+        let one = one_number params u.bus u.label (slot_of u.sdi) n s.bus s.label (slot_of s.sdi) n (sym (its_number l t u also there') ∙ sym same ∙ its_number q r s is there)
+        (number-own params u.bus u.label (slot_of u.sdi) n l (within l t also) (passes-own params l u there')) in
         (one.0, one.1)
 
     -- the rule of a mailbox's last place
@@ -92,15 +94,20 @@ module _ (params : List Parameter) where
     look_start mailbox next is = record { there = first next is; each = All-nil (IsListener rules mailbox); all = λ q r rule own. inr (ahead q r rule own) } where
       first : (o : Option ℕ) → o ≡ get_or numbered.latest.items mailbox None → IfSome o (λ h. (h < 3 * length params) × ((s : Source) × (source_at params h ≡ Some s)))
       first None is = tt
-      first (Some l) is = let rule = last_rule mailbox l (sym is) in (within l rule.0 rule.1, (source_of rule.0.source, its_source l rule.0 rule.1))
+      first (Some l) is =
+          let rule = last_rule mailbox l (sym is) in
+          let its = its_rule l rule.0 rule.1 in
+          (within l rule.0 rule.1, (its.source, its.there))
 
-      ahead : (q : ℕ) (r : Rule) → get_or rules q None ≡ Some r → r.mailbox ≡ mailbox → IsAhead q r next
+      ahead : (q : ℕ) (r : Rule) → get_or rules q None ≡ Some r → r.mailbox ≡ mailbox → IsAhead q next
       ahead q r rule own =
           let last = are.latest.last q r (within q r rule) rule in
           let latest : get_or numbered.latest.items mailbox None ≡ Some last.0 = ap (λ i. get_or numbered.latest.items i None) (sym own) ∙ last.1 in
           let other = last_rule mailbox last.0 latest in
-          let chain = one_chain q last.0 r other.0 rule other.1 (own ∙ sym other.2) in
-          record { at = last.0; is = is ∙ latest; behind = last.2; source = source_of other.0.source; there = its_source last.0 other.0 other.1; bus = chain.0; label = chain.1 }
+          let its = its_rule q r rule in
+          let others = its_rule last.0 other.0 other.1 in
+          let chain = one_chain q last.0 r other.0 its.source others.source rule other.1 its.there others.there (own ∙ sym other.2) in
+          record { at = last.0; is = is ∙ latest; behind = last.2; source = others.source; there = others.there; own = its.source; owned = its.there; bus = chain.0; label = chain.1 }
 
     -- ---- one place before
 
@@ -123,34 +130,34 @@ module _ (params : List Parameter) where
       later i q more = grind (arith, nat_tests)
 
       -- a place before in the chain is the next or before it
-      go : (q : ℕ) (r : Rule) (o : Option ℕ) → next ≡ o → IfSome o (λ i. (i < h) × (p i ≡ true)) → q < h → p q ≡ true → s.bus ≡ r.source.bus → s.label ≡ r.source.label → IsAhead q r next
-      go q r None none found before so bus label = absurd (false≢true (sym (past_fails p h q before (ap (λ o. is_past o q) (sym is ∙ none))) ∙ so))
-      go q r (Some i) at found before so bus label = elim (cases_lt i q) [
+      go : (q : ℕ) (own : Source) (o : Option ℕ) → next ≡ o → IfSome o (λ i. (i < h) × (p i ≡ true)) → q < h → p q ≡ true → source_at params q ≡ Some own → s.bus ≡ own.bus → s.label ≡ own.label → IsAhead q next
+      go q own None none found before so owned bus label = absurd (false≢true (sym (past_fails p h q before (ap (λ o. is_past o q) (sym is ∙ none))) ∙ so))
+      go q own (Some i) at found before so owned bus label = elim (cases_lt i q) [
         | inl past ↦ absurd (false≢true (sym (past_fails p h q before (ap (λ o. is_past o q) (sym is ∙ at) ∙ later i q past)) ∙ so))
         | inr behind ↦
             let t = source_there (λ t. s.bus == t.bus && s.label == t.label) (source_at params i) found.1 in
             let parts = and_parts (s.bus == t.0.bus) (s.label == t.0.label) t.2 in
-            record { at = i; is = at; behind = behind; source = t.0; there = t.1; bus = sym (eqb-true s.bus t.0.bus parts.0) ∙ bus; label = sym (eqb-true s.label t.0.label parts.1) ∙ label }
+            record { at = i; is = at; behind = behind; source = t.0; there = t.1; own = own; owned = owned; bus = sym (eqb-true s.bus t.0.bus parts.0) ∙ bus; label = sym (eqb-true s.label t.0.label parts.1) ∙ label }
       ]
 
-      all : (q : ℕ) (r : Rule) → get_or rules q None ≡ Some r → r.mailbox ≡ mailbox → (has_place q after ≡ true) ⊎ IsAhead q r next
+      all : (q : ℕ) (r : Rule) → get_or rules q None ≡ Some r → r.mailbox ≡ mailbox → (has_place q after ≡ true) ⊎ IsAhead q next
       all q r rule own = by (looks.all q r rule own) where
-        ahead : (a : IsAhead q r (Some h)) → (has_place q after ≡ true) ⊎ IsAhead q r next
+        ahead : (a : IsAhead q (Some h)) → (has_place q after ≡ true) ⊎ IsAhead q next
         ahead a =
             let same : h ≡ a.at = same_Some h a.at a.is in
             let source : s ≡ a.source = same_Some s a.source (sym there ∙ ap (source_at params) same ∙ a.there) in
-            let bus : s.bus ≡ r.source.bus = ap (λ (t : Source). t.bus) source ∙ a.bus in
-            let label : s.label ≡ r.source.label = ap (λ (t : Source). t.label) source ∙ a.label in
+            let bus : s.bus ≡ a.own.bus = ap (λ (t : Source). t.bus) source ∙ a.bus in
+            let label : s.label ≡ a.own.label = ap (λ (t : Source). t.label) source ∙ a.label in
             elim (cases_order q h) [
               | inl at ↦ inl (subst (λ i. has_place i after ≡ true) (sym at) (here r (ap (λ i. get_or rules i None) (sym at) ∙ rule) own))
               | inr (inl before) ↦
-                  let so : p q ≡ true = ap (λ o. option_map_or (λ (t : Source). s.bus == t.bus && s.label == t.label) o false) (its_source q r rule)
-                  ∙ and_from (s.bus == r.source.bus) (s.label == r.source.label) (eq-eqb s.bus r.source.bus bus) (eq-eqb s.label r.source.label label) in
-                  inr (go q r next refl (subst (λ o. IfSome o (λ i. (i < h) × (p i ≡ true))) (sym is) (found_passes p h)) before so bus label)
+                  let so : p q ≡ true = ap (λ o. option_map_or (λ (t : Source). s.bus == t.bus && s.label == t.label) o false) a.owned
+                  ∙ and_from (s.bus == a.own.bus) (s.label == a.own.label) (eq-eqb s.bus a.own.bus bus) (eq-eqb s.label a.own.label label) in
+                  inr (go q a.own next refl (subst (λ o. IfSome o (λ i. (i < h) × (p i ≡ true))) (sym is) (found_passes p h)) before so a.owned bus label)
               | inr (inr more) ↦ absurd (omega (arith, a.behind, same, more))
             ]
 
-        by : (has_place q ls ≡ true) ⊎ IsAhead q r (Some h) → (has_place q after ≡ true) ⊎ IsAhead q r next
+        by : (has_place q ls ≡ true) ⊎ IsAhead q (Some h) → (has_place q after ≡ true) ⊎ IsAhead q next
         by (inl found) = inl (kept q found)
         by (inr a) = ahead a
 

@@ -1,5 +1,5 @@
 -- The value of a parameter, by its sources in order, now and in the moment before.
-use Rattle.std.proofs.Common.{◌≡◌, ℕ, zero, suc, ◌+◌, ◌*◌, ◌/◌, ◌%◌, ◌<◌, ◌≤◌, Bool, true, false, not, List, [], ◌∷◌, length, map, get_or, Option, Some, None, ℤ, All, refl, sym, ap, ◌∙◌, subst, arith, add-zero}
+use Rattle.std.proofs.Common.{◌≡◌, cond, ltb, ℕ, zero, suc, ◌+◌, ◌*◌, ◌/◌, ◌%◌, ◌<◌, ◌≤◌, Bool, true, false, not, List, [], ◌∷◌, length, map, get_or, Option, Some, None, ℤ, All, refl, sym, ap, ◌∙◌, subst, arith, add-zero}
 use Rattle.std.specs.Prelude.{is_some}
 use Rattle.std.specs.Option.{option_or, option_and_then}
 use Rattle.std.specs.List.{slice_get}
@@ -7,18 +7,19 @@ use Rattle.std.proofs.lemmas.List.Elements.{All-get_or}
 use Rattle.ecam_spec.specs.KeepsLimits.{IsSoundParameter}
 use Rattle.ecam_spec.specs.Book.{Source, Parameter, Book}
 use Rattle.ecam_spec.specs.Situation.{no_parameter, parameter_at}
-use Rattle.ecam_spec.specs.Value.{BusWord, source_value, value}
+use Rattle.ecam_spec.specs.Value.{BusWord, reading, source_value, value}
 use Rattle.ecam_spec.specs.Places.{first_of}
-use Rattle.book_model.specs.View.{source_of}
 use Rattle.wakes.specs.Marks.{is_marked, Finds}
 use Rattle.param_table.specs.declared.received.Received.{Received}
 use Rattle.param_table.specs.declared.rules.Rule.{Rule}
 use Rattle.param_table.specs.declared.table.Params.{Params}
-use Rattle.param_table.specs.Rules.{IsRule}
+use Rattle.param_table.specs.Rules.{IsRule, RuleIs}
 use Rattle.book_model.specs.SourcePlaces.{parameter_with, source_at}
 use Rattle.param_table.specs.TableState.{ParamsStand, received_by, source_before, value_before}
 use Rattle.param_table.specs.HeldValues.{given, given_by, first_given}
 use Rattle.param_table.proofs.Said.{given_is}
+use Rattle.param_table.specs.Masks.{reads, low_of}
+use Rattle.param_table.proofs.Masks.{reads-own}
 use Rattle.param_table.proofs.ByRule.{rule-is}
 
 or-none : (a : Option ℤ) → option_or a None ≡ a
@@ -41,12 +42,18 @@ at_place b p j small =
     let column : (3 * p + j) % 3 ≡ j = omega arith in
     ap (λ r. slice_get (get_or b.parameters r no_parameter).sources ((3 * p + j) % 3)) row ∙ ap (slice_get (parameter_at b p).sources) column
 
+-- what a word says by a rule, it says to the source
+rule_reads : (params : List Parameter) (q : ℕ) (t : Rule) (bits : ℕ) → (is : RuleIs params q t) → reads t.kind t.low t.range bits ≡ reading t.kind is.source bits
+rule_reads params q t bits is =
+    ap (λ n. reads t.kind n t.range bits) is.low ∙ ap (λ n. reads t.kind (low_of t.kind is.source) n bits) is.range ∙ reads-own t.kind is.source bits
+
 -- what a place gives by its rule, it gives by its source
 rule_gives : (params : List Parameter) (q clock : ℕ) (rule : Option Rule) (r : Received) → IsRule params q rule
     → given_by clock rule r ≡ option_and_then (λ s. given clock (parameter_with params q).kind s r) (source_at params q)
 rule_gives params q clock None r none = sym (ap (option_and_then (λ s. given clock (parameter_with params q).kind s r)) none)
 rule_gives params q clock (Some t) r is =
-    ap (λ kind. given clock kind (source_of t.source) r) is.kind ∙ sym (ap (option_and_then (λ s. given clock (parameter_with params q).kind s r)) is.source)
+    ap (λ o. cond (ltb clock r.end) o None) (rule_reads params q t r.bits is)
+    ∙ ap (λ kind. given clock kind is.source r) is.kind ∙ sym (ap (option_and_then (λ s. given clock (parameter_with params q).kind s r)) is.there)
 
 module _ (b : Book) (words : ℕ → List BusWord) (k : ℕ) (t : Params) (p : ℕ) (stands : ParamsStand b words k t) where
   abbrev gives : ℕ → Option ℤ

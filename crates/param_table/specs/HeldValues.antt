@@ -4,9 +4,8 @@ use Rattle.std.specs.Option.{option_and_then, option_or, option_map_or}
 use Rattle.ecam_spec.specs.declared.kinds.Kind.{Kind}
 use Rattle.ecam_spec.specs.Book.{Source}
 use Rattle.ecam_spec.specs.Value.{reading}
-use Rattle.book_model.specs.View.{source_of}
 use Rattle.wakes.specs.Due.{never}
-use Rattle.param_table.specs.Masks.{may_say}
+use Rattle.param_table.specs.Masks.{may_say, reads}
 use Rattle.param_table.specs.declared.received.Received.{Received}
 use Rattle.param_table.specs.declared.mailbox.Mailbox.{Mailbox}
 use Rattle.param_table.specs.declared.mailbox.Hearers.{Hearers}
@@ -23,8 +22,9 @@ nothing = record { bits = 0; end = 0 }
 abbrev pub given : ℕ → Kind → Source → Received → Option ℤ
 given clock kind s r = if nat_lt clock r.end then reading kind s r.bits else None
 
+-- the same by the rule of a place, and nothing where there is none
 abbrev pub given_by : ℕ → Option Rule → Received → Option ℤ
-given_by clock rule r = option_and_then (λ t. given clock t.kind (source_of t.source) r) rule
+given_by clock rule r = option_and_then (λ t. if nat_lt clock r.end then reads t.kind t.low t.range r.bits else None) rule
 
 -- what the first of three places gives that gives something
 abbrev pub first_given : ℕ → List (Option Rule) → (ℕ → Received) → ℕ → Option ℤ

@@ -2,7 +2,6 @@
 use Rattle.std.specs.Prelude.{◌≡◌, ℕ, suc, ◌*◌, ◌/◌, ◌<◌, ◌≤◌, ◌==◌, true, List, length, get_or, Option, Some, None, All}
 use Rattle.std.specs.List.{list_any}
 use Rattle.ecam_spec.specs.Book.{Parameter}
-use Rattle.book_model.specs.View.{source_of}
 use Rattle.param_table.specs.Masks.{mask_of, modes_of}
 use Rattle.param_table.specs.HeldValues.{unused, hearers_of}
 use Rattle.param_table.specs.Rules.{AreRules, AreRoutes, openers}
@@ -14,7 +13,7 @@ use Rattle.param_table.specs.declared.routing.Routing.{Routing}
 -- the source with a rule at a place, as a listener
 abbrev pub listener_of : ℕ → Rule → Listener
 listener_of place r =
-    record { mask = mask_of r.kind (source_of r.source); stale = r.stale; place = place; param = place / 3; modes = modes_of r.kind }
+    record { mask = mask_of r.kind r.low; stale = r.stale; place = place; param = place / 3; modes = modes_of r.kind }
 
 -- it listens to the mailbox
 pub record IsListener (rules : List (Option Rule)) (mailbox : ℕ) (l : Listener) : Type 0 where

@@ -2,15 +2,18 @@
 use Rattle.std.specs.Prelude.{◌≡◌, ℕ, zero, suc, ◌+◌, ◌*◌, ◌<◌, ◌≤◌, Bool, false, ◌&&◌, ◌==◌, ◌++◌, is_none, List, [], ◌∷◌, length, get_or, Option, Some, None, if◌then◌else◌}
 use Rattle.std.specs.Option.{option_map_or}
 use Rattle.ecam_spec.specs.Book.{Source, Parameter}
-use Rattle.book_model.specs.View.{source_of}
 use Rattle.book_model.specs.SourcePlaces.{parameter_with, source_at, passes}
 use Rattle.param_table.specs.HeldValues.{mailbox_at}
+use Rattle.param_table.specs.Masks.{low_of}
 use Rattle.param_table.specs.declared.rules.Rule.{Rule}
 use Rattle.param_table.specs.declared.rules.Numbered.{Numbered}
 
--- the source at a place, with its parameter's kind and freshness
+-- how the words of the source at a place are read, by its parameter's kind, and its freshness
 pub record RuleIs (params : List Parameter) (place : ℕ) (r : Rule) : Type 0 where
-  pub source : source_at params place ≡ Some (source_of r.source)
+  pub source : Source
+  pub there : source_at params place ≡ Some source
+  pub low : r.low ≡ low_of r.kind source
+  pub range : r.range ≡ source.range
   pub kind : r.kind ≡ (parameter_with params place).kind
   pub stale : r.stale ≡ (parameter_with params place).stale
 

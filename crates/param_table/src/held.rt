@@ -177,7 +177,8 @@ impl Held {
 pub fn held_by(rule: &Rule, mailboxes: &[Mailbox], _clock: u32) -> Received
     requires mailbox { rule.now.mailbox < length mailboxes.now }
     requires early { AreEarly _clock mailboxes.now }
-    ensures { result ≡ held_for (slice_index_or mailboxes.now rule.now.mailbox unused) rule.now.stale }
+    ensures { result
+        ≡ held_for (slice_index_or mailboxes.now rule.now.mailbox unused) rule.now.stale }
 {
     held_for(mailboxes[usize::from(rule.mailbox)], rule.stale)
 }

@@ -1,10 +1,9 @@
 // Which mailboxes a word comes to, and who listens to them.
 ghost use Rattle.std.specs.Prelude.{◌≡◌, ◌*◌, ◌+◌, ◌<◌, ◌≤◌, ◌++◌, [], ◌∷◌, ℕ, length, slice_index_or, vec_len, All, IfOk};
 ghost use Rattle.std.specs.Box.{boxed_slice_items};
-ghost use Rattle.ecam_spec.specs.KeepsLimits.{IsSoundSource};
-ghost use Rattle.book_model.specs.View.{source_of};
 ghost use Rattle.book_model.specs.Sealed.{the_book};
 ghost use Rattle.param_table.specs.HeldValues.{empty, unused};
+ghost use Rattle.param_table.specs.Masks.{IsReadable};
 ghost use Rattle.param_table.specs.Rules.{AreNumbered};
 ghost use Rattle.param_table.specs.Routes.{AreListeners, AreRouted, listener_of};
 
@@ -147,11 +146,11 @@ fn listeners_of(
 
 // The source at a place, as a listener.
 fn listener_of(place: u16, rule: &Rule) -> Listener
-    requires { IsSoundSource (source_of rule.now.source) }
+    requires { IsReadable rule.now.kind rule.now.low rule.now.range }
     ensures { result ≡ listener_of place rule.now }
 {
     Listener {
-        mask: mask_of(rule.kind, &rule.source),
+        mask: mask_of(rule.kind, rule.low),
         stale: rule.stale,
         place,
         param: place / 3,

@@ -4,19 +4,23 @@ ghost use Rattle.book_model.specs.View.{parameter_of};
 ghost use Rattle.book_model.specs.Sealed.{the_book};
 ghost use Rattle.param_table.specs.Rules.{AreNumbered, IsRule, earlier_in, mailbox_in, route_of, slot_of, with_mailbox};
 
-use book_model::{Book, Kind, Param, WordSource, source_at};
+use crate::words::low_of;
+use book_model::{Book, Kind, Param, source_at};
 use std::alloc::{AllocError, Global};
 
 /// How many mailboxes there are for a bus and a label: for the sources that name no SDI, and for those of each of the four.
 pub const SLOTS: usize = 5;
 
-/// A source, with its parameter's kind, for how many moments a word stays fresh, and the mailbox in which its words stand.
+/// How the words of a source are read, in twelve bytes: by its parameter's kind, from the lowest bit of its data on and by its
+/// range; in which mailbox they stand, and for how many moments one stays fresh.
 #[derive(Clone, Copy)]
 pub struct Rule {
-    pub source: WordSource,
-    pub kind: Kind,
+    pub range: u32,
     pub stale: u32,
     pub mailbox: u16,
+    /// The bit that a discrete is, or the lowest of a number's data, which is 11 for BCD. (Bits count from 1.)
+    pub low: u8,
+    pub kind: Kind,
 }
 
 /// The mailboxes of some places.
@@ -133,9 +137,10 @@ fn rule_at(params: &[Param], place: usize, mailbox: u16) -> Option<Rule>
     let source = source_at(params, place)?;
     let param = params.get(place / 3)?;
     Some(Rule {
-        source,
-        kind: param.kind,
+        range: source.range,
         stale: param.stale,
         mailbox,
+        low: low_of(param.kind, &source),
+        kind: param.kind,
     })
 }

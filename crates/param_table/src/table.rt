@@ -308,7 +308,7 @@ impl Params {
         if !is_fresh(received, self.clock) {
             return None;
         }
-        reading(rule.kind, &rule.source, &Word::new(received.bits))
+        reading(rule.kind, rule.low, rule.range, &Word::new(received.bits))
     }
 
     // Sets the clock back by half of what it can show, with the times of the words. Each mailbox is looked at soon.

@@ -1,12 +1,11 @@
 use Rattle.std.proofs.Common.{◌≡◌, ◌<◌, ◌++◌, [], ◌∷◌, length, get_or, Some, None, sym, ap, ◌∙◌, subst, arith}
 use Rattle.std.proofs.lemmas.Option.{same_Some}
-use Rattle.book_model.specs.View.{source_of}
 use Rattle.book_model.specs.Sealed.{the_book}
 use Rattle.book_model.specs.SourcePlaces.{source_at, listens, last_below}
-use Rattle.book_model.proofs.SourcePlaces.{sound_source}
 use Rattle.param_table.specs.declared.rules.Rule.{Rule}
+use Rattle.param_table.proofs.ByRule.{rule_readable}
 use Rattle.param_table.proofs.NumberingSteps.{sound_book}
-use Rattle.param_table.proofs.RoutingListeners.{Looks, found_all, its_source, look_start, look_found, look_other, any_default, before_less}
+use Rattle.param_table.proofs.RoutingListeners.{Looks, found_all, its_rule, look_start, look_found, look_other, any_default, before_less}
 use Rattle.param_table.proofs.routing.listeners_of.Goals as goal
 
 pub loop-next-init : goal.loop-next-init
@@ -27,7 +26,7 @@ listener_of-requires c =
     let is : get_or rules h None ≡ found =
     any_default rules h None found (omega (arith, c.requires.numbered.rules.count, looks.there.0)) ∙ ap (λ i. get_or rules i found) (sym c.from-in-Some.ensures) ∙ sym c.index.ensures in
     let r = c.in-Some-index.rule in
-    sound_source p h (source_of r.source) (sound_book c.args.book.now c.listener_before-next.ensures.sealed) (its_source p c.args.numbered.now c.requires.numbered h r (is ∙ c.in-Some-index.is))
+    rule_readable p h r (its_rule p c.args.numbered.now c.requires.numbered h r (is ∙ c.in-Some-index.is)) (sound_book c.args.book.now c.listener_before-next.ensures.sealed)
 
 pub loop-next-smaller-in-Continue-1 : goal.loop-next-smaller-in-Continue-1
 loop-next-smaller-in-Continue-1 c =

@@ -17,4 +17,4 @@ discrete_bound b word = bit_bound (nat_eq (ssm word) 0) (word / 2 ^ (b - 1))
 
 pub returns-in-Disc-clause-bound : goal.returns-in-Disc-clause-bound
 returns-in-Disc-clause-bound c =
-    rw (c.disc.ensures, c.in-Disc.is) (discrete_bound c.args.source.now.bit c.args.word.now)
+    rw (c.disc.ensures, c.in-Disc.is) (discrete_bound c.args.low c.args.word.now)

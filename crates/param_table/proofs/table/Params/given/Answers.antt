@@ -1,8 +1,6 @@
 use Rattle.std.proofs.Common.{◌*◌, ◌<◌, length, get_or, None, sym, subst, arith}
 use Rattle.book_model.specs.Sealed.{the_book}
-use Rattle.book_model.specs.View.{source_of}
-use Rattle.book_model.proofs.SourcePlaces.{sound_source}
-use Rattle.param_table.proofs.ByRule.{mailbox_by_rule, rule-is, rule_source, rule_there}
+use Rattle.param_table.proofs.ByRule.{mailbox_by_rule, rule-is, rule_readable, rule_source, rule_there}
 use Rattle.param_table.proofs.Tables.{mailbox_within}
 use Rattle.param_table.proofs.table.Params.given.Goals as goal
 
@@ -23,4 +21,4 @@ reading-requires c =
     let there = rule_there p.routing c.table.result.now c.args.place c.index.result.now r c.table.ensures c.requires.place c.index.ensures c.in_ok-rule.was in
     let rules = p.routing.rules.items.items in
     let is = rule_source b.parameters c.args.place r (get_or rules c.args.place None) (rule-is b.parameters (3 * length b.parameters) rules c.requires.fits.routed.rules (omega arith) c.args.place) there in
-    sound_source b.parameters c.args.place (source_of r.source) c.requires.fits.sound is.source
+    rule_readable b.parameters c.args.place r is c.requires.fits.sound
