@@ -1,5 +1,5 @@
 -- A word comes to a mailbox: what its sources hold by it, and which parameters are marked.
-use Rattle.std.proofs.Common.{◌≡◌, ◌≢◌, ◌⊎◌, ℕ, ◌+◌, ◌/◌, ◌<◌, ◌≤◌, Bool, true, false, not, ltb, ◌==◌, ◌&&◌, ◌||◌, bit_and, bit_xor, length, get_or, set, slice_index, List, Option, Some, None, All, cond, refl, sym, ap, ◌∙◌, subst, arith, inl, inr}
+use Rattle.std.proofs.Common.{◌≡◌, ◌≢◌, ◌⊎◌, ℕ, ◌+◌, ◌*◌, ◌/◌, ◌<◌, ◌≤◌, Bool, true, false, not, ltb, ◌==◌, ◌&&◌, ◌||◌, bit_and, bit_xor, length, get_or, set, slice_index, List, Option, Some, None, All, cond, refl, sym, ap, ◌∙◌, subst, arith, inl, inr}
 use Rattle.std.specs.List.{list_any, slice_range}
 use Rattle.std.proofs.lemmas.Bool.{cases_eq, and_parts, or_parts, eq-eqb, eqb-true, ne_eqb, false≢true}
 use Rattle.std.proofs.lemmas.Bool.Decides.{nat_tests}
@@ -12,7 +12,7 @@ use Rattle.ecam_spec.specs.KeepsLimits.{IsSoundParameter, IsSoundSource}
 use Rattle.ecam_spec.specs.Value.{reading}
 use Rattle.wakes.specs.Marks.{is_marked, room}
 use Rattle.book_model.specs.SourcePlaces.{parameter_with, source_at}
-use Rattle.book_model.proofs.SourcePlaces.{sound_source}
+use Rattle.book_model.proofs.SourcePlaces.{place_within, sound_source}
 use Rattle.param_table.specs.declared.received.Received.{Received}
 use Rattle.param_table.specs.declared.mailbox.Hearers.{Hearers}
 use Rattle.param_table.specs.declared.mailbox.Listener.{Listener}
@@ -21,14 +21,15 @@ use Rattle.param_table.specs.declared.routing.Routing.{Routing}
 use Rattle.param_table.specs.declared.rules.Rule.{Rule}
 use Rattle.param_table.specs.declared.held.Held.{Held}
 use Rattle.param_table.specs.Masks.{may_say, low_of, mask_of, modes_of}
-use Rattle.param_table.specs.Rules.{RuleIs}
+use Rattle.param_table.specs.Rules.{RuleIs, slot_of}
 use Rattle.param_table.specs.Routes.{listener_of, IsListener, AreListeners, Tells, AreRouted}
 use Rattle.param_table.specs.HeldValues.{unused, given, renewed, held_for, received_at, all_fresh, hearers_of, delivered, says_same, keeps_saying, due_at}
-use Rattle.param_table.specs.HeldState.{IsDue, AreDue, Renews}
+use Rattle.param_table.specs.HeldState.{CameTo, IsDue, AreDue, Renews}
 use Rattle.param_table.specs.TableState.{HeldFits}
 use Rattle.param_table.proofs.Masks.{reading-same, says-nothing}
 use Rattle.param_table.proofs.Listeners.{fresh_for}
-use Rattle.param_table.proofs.ByRule.{no_rule_past, rule_source, by_none, by_rule, due_by_rule}
+use Rattle.param_table.proofs.ByRule.{no_rule_past, rule-is, rule_source, by_none, by_rule, due_by_rule, mailbox_by_rule}
+use Rattle.param_table.proofs.Numbers.{number-own, passes-own}
 use Rattle.param_table.proofs.Hearers.{tells, rule_at, listener, each_hears, held_here, by_place}
 
 -- ---- a mailbox whose word alone is another
@@ -229,3 +230,26 @@ module _ (params : List Parameter) (routing : Routing) (clock m bits : ℕ) (old
           (λ r is own. subst (λ x. IsDue clock x (due_at rules new.dues q)) (sym (held-own q r is own)) (λ fresh. due-own q r was is own))
           (λ r is ne. due-other q r was is ne);
     }
+
+    pub delivered_came : CameTo rules clock m bits old new
+    delivered_came = record { own = held-own; other = held-other; none = held-none; marks = delivered_others }
+
+-- ---- the first mailbox, which is of no source
+
+module _ (params : List Parameter) (routing : Routing) (boxes : List Mailbox) (routed : AreRouted params routing boxes) where
+  mailbox_some : (q : ℕ) (r : Rule) → get_or routing.rules.items.items q None ≡ Some r → 0 < r.mailbox
+  mailbox_some q r is =
+      let rules = routing.rules.items.items in
+      let n = 3 * length params in
+      let rule = rule_source params q r (get_or rules q None) (rule-is params n rules routed.rules (omega arith) q) is in
+      let s = rule.source in
+      let within = place_within params q s rule.there in
+      omega (arith, mailbox_by_rule rules q r is, routed.rules.mailbox q s within rule.there, number-own params s.bus s.label (slot_of s.sdi) n q within (passes-own params q s rule.there))
+
+  pub came_none : (clock m bits : ℕ) (h : Held) → m ≡ 0 → CameTo routing.rules.items.items clock m bits h h
+  came_none clock m bits h first = record {
+    own = λ q r is own. absurd (omega (arith, first, own, mailbox_some q r is));
+    other = λ q r is ne. refl;
+    none = λ q is. refl;
+    marks = λ p none. refl;
+  }

@@ -1,9 +1,9 @@
 -- When each mailbox of a table is looked at, and what words leave.
-use Rattle.std.specs.Prelude.{◌≡◌, ℕ, ◌+◌, ◌/◌, ◌<◌, ◌≤◌, true, false, List, length, get_or, Option, Some, All}
+use Rattle.std.specs.Prelude.{◌≡◌, ◌≢◌, ℕ, ◌+◌, ◌/◌, ◌<◌, ◌≤◌, true, false, List, length, get_or, Option, Some, None, All}
 use Rattle.ecam_spec.specs.Book.{Source, Parameter}
 use Rattle.wakes.specs.Marks.{is_marked}
 use Rattle.book_model.specs.SourcePlaces.{parameter_with, source_at}
-use Rattle.param_table.specs.HeldValues.{unused, given, is_ending, held_for, received_at, due_at, hearers_of}
+use Rattle.param_table.specs.HeldValues.{unused, given, renewed, is_ending, held_for, received_at, due_at, hearers_of}
 use Rattle.param_table.specs.declared.received.Received.{Received}
 use Rattle.param_table.specs.declared.mailbox.Mailbox.{Mailbox}
 use Rattle.param_table.specs.declared.mailbox.Listener.{Listener}
@@ -48,6 +48,14 @@ pub record Renews (params : List Parameter) (rules : List (Option Rule)) (clock 
       ≡ given clock (parameter_with params q).kind s (received_at rules old.mailboxes.items.items q)
   pub due : AreDue clock (received_at rules old.mailboxes.items.items) (due_at rules old.dues)
       → AreDue clock (received_at rules new.mailboxes.items.items) (due_at rules new.dues)
+
+-- A word came to the sources of a mailbox: they hold it, the other places hold what they held, and a parameter none of whose sources has
+-- the mailbox is marked as it was.
+pub record CameTo (rules : List (Option Rule)) (clock m bits : ℕ) (old new : Held) : Type 0 where
+  pub own : (q : ℕ) (r : Rule) → get_or rules q None ≡ Some r → r.mailbox ≡ m → received_at rules new.mailboxes.items.items q ≡ renewed clock r.stale bits
+  pub other : (q : ℕ) (r : Rule) → get_or rules q None ≡ Some r → r.mailbox ≢ m → received_at rules new.mailboxes.items.items q ≡ received_at rules old.mailboxes.items.items q
+  pub none : (q : ℕ) → get_or rules q None ≡ None → received_at rules new.mailboxes.items.items q ≡ received_at rules old.mailboxes.items.items q
+  pub marks : (p : ℕ) → ((q : ℕ) (r : Rule) → q / 3 ≡ p → get_or rules q None ≡ Some r → r.mailbox ≢ m) → is_marked new.changed p ≡ is_marked old.changed p
 
 -- A moment begins: each word whose freshness ends with it will be looked at, and the others in time.
 pub record WillLook (clock : ℕ) (x : ℕ → Received) (dues : ℕ → ℕ) : Type 0 where

@@ -8,7 +8,7 @@ ghost use Rattle.param_table.specs.HeldState.{AreDue, AreEarly, AreListed, Copie
 ghost use Rattle.param_table.specs.Routes.{AreRouted};
 ghost use Rattle.param_table.specs.TableState.{HeldFits};
 
-use crate::mailbox::{Listener, Mailbox, all_fresh, held_for, says_same};
+use crate::mailbox::{Listener, Mailbox, all_fresh, end_for, held_for, says_same};
 use crate::received::{NEVER, Received, is_ending, is_fresh, next_look};
 use crate::routing::Routing;
 use crate::rules::Rule;
@@ -29,8 +29,10 @@ pub struct Held {
 
 impl Held {
     /// A word comes to a mailbox. The parameters of its listeners are marked for which the word before isn't fresh or said
-    /// something else. Its cost is one write where the word before is fresh for all and has the same bits, and a look and a
-    /// mark a listener where it has others. Where it isn't fresh for all, the mailbox is looked at when this one ends to be.
+    /// something else. Its cost is a look and two writes where the word before is fresh for all and has the same bits, and
+    /// also a look and a mark a listener where it has others. Where it isn't fresh for all, the mailbox is looked at when this
+    /// one ends to be.
+    // (What the mailbox holds is taken field by field, since a copy of it costs more than all else.)
     #[inline(always)]
     pub fn deliver(&mut self, listeners: &[Listener], clock: u32, mailbox: usize, bits: u32)
         requires mailbox { mailbox < length self.old.mailboxes.items.items }
@@ -54,18 +56,25 @@ impl Held {
             else slice_set self.old.dues mailbox (clock + 1
             + (slice_index_or self.old.mailboxes.items.items mailbox unused).hearers.soonest)) }
     {
-        let before = self.mailboxes[mailbox];
         let now = &mut self.mailboxes[mailbox];
+        let was = now.bits;
+        let after = now.after;
+        let hearers = now.hearers;
         now.bits = bits;
         now.after = u64::from(clock) + 1;
-        if !all_fresh(before, clock) {
-            let hearers = &listeners[before.hearers.first..before.hearers.end];
-            mark_begun(self.changed.words_mut(), hearers, before, clock, bits);
-            let end = u64::from(clock) + 1 + u64::from(before.hearers.soonest);
+        if u64::from(clock) >= end_for(after, hearers.soonest) {
+            let before = Mailbox {
+                after,
+                bits: was,
+                hearers,
+            };
+            let listening = &listeners[hearers.first..hearers.end];
+            mark_begun(self.changed.words_mut(), listening, before, clock, bits);
+            let end = u64::from(clock) + 1 + u64::from(hearers.soonest);
             self.dues.set(mailbox, end);
-        } else if before.bits != bits {
-            let hearers = &listeners[before.hearers.first..before.hearers.end];
-            mark_turned(self.changed.words_mut(), hearers, before.bits, bits);
+        } else if was != bits {
+            let listening = &listeners[hearers.first..hearers.end];
+            mark_turned(self.changed.words_mut(), listening, was, bits);
         }
     }
 

@@ -1,5 +1,5 @@
 // The mailboxes of words, and who listens to them.
-ghost use Rattle.std.specs.Prelude.{◌≡◌, ◌≤◌, ◌^◌};
+ghost use Rattle.std.specs.Prelude.{◌≡◌, ◌≤◌, ◌+◌, ◌^◌, ◌==◌, if◌then◌else◌};
 ghost use Rattle.param_table.specs.Masks.{may_say};
 ghost use Rattle.param_table.specs.HeldValues.{all_fresh, empty, held_for, says_same, set_back};
 
@@ -47,6 +47,20 @@ pub fn empty(hearers: Hearers) -> Mailbox
     }
 }
 
+/// The first time by the clock at which a word is no longer fresh that is so for so many moments, by the time after that at
+/// which it came; 0 where none came.
+#[inline(always)]
+pub fn end_for(after: u64, stale: u32) -> u64
+    requires { after ≤ 2 ^ 32 }
+    ensures { result ≡ (if after == 0 then 0 else after + stale) }
+{
+    if after == 0 {
+        0
+    } else {
+        after + u64::from(stale)
+    }
+}
+
 /// What a source that takes words as fresh for so many moments holds by a mailbox.
 #[inline(always)]
 pub fn held_for(mailbox: Mailbox, stale: u32) -> Received
@@ -55,11 +69,7 @@ pub fn held_for(mailbox: Mailbox, stale: u32) -> Received
 {
     Received {
         bits: mailbox.bits,
-        end: if mailbox.after == 0 {
-            0
-        } else {
-            mailbox.after + u64::from(stale)
-        },
+        end: end_for(mailbox.after, stale),
     }
 }
 

@@ -129,9 +129,10 @@ impl Params {
     }
 
     /// A word comes on a bus in the moment that hasn't ended. Its cost is one look-up by bus and label, and, where the
-    /// parity is odd, a look and two writes at each of two mailboxes: that of the sources which name no SDI, and that of those
-    /// which name the word's. Where the bits are those of the last word, and words come often enough to keep it fresh, that is
-    /// all, however many sources listen; where they are others, also a look and a mark at each source that takes it.
+    /// parity is odd, a look and two writes at each of at most two mailboxes: that of the sources which name no SDI, and that of
+    /// those which name the word's, where there are such. Where the bits are those of the last word, and words come often enough
+    /// to keep it fresh, that is all, however many sources listen; where they are others, also a look and a mark at each source
+    /// that takes it.
     // (It stands in its caller, so that a word that no source listens to costs no call. The look-up comes before the
     // parity, since which words a book listens to is easier to foresee.)
     #[inline(always)]

@@ -1,5 +1,5 @@
 // A word comes to the mailboxes of the sources that take it.
-ghost use Rattle.std.specs.Prelude.{◌≡◌, ℕ, ◌*◌, ◌/◌, ◌<◌, Some, true, false, length, IsTrue, All, if◌then◌else◌};
+ghost use Rattle.std.specs.Prelude.{◌≡◌, ℕ, ◌*◌, ◌/◌, ◌<◌, Some, false, length, IsTrue, All, if◌then◌else◌};
 ghost use Rattle.ecam_spec.specs.Word.{is_odd, label};
 ghost use Rattle.ecam_spec.specs.KeepsLimits.{IsSoundParameter};
 ghost use Rattle.book_model.specs.Sealed.{the_book};
@@ -7,7 +7,7 @@ ghost use Rattle.book_model.specs.SourcePlaces.{listens, last_below, parameter_w
 ghost use Rattle.wakes.specs.Marks.{is_marked};
 ghost use Rattle.param_table.specs.Taking.{takes_at};
 ghost use Rattle.param_table.specs.HeldValues.{received_at, renewed};
-ghost use Rattle.param_table.specs.HeldState.{Renews};
+ghost use Rattle.param_table.specs.HeldState.{CameTo, Renews};
 ghost use Rattle.param_table.specs.Routes.{AreRouted};
 ghost use Rattle.param_table.specs.TableState.{HeldFits};
 
@@ -54,6 +54,26 @@ pub fn receive(
     let slots = SLOTS * usize::from(last);
     let any = usize::from(routing.routes[slots]);
     let named = usize::from(routing.routes[slots + 1 + usize::from(Word::new(bits).sdi())]);
-    held.deliver(&routing.listeners, clock, any, bits);
-    held.deliver(&routing.listeners, clock, named, bits);
+    bring(held, routing, _book, clock, any, bits);
+    bring(held, routing, _book, clock, named, bits);
+}
+
+// A word comes to the sources of a mailbox. The first mailbox is of none, so that nothing is written there.
+#[inline(always)]
+fn bring(held: &mut Held, routing: &Routing, _book: &Book, clock: u32, mailbox: usize, bits: u32)
+    requires mailbox { mailbox < length held.old.mailboxes.items.items }
+    requires sound { All IsSoundParameter (the_book _book.now).parameters }
+    requires routed { AreRouted (the_book _book.now).parameters routing.now
+        held.old.mailboxes.items.items }
+    requires fits { HeldFits (the_book _book.now).parameters clock held.old }
+    ensures routed { AreRouted (the_book _book.now).parameters routing.now
+        held.new.mailboxes.items.items }
+    ensures fits { HeldFits (the_book _book.now).parameters clock held.new }
+    ensures came { CameTo routing.now.rules.items.items clock mailbox bits held.old held.new }
+    ensures renews { Renews (the_book _book.now).parameters routing.now.rules.items.items clock
+        held.old held.new }
+{
+    if mailbox != 0 {
+        held.deliver(&routing.listeners, clock, mailbox, bits);
+    }
 }
