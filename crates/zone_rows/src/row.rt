@@ -19,6 +19,7 @@ pub fn set_row(rows: &mut [Row], changed: &mut [bool], place: usize, colour: Col
     if rows[place].is(colour, text) {
         return;
     }
-    rows[place].set(colour, text);
+    // A new row in its place, so that the old text needn't be wiped.
+    rows[place] = Row::new(colour, text);
     changed[place] = true;
 }

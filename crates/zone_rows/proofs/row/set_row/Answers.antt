@@ -16,7 +16,7 @@ pub returns : goal.returns
 returns c =
     let written =
     set-written c.args.rows.now c.args.changed.now c.args.place c.index-rows-place.result (spec.row c.args.colour c.args.text.now)
-    (omega (arith, length-map c.args.rows.now row_of, c.requires.whole.rows)) c.set.new.self c.set.ensures
+    (omega (arith, length-map c.args.rows.now row_of, c.requires.whole.rows)) c.new.result c.new.ensures
     (sym c.is.ensures ∙ c.if-is.false) in
     record {
       whole = whole-set c.args.place (spec.row c.args.colour c.args.text.now) _ _ written c.requires.whole;
