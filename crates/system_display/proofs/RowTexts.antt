@@ -1,7 +1,8 @@
 -- The text of a row with a value, as it is built piece by piece.
-use Rattle.std.proofs.Common.{◌≡◌, ℕ, ◌-◌, ◌≤◌, true, ◌&&◌, leb, [], ◌++◌, length, replicate, ℤ, pos, negsuc, ◌≤ℤ◌, Option, Some, None, ◌∙◌, ap, arith, append_assoc}
+use Rattle.std.proofs.Common.{◌≡◌, ℕ, ◌+◌, ◌-◌, ◌≤◌, true, ◌&&◌, leb, [], ◌++◌, length, replicate, ℤ, pos, negsuc, ◌≤ℤ◌, Option, Some, None, ◌∙◌, ap, sym, arith, append_assoc}
 use Rattle.std.specs.Prelude.{option_map, IfSome}
 use Rattle.std.specs.Fmt.{signed_decimal}
+use Rattle.std.proofs.lemmas.List.{replicate-append-replicate}
 use Rattle.std.proofs.lemmas.Fmt.{length_signed_le}
 use Rattle.std.proofs.lemmas.Int.{ints}
 use lib.Signed.{mag}
@@ -26,14 +27,19 @@ unfolding value_row
 value-pieces c text value unit =
     ap (λ t. row c (t ++ unit_text unit)) (append_assoc (filled 24 text) (replicate (8 - length value) 32) value)
 
--- the buffer after each piece
-pub pieces : (o0 o1 o2 o3 o4 text bytes value : Text) (n : ℕ) → o0 ≡ [] → bytes ≡ text → n ≡ length text → o1 ≡ o0 ++ bytes
-    → o2 ≡ o1 ++ replicate (24 - n) 32 → o3 ≡ o2 ++ replicate (8 - length value) 32 → o4 ≡ o3 ++ value
-    → o4 ≡ ((text ++ replicate (24 - length text) 32) ++ replicate (8 - length value) 32) ++ value
-pieces o0 o1 o2 o3 o4 text bytes value n e0 same long e1 e2 e3 e4 =
+-- the buffer after each piece, where all blanks come at once
+pub pieces : (o0 o1 o2 o3 text bytes value : Text) (n : ℕ) → o0 ≡ [] → bytes ≡ text → n ≡ length text → o1 ≡ o0 ++ bytes
+    → o2 ≡ o1 ++ replicate (24 - n + (8 - length value)) 32 → o3 ≡ o2 ++ value
+    → o3 ≡ ((text ++ replicate (24 - length text) 32) ++ replicate (8 - length value) 32) ++ value
+pieces o0 o1 o2 o3 text bytes value n e0 same long e1 e2 e3 =
     let first : o1 ≡ text = e1 ∙ ap (λ o. o ++ bytes) e0 ∙ same in
-    let second : o2 ≡ text ++ replicate (24 - length text) 32 = e2 ∙ ap (λ o. o ++ replicate (24 - n) 32) first ∙ ap (λ m. text ++ replicate (24 - m) 32) long in
-    e4 ∙ ap (λ o. o ++ value) (e3 ∙ ap (λ o. o ++ replicate (8 - length value) 32) second)
+    let blanks = replicate-append-replicate (24 - length text) (8 - length value) 32 in
+    let second : o2 ≡ (text ++ replicate (24 - length text) 32) ++ replicate (8 - length value) 32 =
+    e2 ∙ ap (λ o. o ++ replicate (24 - n + (8 - length value)) 32) first
+    ∙ ap (λ m. text ++ replicate (24 - m + (8 - length value)) 32) long
+    ∙ ap (λ bs. text ++ bs) (sym blanks)
+    ∙ sym (append_assoc text (replicate (24 - length text) 32) (replicate (8 - length value) 32)) in
+    e3 ∙ ap (λ o. o ++ value) second
 
 mag-short : (z : ℤ) → IsShort z → mag z ≤ 1000000
 mag-short (pos n) short =

@@ -1,5 +1,5 @@
 // The text of a row of a page, built in a buffer of fixed size.
-ghost use Rattle.std.specs.Prelude.{◌≡◌, ◌<◌, ◌≤◌, ◌+◌, ◌++◌, ℕ, ℤ, Option, None, length, replicate, option_map, slice_index_or, IfSome};
+ghost use Rattle.std.specs.Prelude.{◌≡◌, ◌<◌, ◌≤◌, ◌+◌, ◌++◌, ℕ, Option, None, length, replicate, option_map, IfSome};
 ghost use Rattle.ecam_spec.specs.declared.kinds.Colour.{Colour};
 ghost use Rattle.ecam_spec.specs.Picture as spec;
 ghost use Rattle.ecam_spec.specs.KeepsLimits.{IsSoundRow};
@@ -22,6 +22,9 @@ const TEXT_PLACES: usize = limits::VALUE_ROW_TEXT;
 
 /// In how many places a value stands.
 const VALUE_PLACES: usize = 8;
+
+/// How many blanks stand between a text and a value at the most: as many as `put_blanks` has.
+const BLANKS: usize = TEXT_PLACES + VALUE_PLACES;
 
 /// Writes the text of a page's row, and answers its colour. Costs one look-up of a value, where the row shows one.
 pub fn write_row(out: &mut RowText, book: &Book, row: &PageRow, values: &[Option<i64>]) -> Colour
@@ -88,10 +91,11 @@ fn write_value(out: &mut RowText, row: &PageRow, value: &[u8])
     ensures { (c : Colour) → spec.row c out.new.items
         ≡ value_row row.now.text.bytes (option_map bytes_of row.now.unit) c value.now }
 {
-    out.clear();
+    // A new text in its place, so that the old one needn't be wiped.
+    *out = RowText::new();
     put(out, row.text.as_bytes());
-    put_blanks(out, TEXT_PLACES - row.text.len());
-    put_blanks(out, VALUE_PLACES - value.len());
+    let blanks = TEXT_PLACES - row.text.len() + (VALUE_PLACES - value.len());
+    put_blanks(out, blanks);
     put(out, value);
     match &row.unit {
         None => {}
@@ -111,10 +115,10 @@ fn put(out: &mut RowText, bytes: &[u8])
 
 // Puts so many blanks, in one copy.
 fn put_blanks(out: &mut RowText, count: usize)
-    requires few { count ≤ TEXT_PLACES }
+    requires few { count ≤ BLANKS }
     requires room { length out.old.items + count ≤ ROW_TEXT }
     ensures { out.new.items ≡ out.old.items ++ replicate count 32 }
 {
-    let blanks = b"                        ".as_slice();
+    let blanks = b"                                ".as_slice();
     put(out, &blanks[..count]);
 }

@@ -11,8 +11,8 @@ pub returns-in-None : goal.returns-in-None
 returns-in-None c = λ colour.
     let text = c.args.row.now.text.bytes in
     let value = c.args.value.now in
-    let whole = pieces c.clear.new.self.items c.put.new.out.items c.put_blanks.new.out.items c.put_blanks-2.new.out.items c.put-2.new.out.items text c.as_bytes.result.now value c.len.result
-    c.clear.ensures (c.as_bytes.ensures.value ∙ c.deref.ensures.0) c.len.ensures.value c.put.ensures c.put_blanks.ensures c.put_blanks-2.ensures c.put-2.ensures in
+    let whole = pieces c.new.result.items c.put.new.out.items c.put_blanks.new.out.items c.put-2.new.out.items text c.as_bytes.result.now value c.len.result
+    c.new.ensures (c.as_bytes.ensures.value ∙ c.deref.ensures.0) c.len.ensures.value c.put.ensures c.put_blanks.ensures c.put-2.ensures in
     ap (spec.row colour) (whole ∙ sym (append-nil (((text ++ replicate (24 - length text) 32) ++ replicate (8 - length value) 32) ++ value)))
     ∙ value-pieces colour text value None
     ∙ ap (λ u. value_row text (option_map bytes_of u) colour value) (sym c.in-None.is)
@@ -22,8 +22,8 @@ returns-in-Some c = λ colour.
     let text = c.args.row.now.text.bytes in
     let value = c.args.value.now in
     let unit = c.in-Some.unit.bytes in
-    let whole = pieces c.clear.new.self.items c.put.new.out.items c.put_blanks.new.out.items c.put_blanks-2.new.out.items c.put-2.new.out.items text c.as_bytes.result.now value c.len.result
-    c.clear.ensures (c.as_bytes.ensures.value ∙ c.deref.ensures.0) c.len.ensures.value c.put.ensures c.put_blanks.ensures c.put_blanks-2.ensures c.put-2.ensures in
+    let whole = pieces c.new.result.items c.put.new.out.items c.put_blanks.new.out.items c.put-2.new.out.items text c.as_bytes.result.now value c.len.result
+    c.new.ensures (c.as_bytes.ensures.value ∙ c.deref.ensures.0) c.len.ensures.value c.put.ensures c.put_blanks.ensures c.put-2.ensures in
     let front = ((text ++ replicate (24 - length text) 32) ++ replicate (8 - length value) 32) ++ value in
     ap (spec.row colour)
     (c.put-in-Some-2.ensures
