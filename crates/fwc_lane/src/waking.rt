@@ -109,8 +109,7 @@ fn mark_counted(woken: &mut BitSet, cells: &mut Cells, term: usize, size: usize)
 }
 
 /// Wakes the conditions that name the flight phase, where it is another.
-// (It stands by itself, since the phase seldom turns.)
-#[inline(never)]
+#[inline(always)]
 pub fn wake_phase(terms: &mut Terms, book: &Book, other: bool, phase: Phase)
     requires fits { TermsFit (the_book book.now) terms.old }
     requires first { 1 ≤ phase.number }
@@ -121,11 +120,27 @@ pub fn wake_phase(terms: &mut Terms, book: &Book, other: bool, phase: Phase)
         + length (the_book book.now).alerts))
         (λ o. InPhase phase) terms.old terms.new }
 {
+    if other {
+        turn_phase(terms, book, phase);
+    }
+}
+
+// Wakes the conditions that name the flight phase. (It stands by itself, since the phase seldom turns.)
+#[inline(never)]
+fn turn_phase(terms: &mut Terms, book: &Book, phase: Phase)
+    requires fits { TermsFit (the_book book.now) terms.old }
+    requires first { 1 ≤ phase.number }
+    requires last { phase.number ≤ 10 }
+    ensures fits { TermsFit (the_book book.now) terms.new }
+    ensures wakes { HasWoken (the_book book.now)
+        (λ o. o == length (the_book book.now).parameters + length (the_book book.now).alerts)
+        (λ o. InPhase phase) terms.old terms.new }
+{
     wake(
         terms,
         book,
         book.params().len() + book.alerts().len(),
-        other,
+        true,
         Reading::InPhase(phase),
     );
 }
@@ -254,9 +269,28 @@ fn key_at(number: usize) -> Option<Key>
 }
 
 /// Wakes the conditions that name a computer which came up or failed.
-// (It stands by itself, since a computer seldom does.)
-#[inline(never)]
+#[inline(always)]
 pub fn wake_computers(terms: &mut Terms, book: &Book, one_up: bool, two_up: bool)
+    requires fits { TermsFit (the_book book.now) terms.old }
+    ensures fits { TermsFit (the_book book.now) terms.new }
+    ensures wakes { HasWoken (the_book book.now)
+        (λ o. (differ one_up terms.old.one_up && (o == length (the_book book.now).parameters
+        + length (the_book book.now).alerts + 26))
+        || (differ two_up terms.old.two_up && (o == length (the_book book.now).parameters
+        + length (the_book book.now).alerts + 27)))
+        (λ o. Flag (if o == length (the_book book.now).parameters
+        + length (the_book book.now).alerts + 26
+        then one_up else two_up))
+        terms.old terms.new }
+{
+    if differ(one_up, terms.one_up) || differ(two_up, terms.two_up) {
+        turn_computers(terms, book, one_up, two_up);
+    }
+}
+
+// The same, called where one did. (It stands by itself, since a computer seldom does.)
+#[inline(never)]
+fn turn_computers(terms: &mut Terms, book: &Book, one_up: bool, two_up: bool)
     requires fits { TermsFit (the_book book.now) terms.old }
     ensures fits { TermsFit (the_book book.now) terms.new }
     ensures wakes { HasWoken (the_book book.now)

@@ -1,16 +1,16 @@
-use Rattle.std.proofs.Common.{◌≡◌, ◌+◌, ◌&&◌, ◌==◌, length, ap, subst, arith}
+use Rattle.std.proofs.Common.{◌+◌, ◌&&◌, ◌==◌, Bool, length, sym, subst}
 use Rattle.book_model.specs.Sealed.{the_book}
-use Rattle.book_model.proofs.BookLists.{many-parameters, many-alerts}
 use Rattle.term_eval.specs.declared.reading.Reading.TheVariants.{InPhase}
 use Rattle.fwc_lane.specs.Waking.{HasWoken}
+use Rattle.fwc_lane.proofs.Awake.{awake-off}
 use Rattle.fwc_lane.proofs.waking.wake_phase.Goals as goal
 
-pub wake-requires-clause-operand : goal.wake-requires-clause-operand
-wake-requires-clause-operand c = omega (arith, ap length c.params.ensures.value, ap length c.alerts.ensures.value, many-parameters c.args.book.now, many-alerts c.args.book.now)
-
-pub returns-clause-wakes : goal.returns-clause-wakes
-returns-clause-wakes c =
+pub returns-then-other-clause-wakes : goal.returns-then-other-clause-wakes
+returns-then-other-clause-wakes c =
     let b = the_book c.args.book.now in
-    let e : length c.params.result.now + length c.alerts.result.now ≡ length b.parameters + length b.alerts =
-    omega (arith, ap length c.params.ensures.value, ap length c.alerts.ensures.value, many-parameters c.args.book.now, many-alerts c.args.book.now) in
-    subst (λ n. HasWoken b (λ o. c.args.other && (o == n)) (λ o. InPhase c.args.phase) c.args.terms.now c.wake.new.terms) e c.wake.ensures.wakes
+    subst (λ (x : Bool). HasWoken b (λ o. x && (o == length b.parameters + length b.alerts)) (λ o. InPhase c.args.phase) c.args.terms.now c.turn_phase.new.terms) (sym c.if-other.true) c.turn_phase.ensures.wakes
+
+pub returns-else-other-clause-wakes : goal.returns-else-other-clause-wakes
+returns-else-other-clause-wakes c =
+    let b = the_book c.args.book.now in
+    awake-off b (length b.parameters + length b.alerts) (λ o. InPhase c.args.phase) c.args.terms.now c.args.other c.if-other.false
