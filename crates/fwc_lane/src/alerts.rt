@@ -22,8 +22,7 @@ use book_model::{Book, Term};
 use ecam_kinds::Phase;
 use term_eval::Env;
 
-// Steps the condition of an alert, which sees these alerts. (What it sees is gathered in the first moment alone, since nothing
-// of it is looked at in a later one.)
+// Steps the condition of an alert, which sees these alerts.
 #[inline(always)]
 fn step_own(
     terms: &mut Terms,
@@ -42,17 +41,35 @@ fn step_own(
     ensures fits { (b : plain.Book) → TermsFit b terms.old → TermsFit b terms.new }
     ensures steps { (b : plain.Book) → TermsFit b terms.old
         → slice_get (places b) number ≡ Some (placed_of own.now)
-        → StepsTerm (places b) (record env.now { active = before.entry }) now number (placed_of own.now)
-        terms.old terms.new result }
+        → StepsTerm (places b) (record env.now { active = before.entry }) now number
+        (placed_of own.now) terms.old terms.new result }
 {
     if now > 0 {
         return step_later(terms, number, now);
     }
-    let earlier = Env {
+    begin_own(terms, number, own, before, env)
+}
+
+// The same by the first moment. (It stands by itself, since what the condition sees is gathered there, and nothing of it is
+// looked at in a later moment.)
+#[inline(never)]
+fn begin_own(terms: &mut Terms, number: usize, own: &Term, before: &[bool], env: &Env<'_>) -> bool
+    requires place { (b : plain.Book) × TermsFit b terms.old
+        × (slice_get (places b) number ≡ Some (placed_of own.now)) }
+    requires names { IsWithin (length env.now.values.now) (length before.now) (tree_in own.now) }
+    requires first { 1 ≤ env.now.phase.number }
+    requires last { env.now.phase.number ≤ 10 }
+    ensures fits { (b : plain.Book) → TermsFit b terms.old → TermsFit b terms.new }
+    ensures steps { (b : plain.Book) → TermsFit b terms.old
+        → slice_get (places b) number ≡ Some (placed_of own.now)
+        → StepsTerm (places b) (record env.now { active = before.entry }) 0 number
+        (placed_of own.now) terms.old terms.new result }
+{
+    let first = Env {
         active: before,
         ..*env
     };
-    step_term(terms, number, own, &earlier, now)
+    step_term(terms, number, own, &first, 0)
 }
 
 /// Steps one alert and its condition by moment `now`. The condition sees the alerts before it in the book as they are in
