@@ -1,4 +1,4 @@
-use Rattle.std.proofs.Common.{◌<◌, length, IfSome, sym, subst, ◌∙◌}
+use Rattle.std.proofs.Common.{◌<◌, IfSome, sym, subst, ◌∙◌}
 use Rattle.ecam_spec.specs.Situation.{strokes_in}
 use Rattle.ecam_kinds.specs.KeyState.{KeysStand}
 use Rattle.book_model.specs.Sealed.{the_book}
