@@ -8,7 +8,7 @@ ghost use Rattle.warning_display.specs.ShownPlaces.{HasPlaces};
 use wakes::Marked;
 
 // So many flags are looked at together, in a few instructions.
-const BLOCK: usize = 64;
+const BLOCK: usize = 16;
 
 /// The first number from one on, before an end, whose flag is set; the end where there is none. Costs a look at each
 /// flag that it goes over, and nothing else; where many in a row aren't set, these are looked at together.
