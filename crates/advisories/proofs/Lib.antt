@@ -5,3 +5,4 @@ pub mod Told
 pub mod Eras
 pub mod RowsAtTicks
 pub mod Lent
+pub mod Ended

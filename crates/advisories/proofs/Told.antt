@@ -1,7 +1,6 @@
 -- What is told in a moment by what is kept of the advisories.
-use Rattle.std.proofs.Common.{◌≡◌, ℕ, suc, ◌+◌, ◌<◌, Bool, true, false, not, ◌&&◌, cond, ℤ, List, [], ◌∷◌, map, get_or, Option, None, refl, ◌∙◌, ap}
-use Rattle.std.specs.Prelude.{filter, if◌then◌else◌}
-use Rattle.std.specs.List.{All}
+use Rattle.std.proofs.Common.{◌≡◌, ℕ, suc, ◌<◌, Bool, true, false, not, ◌&&◌, cond, ℤ, List, [], ◌∷◌, map, length, Option, refl, ◌∙◌, ap}
+use Rattle.std.specs.Prelude.{filter}
 use Rattle.std.proofs.lemmas.List.Elements.{All-cons, All-nil, All-head, All-tail}
 use Rattle.ecam_spec.specs.Past.{previous}
 use Rattle.ecam_spec.specs.Term.{in_set}
@@ -12,7 +11,7 @@ use Rattle.view_spec.specs.Advisories as plain
 use Rattle.view_spec.specs.Advisories.{is_advised, rows_of_told, is_free, rows_in, drift}
 use Rattle.advisories.specs.declared.drift.Drift.{Drift}
 use Rattle.advisories.specs.declared.watches.Watch.{Watch}
-use Rattle.advisories.specs.Watches.{watched, all_watched, next_drift, rested, stepped, is_told, IsWatched, AreWatched}
+use Rattle.advisories.specs.Watches.{watched, all_watched, AreWithin, rested, stepped, is_told, IsWatched, AreWatched}
 use Rattle.advisories.proofs.Drifting.{rest-stands, next-stands}
 
 -- a rest, and a moment, leave the advisories themselves
@@ -20,7 +19,7 @@ pub rest-watched : (ws : List Watch) → all_watched (map rested ws) ≡ all_wat
 rest-watched [] = refl
 rest-watched (w ∷ ws) = ap (λ rest. watched w ∷ rest) (rest-watched ws)
 
-pub step-watched : (values : List (Option ℤ)) (ws : List Watch) → all_watched (map (stepped values) ws) ≡ all_watched ws
+pub step-watched : (values : ℕ → Option ℤ) (ws : List Watch) → all_watched (map (stepped values) ws) ≡ all_watched ws
 step-watched values [] = refl
 step-watched values (w ∷ ws) = ap (λ rest. watched w ∷ rest) (step-watched values ws)
 
@@ -30,18 +29,24 @@ rest-all values [] = All-nil (IsWatched values 0)
 rest-all values (w ∷ ws) = All-cons (IsWatched values 0) (rested w) (map rested ws) (rest-stands (watched w) (values w.advisory.param)) (rest-all values ws)
 
 -- after a moment with these values for one moment more
-module _ (values : ℕ → ℕ → Option ℤ) (k count : ℕ) (told : List (Option ℤ)) (are : (p : ℕ) → p < count → get_or told p None ≡ values p k) where
-  step-one : (w : Watch) → w.advisory.param < count → IsWatched values k w → IsWatched values (suc k) (stepped told w)
-  step-one w within stands =
-      ap (λ v. next_drift (watched w) v w.drift) (are w.advisory.param within)
-      ∙ next-stands (watched w) (values w.advisory.param) k w.drift stands
+module _ (values : ℕ → ℕ → Option ℤ) (k : ℕ) where
+  step-one : (w : Watch) → IsWatched values k w → IsWatched values (suc k) (stepped (λ p. values p k) w)
+  step-one w stands = next-stands (watched w) (values w.advisory.param) k w.drift stands
 
-  pub step-all : (ws : List Watch) → All (λ (a : plain.Advisory). a.param < count) (all_watched ws) → AreWatched values k ws → AreWatched values (suc k) (map (stepped told) ws)
-  step-all [] within stand = All-nil (IsWatched values (suc k))
-  step-all (w ∷ ws) within stand =
-      All-cons (IsWatched values (suc k)) (stepped told w) (map (stepped told) ws)
-      (step-one w (All-head (λ (a : plain.Advisory). a.param < count) (watched w) (all_watched ws) within) (All-head (IsWatched values k) w ws stand))
-      (step-all ws (All-tail (λ (a : plain.Advisory). a.param < count) (watched w) (all_watched ws) within) (All-tail (IsWatched values k) w ws stand))
+  pub step-all : (ws : List Watch) → AreWatched values k ws → AreWatched values (suc k) (map (stepped (λ p. values p k)) ws)
+  step-all [] stand = All-nil (IsWatched values (suc k))
+  step-all (w ∷ ws) stand =
+      All-cons (IsWatched values (suc k)) (stepped (λ p. values p k) w) (map (stepped (λ p. values p k)) ws)
+      (step-one w (All-head (IsWatched values k) w ws stand))
+      (step-all ws (All-tail (IsWatched values k) w ws stand))
+
+-- where the book's limits hold, their parameters are the book's
+pub fit-within : (b : Book) (ws : List Watch) → plain.Fit b (all_watched ws) → AreWithin (length b.parameters) ws
+fit-within b [] fit = All-nil (λ (w : Watch). w.advisory.param < length b.parameters)
+fit-within b (w ∷ ws) fit =
+    All-cons (λ (w : Watch). w.advisory.param < length b.parameters) w ws
+    (All-head (plain.IsWithin b) (watched w) (all_watched ws) fit).param
+    (fit-within b ws (All-tail (plain.IsWithin b) (watched w) (all_watched ws) fit))
 
 -- what is told in the moment just stepped is what is advised in it
 module _ (b : Book) (m : ℕ → Moment) (k phase : ℕ) (is : phase ≡ phase_in b m k) where

@@ -1,12 +1,11 @@
 -- What is kept of all advisories: each beside its own.
-use Rattle.std.specs.Prelude.{◌≡◌, ℕ, ◌&&◌, ◌||◌, not, nat_lt, Bool, false, ℤ, List, map, get_or, Option, None, is_some, All}
+use Rattle.std.specs.Prelude.{◌≡◌, ℕ, ◌<◌, ◌&&◌, ◌||◌, not, nat_lt, Bool, false, ℤ, List, map, Option, is_some, All}
 use Rattle.ecam_spec.specs.Term.{in_set, is_so}
 use Rattle.view_spec.specs.Advisories as plain
 use Rattle.view_spec.specs.Advisories.{is_outside, is_well_inside}
 use Rattle.advisories.specs.View.{advisory_of}
 use Rattle.advisories.specs.Drifts.{next_run, drift_after}
 use Rattle.advisories.specs.declared.drift.Drift.{Drift}
-use Rattle.advisories.specs.declared.limits.Advisory.{Advisory}
 use Rattle.advisories.specs.declared.watches.Watch.{Watch}
 
 -- the advisories that are watched
@@ -32,8 +31,12 @@ next_drift a value d =
       drifts = nat_lt a.confirm run || ((is_some value && not (is_so (is_well_inside a) value)) && d.drifts);
     }
 
-abbrev pub stepped : List (Option ℤ) → Watch → Watch
-stepped values w = record w { drift = next_drift (watched w) (get_or values w.advisory.param None) w.drift }
+abbrev pub stepped : (ℕ → Option ℤ) → Watch → Watch
+stepped values w = record w { drift = next_drift (watched w) (values w.advisory.param) w.drift }
+
+-- their parameters are among so many
+abbrev pub AreWithin : ℕ → List Watch → Type 0
+AreWithin count ws = All (λ (w : Watch). w.advisory.param < count) ws
 
 -- it is told in a moment of this phase
 abbrev pub is_told : ℕ → Watch → Bool

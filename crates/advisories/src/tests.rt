@@ -1,4 +1,7 @@
 // Files with a fault, and values that drift. What is expected was read off the rules by hand.
+ghost use Rattle.book_model.specs.Sealed.{the_book};
+ghost use Rattle.fwc_lane.specs.LaneFits.{LaneFits};
+
 use super::*;
 use crate::drift::Drift;
 use crate::panel::{Panel, block, counted_name, name_text};
@@ -6,7 +9,8 @@ use bitflags::Flags;
 use book_checker::seal;
 use book_model::{Book, LoadError, Name};
 use book_reader::read_book;
-use ecam_kinds::PhaseSet;
+use ecam_kinds::{Event, PhaseSet};
+use fwc_pair::Lane;
 use std::alloc::{AllocError, Global};
 use std::process::Abort;
 use std::test::*;
@@ -292,6 +296,46 @@ fn values_drift(rt: HostRuntime) {
             assert_eq!(rt; drift.drifts, *drifts, "run {i}, moment {k}");
         }
     }
+}
+
+// The value of the discrete in the last whole moment.
+fn discrete_of(lane: &Lane, book: &Book) -> Option<i64>
+    requires { LaneFits (the_book book.now) lane.now }
+{
+    if book.params().is_empty() {
+        return None;
+    }
+    lane.value(book, 0)
+}
+
+#[test]
+fn values_are_told_that_nothing_asks_for(rt: HostRuntime) -> Result<(), Fail> {
+    // The book has no condition and no page that asks for a value.
+    let book = book_of(rt.alloc())?;
+    let set = Event::Word {
+        bus: 0,
+        bits: 0x41d,
+    };
+    let unset = Event::Word {
+        bus: 0,
+        bits: 0x8000_001d,
+    };
+    let mut lane = Lane::new(rt.alloc(), &book)?;
+    // before the first moment there is none
+    lane.event(&book, &set, true, false);
+    assert_eq!(rt; discrete_of(&lane, &book), None);
+    lane.event(&book, &Event::Tick, true, false);
+    assert_eq!(rt; discrete_of(&lane, &book), Some(1));
+    // words of the moment that hasn't ended change nothing
+    lane.event(&book, &unset, true, false);
+    lane.event(&book, &set, true, false);
+    lane.event(&book, &unset, true, false);
+    assert_eq!(rt; discrete_of(&lane, &book), Some(1));
+    lane.event(&book, &Event::Tick, true, false);
+    assert_eq!(rt; discrete_of(&lane, &book), Some(0));
+    lane.event(&book, &Event::Tick, true, false);
+    assert_eq!(rt; discrete_of(&lane, &book), Some(0));
+    Ok(())
 }
 
 #[test]

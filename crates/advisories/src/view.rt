@@ -17,7 +17,7 @@ ghost use Rattle.view_spec.proofs.TickLaws.{each_tick_nil, each_tick_begun};
 ghost use Rattle.advisories.specs.View.{limits_of};
 ghost use Rattle.advisories.specs.Watches.{all_watched, is_told, AreWatched};
 ghost use Rattle.advisories.specs.Panel.{rows_of};
-ghost use Rattle.advisories.specs.State.{settings_of, StandInEra, StandAfter};
+ghost use Rattle.advisories.specs.State.{settings_of, HasEnded, StandInEra, StandAfter};
 
 use crate::limits::Limits;
 use crate::panel::{Block, Panel, RowText, block, counted_name, end_line, name_text};
@@ -114,32 +114,30 @@ fn called_page(book: &Book, page: u32, free: bool) -> RowText
 
 // Steps the advisories by the last moment of a computer, and answers the rows.
 fn step_up(watches: &mut [Watch], book: &Book, lane: &Lane) -> Panel
-    requires { (m : ℕ → Moment) × ((k : ℕ) × WholeStands (the_book book.now) m (suc k) lane.now) }
+    requires ended { (m : ℕ → Moment) × (k : ℕ) × HasEnded (the_book book.now) m k lane.now }
+    requires fit { spec.Fit (the_book book.now) (all_watched watches.old) }
     ensures settings { all_watched watches.new ≡ all_watched watches.old }
-    ensures rows { (m : ℕ → Moment) (k : ℕ) → WholeStands (the_book book.now) m (suc k) lane.now
-        → spec.Fit (the_book book.now) (all_watched watches.old)
+    ensures rows { (m : ℕ → Moment) (k : ℕ) → HasEnded (the_book book.now) m k lane.now
         → AreWatched (value_in (the_book book.now) m) k watches.old
         → rows_of result ≡ spec.rows_in (the_book book.now) m (all_watched watches.old) k }
-    ensures stands { (m : ℕ → Moment) (k : ℕ) → WholeStands (the_book book.now) m (suc k) lane.now
-        → spec.Fit (the_book book.now) (all_watched watches.old)
+    ensures stands { (m : ℕ → Moment) (k : ℕ) → HasEnded (the_book book.now) m k lane.now
         → AreWatched (value_in (the_book book.now) m) k watches.old
         → AreWatched (value_in (the_book book.now) m) (suc k) watches.new }
 {
-    step(watches, &lane.values);
+    step(watches, lane, book);
     panel_of(watches, book, lane.phase, is_free(lane))
 }
 
 // Steps the advisories by the moment that a Tick ended, which the pair has taken already, and answers the rows.
 fn step_by(watches: &mut [Watch], book: &Book, pair: &Pair) -> Panel
-    requires { (h : List Event) × PairStands (the_book book.now) (h ++ Tick ∷ []) pair.now }
+    requires pair { (h : List Event) × PairStands (the_book book.now) (h ++ Tick ∷ []) pair.now }
+    requires fit { spec.Fit (the_book book.now) (all_watched watches.old) }
     ensures settings { all_watched watches.new ≡ all_watched watches.old }
     ensures rows { (h : List Event) → PairStands (the_book book.now) (h ++ Tick ∷ []) pair.now
-        → spec.Fit (the_book book.now) (all_watched watches.old)
         → (is_up h ≡ true → StandInEra (the_book book.now) (era h) watches.old)
         → rows_of result
         ≡ spec.rows_at (the_book book.now) (all_watched watches.old) (h ++ Tick ∷ []) }
     ensures stands { (h : List Event) → PairStands (the_book book.now) (h ++ Tick ∷ []) pair.now
-        → spec.Fit (the_book book.now) (all_watched watches.old)
         → (is_up h ≡ true → StandInEra (the_book book.now) (era h) watches.old) → is_up h ≡ true
         → StandInEra (the_book book.now) (era (h ++ Tick ∷ [])) watches.new }
 {
@@ -190,17 +188,16 @@ impl Advisories {
         requires ticks { self.old.ticks < 2 ^ 32 }
         requires pair { (h : List Event)
             × PairStands (the_book book.now) (h ++ Tick ∷ []) pair.now }
+        requires fit { spec.Fit (the_book book.now) (settings_of self.old) }
         ensures settings { settings_of self.new ≡ settings_of self.old }
         ensures ticks { self.new.ticks ≡ self.old.ticks + 1 }
         ensures block { result.items
             ≡ spec.block self.old.ticks (rows_of self.old.panel) (rows_of self.new.panel) }
         ensures panel { (h : List Event) → PairStands (the_book book.now) (h ++ Tick ∷ []) pair.now
-            → spec.Fit (the_book book.now) (settings_of self.old)
             → (is_up h ≡ true → StandInEra (the_book book.now) (era h) self.old.watches.items)
             → rows_of self.new.panel
             ≡ spec.rows_at (the_book book.now) (settings_of self.old) (h ++ Tick ∷ []) }
         ensures stands { (h : List Event) → PairStands (the_book book.now) (h ++ Tick ∷ []) pair.now
-            → spec.Fit (the_book book.now) (settings_of self.old)
             → (is_up h ≡ true → StandInEra (the_book book.now) (era h) self.old.watches.items)
             → is_up h ≡ true
             → StandInEra (the_book book.now) (era (h ++ Tick ∷ [])) self.new.watches.items }
@@ -214,9 +211,9 @@ impl Advisories {
 
     // Takes an event, which the pair has taken already, and answers what is written at it.
     fn take(&mut self, book: &Book, pair: &Pair, event: &Event, fresh: bool) -> Block
-        requires { (h : List Event) × (StandAfter (the_book book.now) h self.old
-            × (IsNext (the_book book.now) h event.now fresh pair.now
-            × spec.Fit (the_book book.now) (settings_of self.old))) }
+        requires { (h : List Event) × StandAfter (the_book book.now) h self.old
+            × IsNext (the_book book.now) h event.now fresh pair.now
+            × spec.Fit (the_book book.now) (settings_of self.old) }
         ensures settings { settings_of self.new ≡ settings_of self.old }
         ensures stands { (h : List Event) → StandAfter (the_book book.now) h self.old
             → IsNext (the_book book.now) h event.now fresh pair.now
@@ -237,8 +234,8 @@ impl Advisories {
     }
 }
 
-/// What a Tick changes is written as soon as the pair has taken it. A Tick costs a few looks at each advisory; another
-/// event costs nothing, but for one that begins an era.
+/// What a Tick changes is written as soon as the pair has taken it. A Tick costs a few looks at each advisory and
+/// one at each source of its parameter; another event costs nothing, but for one that begins an era.
 impl View for Advisories {
     ghost Settings = { List spec.Advisory };
 

@@ -1,12 +1,19 @@
 // The advisories, and what is kept of each.
-ghost use Rattle.std.specs.Prelude.{◌≡◌, ◌≤◌, length, map, filter, get_or, option_map, None, IfOk};
+ghost use Rattle.std.specs.Prelude.{◌≡◌, ◌<◌, ◌≤◌, ℕ, length, map, filter, option_map, IfOk};
 ghost use Rattle.ecam_spec.specs.Places.{first_in};
+ghost use Rattle.ecam_spec.specs.History.{Moment};
+ghost use Rattle.ecam_spec.specs.Situation.{value_in};
+ghost use Rattle.book_model.specs.Sealed.{the_book};
+ghost use Rattle.fwc_lane.specs.LaneFits.{LaneFits};
 ghost use Rattle.advisories.specs.View.{list_of};
-ghost use Rattle.advisories.specs.Watches.{all_watched, rested, stepped, is_told};
+ghost use Rattle.advisories.specs.Watches.{watched, all_watched, AreWithin, rested, stepped, is_told};
+ghost use Rattle.advisories.specs.State.{HasEnded};
 
 use crate::drift::Drift;
 use crate::limits::Advisory;
+use book_model::Book;
 use ecam_kinds::Phase;
+use fwc_pair::Lane;
 use std::alloc::{AllocError, Global};
 
 /// An advisory, and what the moments so far leave of it.
@@ -46,28 +53,28 @@ pub(crate) fn rest(watches: &mut [Watch])
     }
 }
 
-fn value_at(values: &[Option<i64>], param: u32) -> Option<i64>
-    ensures { result ≡ get_or values.now param None }
+fn step_one(watch: &mut Watch, lane: &Lane, book: &Book)
+    requires fits { LaneFits (the_book book.now) lane.now }
+    requires within { watch.old.advisory.param < length book.now.params.items }
+    ensures watched { watched watch.new ≡ watched watch.old }
+    ensures stepped { (m : ℕ → Moment) (k : ℕ) → HasEnded (the_book book.now) m k lane.now
+        → watch.new ≡ stepped (λ p. value_in (the_book book.now) m p k) watch.old }
 {
-    match values.get(param as usize) {
-        Some(value) => *value,
-        None => None,
-    }
-}
-
-fn step_one(watch: &mut Watch, values: &[Option<i64>])
-    ensures { watch.new ≡ stepped values.now watch.old }
-{
-    let value = value_at(values, watch.advisory.param);
+    let value = lane.value(book, watch.advisory.param as usize);
     watch.drift = watch.drift.next(&watch.advisory, value);
 }
 
-/// Takes one moment more, in which the parameters have these values. It costs a look at each advisory.
-pub(crate) fn step(watches: &mut [Watch], values: &[Option<i64>])
-    ensures { watches.new ≡ map (stepped values.now) watches.old }
+/// Takes one moment more, the last whole one of a computer. It costs a look at each advisory, and one at each source of its
+/// parameter.
+pub(crate) fn step(watches: &mut [Watch], lane: &Lane, book: &Book)
+    requires fits { LaneFits (the_book book.now) lane.now }
+    requires within { AreWithin (length book.now.params.items) watches.old }
+    ensures watched { all_watched watches.new ≡ all_watched watches.old }
+    ensures stepped { (m : ℕ → Moment) (k : ℕ) → HasEnded (the_book book.now) m k lane.now
+        → watches.new ≡ map (stepped (λ p. value_in (the_book book.now) m p k)) watches.old }
 {
     for i in 0..watches.len() {
-        step_one(&mut watches[i], values);
+        step_one(&mut watches[i], lane, book);
     }
 }
 

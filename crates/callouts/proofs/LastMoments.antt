@@ -1,5 +1,5 @@
 -- A Tick: the moment that it ends, the value in that, and what is called.
-use Rattle.std.proofs.Common.{◌≡◌, ℕ, suc, ◌<◌, Bool, true, false, not, None, List, [], ◌∷◌, ◌++◌, length, get_or, cond, refl, sym, ◌∙◌, ap, arith}
+use Rattle.std.proofs.Common.{◌≡◌, ℕ, suc, ◌<◌, Bool, true, false, not, None, List, [], ◌∷◌, ◌++◌, length, cond, refl, sym, ◌∙◌, ap, arith}
 use Rattle.ecam_spec.specs.declared.kinds.Event.{Event}
 use Rattle.ecam_spec.specs.declared.kinds.Event.TheVariants.{Tick}
 use Rattle.ecam_spec.specs.Book.{Book}
@@ -11,8 +11,7 @@ use Rattle.ecam_spec.proofs.MomentSteps.{moment_tick, length_tick}
 use Rattle.param_table.specs.TableState.{value_before}
 use Rattle.view_spec.specs.Ticks.{is_up, last_moment}
 use Rattle.view_spec.specs.Callouts.{call, called}
-use Rattle.fwc_lane.specs.declared.lane.Lane.{Lane}
-use Rattle.fwc_lane.specs.LaneStands.{Continues, LaneStands}
+use Rattle.fwc_lane.specs.LaneStands.{Continues}
 use Rattle.fwc_pair.specs.declared.pair.Pair.{Pair}
 use Rattle.fwc_pair.specs.PairState.{flags_of, PairStands}
 use Rattle.fwc_pair.proofs.Pairs.{some-up}
@@ -39,14 +38,6 @@ module _ (h : List Event) where
       ∙ moment_tick (era h) i (omega arith)
 
   module _ (b : Book) where
-    -- the lane tells the value of the moment that ended
-    pub value-told : (l : Lane) (param : ℕ) → LaneStands b ended l → param < length l.values.items → (m : ℕ → Moment) → Continues ended m
-        → get_or l.values.items param None ≡ value_in b m param (length (era h).moments)
-    unfolding value_before value_in
-    value-told l param stands within m goes =
-        (stands.whole m goes).values param (omega (arith, within, stands.fits.values))
-        ∙ ap (value_before (parameter_at b param) (words_in b m)) ended-count
-
     module _ (c : Callouts) (stand : is_up h ≡ true → StandInEra b (era h) c) where
       -- before it the callouts stood for the moments of the era
       pub stood : is_up (h ++ Tick ∷ []) ≡ true → (m : ℕ → Moment) → Continues ended m

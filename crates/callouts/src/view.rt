@@ -8,6 +8,8 @@ ghost use Rattle.ecam_spec.specs.Replay.{is_tick};
 ghost use Rattle.ecam_spec.specs.Situation.{value_in};
 ghost use Rattle.view_spec.specs.Ticks.{is_up, begins_anew};
 ghost use Rattle.view_spec.specs.Callouts as spec;
+ghost use Rattle.book_model.specs.Sealed.{the_book};
+ghost use Rattle.fwc_lane.specs.LaneFits.{LaneFits};
 ghost use Rattle.fwc_lane.specs.LaneStands.{Continues, LaneStands};
 ghost use Rattle.fwc_pair.specs.PairState.{PairStands};
 ghost use Rattle.fwc_pair.specs.Views.{IsNext};
@@ -36,40 +38,42 @@ impl Callouts {
     }
 
     // Takes a Tick, which the pair has taken already, and answers the height that is called at it, or none.
-    fn tick(&mut self, pair: &Pair) -> Option<u32>
+    fn tick(&mut self, book: &Book, pair: &Pair) -> Option<u32>
         requires ticks { self.old.ticks < 2 ^ 32 }
-        requires param { (b : plain.Book) × ((h : List Event) × (PairStands b h pair.now
-            × (self.old.param < length b.parameters))) }
+        requires param { self.old.param < length (the_book book.now).parameters }
+        requires pair { (h : List Event) × PairStands (the_book book.now) h pair.now }
         ensures param { self.new.param ≡ self.old.param }
         ensures ticks { self.new.ticks ≡ self.old.ticks + 1 }
-        ensures call { (b : plain.Book) (h : List Event) → PairStands b (h ++ Tick ∷ []) pair.now
-            → (is_up h ≡ true → StandInEra b (era h) self.old)
-            → result ≡ spec.called b self.old.param (h ++ Tick ∷ []) }
-        ensures stands { (b : plain.Book) (h : List Event) → PairStands b (h ++ Tick ∷ []) pair.now
-            → (is_up h ≡ true → StandInEra b (era h) self.old) → is_up h ≡ true
-            → StandInEra b (era (h ++ Tick ∷ [])) self.new }
+        ensures call { (h : List Event) → PairStands (the_book book.now) (h ++ Tick ∷ []) pair.now
+            → (is_up h ≡ true → StandInEra (the_book book.now) (era h) self.old)
+            → result ≡ spec.called (the_book book.now) self.old.param (h ++ Tick ∷ []) }
+        ensures stands { (h : List Event) → PairStands (the_book book.now) (h ++ Tick ∷ []) pair.now
+            → (is_up h ≡ true → StandInEra (the_book book.now) (era h) self.old) → is_up h ≡ true
+            → StandInEra (the_book book.now) (era (h ++ Tick ∷ [])) self.new }
     {
         self.ticks += 1;
         let lane = pair.lane()?;
-        self.step(value_in(lane, self.param))
+        self.step(value_in(lane, book, self.param))
     }
 
     // Takes an event, which the pair has taken already, and answers the height that is called at it, or none.
-    fn take(&mut self, pair: &Pair, event: &Event, fresh: bool) -> Option<u32>
-        requires { (b : plain.Book) × ((h : List Event) × (StandAfter b h self.old
-            × (IsNext b h event.now fresh pair.now × (self.old.param < length b.parameters)))) }
+    fn take(&mut self, book: &Book, pair: &Pair, event: &Event, fresh: bool) -> Option<u32>
+        requires { (h : List Event) × (StandAfter (the_book book.now) h self.old
+            × (IsNext (the_book book.now) h event.now fresh pair.now
+            × (self.old.param < length (the_book book.now).parameters))) }
         ensures param { self.new.param ≡ self.old.param }
-        ensures stands { (b : plain.Book) (h : List Event) → StandAfter b h self.old
-            → IsNext b h event.now fresh pair.now
-            → StandAfter b (h ++ event.now ∷ []) self.new }
-        ensures text { (b : plain.Book) (h : List Event) → StandAfter b h self.old
-            → IsNext b h event.now fresh pair.now
-            → spec.text b self.old.param (h ++ event.now ∷ [])
-            ≡ spec.text b self.old.param h ++ spec.call_line self.old.ticks result }
+        ensures stands { (h : List Event) → StandAfter (the_book book.now) h self.old
+            → IsNext (the_book book.now) h event.now fresh pair.now
+            → StandAfter (the_book book.now) (h ++ event.now ∷ []) self.new }
+        ensures text { (h : List Event) → StandAfter (the_book book.now) h self.old
+            → IsNext (the_book book.now) h event.now fresh pair.now
+            → spec.text (the_book book.now) self.old.param (h ++ event.now ∷ [])
+            ≡ spec.text (the_book book.now) self.old.param h
+            ++ spec.call_line self.old.ticks result }
     {
         self.begin(fresh);
         if is_tick(event) {
-            self.tick(pair)
+            self.tick(book, pair)
         } else {
             None
         }
@@ -77,13 +81,14 @@ impl Callouts {
 }
 
 // The value of a parameter in the moment that the last Tick ended.
-fn value_in(lane: &Lane, param: u32) -> Option<i64>
-    requires { param < length lane.now.values.items }
-    ensures { (b : plain.Book) (h : List Event) → LaneStands b (era (h ++ Tick ∷ [])) lane.now
+fn value_in(lane: &Lane, book: &Book, param: u32) -> Option<i64>
+    requires fits { LaneFits (the_book book.now) lane.now }
+    requires param { param < length book.now.params.items }
+    ensures { (h : List Event) → LaneStands (the_book book.now) (era (h ++ Tick ∷ [])) lane.now
         → (m : ℕ → Moment) → Continues (era (h ++ Tick ∷ [])) m
-        → result ≡ value_in b m param (length (era h).moments) }
+        → result ≡ value_in (the_book book.now) m param (length (era h).moments) }
 {
-    lane.values[param as usize]
+    lane.value(book, param as usize)
 }
 
 // Whether an event ends a moment.
@@ -93,8 +98,8 @@ fn is_tick(event: &Event) -> bool
     matches!(event, Event::Tick)
 }
 
-/// A call is written as soon as the pair has taken the Tick at which it comes. An event that is no Tick costs nothing, but
-/// for one that begins an era.
+/// A call is written as soon as the pair has taken the Tick at which it comes. A Tick costs two looks at each height and one
+/// at each source of the parameter; another event costs nothing, but for one that begins an era.
 impl View for Callouts {
     ghost Settings = { ℕ };
 
@@ -115,14 +120,14 @@ impl View for Callouts {
 
     fn event<O: Sink>(
         &mut self,
-        _book: &Book,
+        book: &Book,
         pair: &Pair,
         event: &Event,
         fresh: bool,
         out: &mut O,
     ) -> Result<(), Failed> {
         let tick = self.ticks;
-        match self.take(pair, event, fresh) {
+        match self.take(book, pair, event, fresh) {
             Some(height) => put_all(out, call_line(tick, height).as_slice()),
             None => Ok(()),
         }

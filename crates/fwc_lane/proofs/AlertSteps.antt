@@ -20,7 +20,6 @@ use Rattle.alert_truth.specs.declared.truths.Truths.{Truths}
 use Rattle.alert_truth.specs.Alerts.{active}
 use Rattle.alert_truth.specs.TruthsState.{HalfStand, TruthsStand, OthersStay}
 use Rattle.term_eval.specs.declared.env.Env.{Env}
-use Rattle.term_eval.specs.Shown.{Shows}
 use Rattle.term_eval.specs.declared.reading.Reading.TheVariants.{Flag}
 use Rattle.term_eval.specs.Woken.{Operand, moved, differ}
 use Rattle.condition_codes.specs.Places.{nodes_before}
@@ -29,7 +28,7 @@ use Rattle.wakes.specs.Marks.{is_marked}
 use Rattle.alert_truth.proofs.Stepping.{half-rests, half-waits, moment-begins}
 use Rattle.fwc_lane.specs.Waking.{NoneMarked}
 use Rattle.fwc_lane.specs.Conditions.{IsLeft, HalfStepped, StepsTerm, TellsMoved, BookHalf, AlertsHalf, known_world}
-use Rattle.fwc_lane.specs.Given.{Lends}
+use Rattle.fwc_lane.specs.Given.{Lends, ShowsFirst}
 use Rattle.fwc_lane.proofs.Showing.{shows-own, active-is}
 use Rattle.fwc_lane.proofs.Stages.{same-tells}
 use Rattle.fwc_lane.proofs.Known.{alert-known}
@@ -47,8 +46,8 @@ module _ (d : Draft) (sealed : IsSealed d) (xs : List Alert) (a : ℕ) (x : Aler
   own-is : world_of (the_book d) m (alerts_from + a) ≡ alert_world (the_book d) m (known_below (the_book d) m a)
   own-is = own-world (the_book d) m a (omega (arith, many-alerts d, ap length same))
 
-  shown : Shows env (world_of (the_book d) m (alerts_from + a)) k
-  shown = subst (λ w. Shows env w k) (sym own-is) (shows-own (the_book d) m k env lends t a phase actives half.alerts)
+  shown : ShowsFirst env (world_of (the_book d) m (alerts_from + a)) k
+  shown = subst (λ w. ShowsFirst env w k) (sym own-is) (shows-own (the_book d) m k env lends t a phase actives half.alerts)
 
   tells : TellsMoved (moved (known_world (the_book d) m (suc a)) k) (world_of (the_book d) m (alerts_from + a)) k (placed_of x.when)
   tells = same-tells (known_world (the_book d) m (suc a)) (world_of (the_book d) m (alerts_from + a)) k (placed_of x.when) own-is

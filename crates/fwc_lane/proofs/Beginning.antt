@@ -17,6 +17,7 @@ use Rattle.ecam_kinds.specs.declared.keys.Keys.{Keys}
 use Rattle.book_model.specs.declared.draft.Draft.{Draft}
 use Rattle.book_model.specs.Sealed.{the_book, IsSealed}
 use Rattle.book_model.specs.Conditions.{places, world_of}
+use Rattle.param_table.specs.Asked.{is_asked_for}
 use Rattle.param_table.specs.declared.table.Params.{Params}
 use Rattle.term_eval.specs.Asked.{heard}
 use Rattle.term_eval.specs.CellState.{Stand}
@@ -27,7 +28,7 @@ use Rattle.term_eval.specs.declared.reading.Reading.{Reading}
 use Rattle.term_eval.specs.declared.reading.Reading.TheVariants.{Value, Flag}
 use Rattle.term_eval.specs.Woken.{Operand, operands, differ, moved}
 use Rattle.term_eval.specs.Woken.Operand.{value, phase, activity, key, health}
-use Rattle.watch_lists.specs.Naming.{IsOperand, operand_number}
+use Rattle.watch_lists.specs.Naming.{operand_number}
 use Rattle.wakes.specs.Marks.{is_marked}
 use Rattle.condition_codes.specs.Places.{nodes_before}
 use Rattle.fwc_lane.specs.declared.terms.Terms.{Terms}
@@ -46,6 +47,7 @@ use Rattle.fwc_lane.proofs.NodeFrames.{stands-told}
 use Rattle.fwc_lane.proofs.Awake.{awake-then}
 use Rattle.fwc_lane.proofs.Worlds.{each-world}
 use Rattle.fwc_lane.proofs.Hitting.{any-none}
+use Rattle.fwc_lane.proofs.NamedOperands.{IsBookOperand}
 use Rattle.fwc_lane.proofs.MoreKnown.{half-more}
 
 -- ---- what is due
@@ -190,26 +192,26 @@ module _ (b : Book) where
       ∙ ap (λ x. two && x) (eq-eqb o (length b.parameters + length b.alerts + 27) e) ∙ and-true two
 
   module _ (m : ℕ → Moment) (k : ℕ) (old : Terms) (params : Params) (keys : Keys) (up1 up2 : Bool) (was now : List (Option ℤ)) (stands : TermsStand b m k old) (came : Came b m k params keys up1 up2)
-      (before : (h : ℕ) → k ≡ suc h → (p : ℕ) → p < length b.parameters → get_or was p None ≡ value_in b m p h)
-      (told : (p : ℕ) → p < length b.parameters → get_or now p None ≡ value_in b m p k) where
-    given-is : (h : ℕ) → k ≡ suc h → (x : Operand) → IsOperand (sizes_in b) x
+      (before : (h : ℕ) → k ≡ suc h → (p : ℕ) → p < length b.parameters → is_asked_for b p ≡ true → get_or was p None ≡ value_in b m p h)
+      (told : (p : ℕ) → p < length b.parameters → is_asked_for b p ≡ true → get_or now p None ≡ value_in b m p k) where
+    given-is : (h : ℕ) → k ≡ suc h → (x : Operand) → IsBookOperand b x
         → moved (known_world b m 0) k x ≡ given (value_turned was now) (key_turned old.keys keys) (differ up1 old.one_up) (differ up2 old.two_up) (operand_number (sizes_in b) x)
     unfolding moved key_turned
     given-is h e (value p) at =
         let back : k - 1 ≡ h = omega (arith, e) in
-        sym (given-value (value_turned was now) (key_turned old.keys keys) (differ up1 old.one_up) (differ up2 old.two_up) p at
-        ∙ ap (λ v. not (option_eq int_eq v (get_or was p None))) (told p at)
-        ∙ ap (λ v. not (option_eq int_eq (value_in b m p k) v)) (before h e p at ∙ ap (value_in b m p) (sym back)))
+        sym (given-value (value_turned was now) (key_turned old.keys keys) (differ up1 old.one_up) (differ up2 old.two_up) p at.within
+        ∙ ap (λ v. not (option_eq int_eq v (get_or was p None))) (told p at.within (at.asked p refl))
+        ∙ ap (λ v. not (option_eq int_eq (value_in b m p k) v)) (before h e p at.within (at.asked p refl) ∙ ap (value_in b m p) (sym back)))
     given-is h e phase at =
         sym (given-none (value_turned was now) (key_turned old.keys keys) (differ up1 old.one_up) (differ up2 old.two_up) (length b.parameters + length b.alerts) (omega arith) (omega arith))
     given-is h e (activity a) at =
-        sym (given-none (value_turned was now) (key_turned old.keys keys) (differ up1 old.one_up) (differ up2 old.two_up) (length b.parameters + a) (omega arith) (omega (arith, at)))
+        sym (given-none (value_turned was now) (key_turned old.keys keys) (differ up1 old.one_up) (differ up2 old.two_up) (length b.parameters + a) (omega arith) (omega (arith, at.within)))
     given-is h e (key x) at =
         let back : k - 1 ≡ h = omega (arith, e) in
-        sym (given-key (value_turned was now) (key_turned old.keys keys) (differ up1 old.one_up) (differ up2 old.two_up) (key_number x) (few-keys x at)
-        ∙ ap (λ c. not c && differ (is_pressed keys x) (is_pressed old.keys x)) (ne_eqb (key_number x) 8 (not-eight x at))
-        ∙ ap (λ c. differ c (is_pressed old.keys x)) (came.strokes.pressed x at)
-        ∙ ap (λ c. differ (pressed (strokes_in b m) x k) c) (stands.keys h e x at ∙ ap (pressed (strokes_in b m) x) (sym back)))
+        sym (given-key (value_turned was now) (key_turned old.keys keys) (differ up1 old.one_up) (differ up2 old.two_up) (key_number x) (few-keys x at.within)
+        ∙ ap (λ c. not c && differ (is_pressed keys x) (is_pressed old.keys x)) (ne_eqb (key_number x) 8 (not-eight x at.within))
+        ∙ ap (λ c. differ c (is_pressed old.keys x)) (came.strokes.pressed x at.within)
+        ∙ ap (λ c. differ (pressed (strokes_in b m) x k) c) (stands.keys h e x at.within ∙ ap (pressed (strokes_in b m) x) (sym back)))
     given-is h e (health c) at = elim (cases_eq c 1) [
       | inl one ↦
           let back : k - 1 ≡ h = omega (arith, e) in
@@ -219,7 +221,7 @@ module _ (b : Book) where
           ∙ ap (λ t. differ (computer_up b m 1 k) t) (stands.one_up h e ∙ ap (computer_up b m 1) (sym back)))
       | inr ne ↦
           let back : k - 1 ≡ h = omega (arith, e) in
-          let two : c ≡ 2 = omega (arith, ne, at.0, at.1) in
+          let two : c ≡ 2 = omega (arith, ne, at.within.0, at.within.1) in
           ap (λ n. differ (computer_up b m n k) (computer_up b m n (k - 1))) two
           ∙ sym (given-two (value_turned was now) (key_turned old.keys keys) (differ up1 old.one_up) (differ up2 old.two_up) (length b.parameters + length b.alerts + 25 + c) (omega (arith, two))
           ∙ ap (λ t. differ t old.two_up) came.two_up
@@ -282,32 +284,32 @@ module _ (b : Book) where
         ]
 
   module _ (m : ℕ → Moment) (k : ℕ) (params : Params) (keys : Keys) (up1 up2 : Bool) (now : List (Option ℤ)) (came : Came b m k params keys up1 up2)
-      (told : (p : ℕ) → p < length b.parameters → get_or now p None ≡ value_in b m p k) (values turned : ℕ → Bool) (one two : Bool) where
+      (told : (p : ℕ) → p < length b.parameters → is_asked_for b p ≡ true → get_or now p None ≡ value_in b m p k) (values turned : ℕ → Bool) (one two : Bool) where
     -- an operand that is given reads so, whatever the phase and the alerts
-    reads-so : (phases : ℕ → ℕ) (alerts : ℕ → Signal) (x : Operand) → IsOperand (sizes_in b) x → given values turned one two (operand_number (sizes_in b) x) ≡ true
+    reads-so : (phases : ℕ → ℕ) (alerts : ℕ → Signal) (x : Operand) → IsBookOperand b x → given values turned one two (operand_number (sizes_in b) x) ≡ true
         → Reads (world_where b m phases alerts) k x (reads_given now keys up1 up2 (operand_number (sizes_in b) x))
-    reads-so phases alerts (value p) at on = reads-value now keys up1 up2 p at ∙ ap Value (told p at)
+    reads-so phases alerts (value p) at on = reads-value now keys up1 up2 p at.within ∙ ap Value (told p at.within (at.asked p refl))
     reads-so phases alerts phase at on =
         absurd (let w : ⊥ = (let clash : false ≡ true = sym (given-none values turned one two (length b.parameters + length b.alerts) (omega arith) (omega arith)) ∙ on in cc) in w)
     reads-so phases alerts (activity a) at on =
-        absurd (let w : ⊥ = (let clash : false ≡ true = sym (given-none values turned one two (length b.parameters + a) (omega arith) (omega (arith, at))) ∙ on in cc) in w)
+        absurd (let w : ⊥ = (let clash : false ≡ true = sym (given-none values turned one two (length b.parameters + a) (omega arith) (omega (arith, at.within))) ∙ on in cc) in w)
     reads-so phases alerts (key x) at on =
-        reads-key now keys up1 up2 (keys_from + key_number x) (omega arith) (omega (arith, few-keys x at))
+        reads-key now keys up1 up2 (keys_from + key_number x) (omega arith) (omega (arith, few-keys x at.within))
         ∙ ap (key_read keys) (let z : keys_from + key_number x - keys_from ≡ key_number x = omega arith in z)
-        ∙ ap (λ c. Flag (not c && is_pressed keys x)) (ne_eqb (key_number x) 8 (not-eight x at))
-        ∙ ap Flag (came.strokes.pressed x at)
+        ∙ ap (λ c. Flag (not c && is_pressed keys x)) (ne_eqb (key_number x) 8 (not-eight x at.within))
+        ∙ ap Flag (came.strokes.pressed x at.within)
     reads-so phases alerts (health c) at on =
-        reads-computer now keys up1 up2 (length b.parameters + length b.alerts + 25 + c) (omega (arith, at.0)) ∙ ap Flag (elim (cases_eq c 1) [
+        reads-computer now keys up1 up2 (length b.parameters + length b.alerts + 25 + c) (omega (arith, at.within.0)) ∙ ap Flag (elim (cases_eq c 1) [
           | inl is ↦
               ap (λ t. if t then up1 else up2) (eq-eqb (length b.parameters + length b.alerts + 25 + c) (length b.parameters + length b.alerts + 26) (omega (arith, is)))
               ∙ came.one_up ∙ ap (λ n. computer_up b m n k) (sym is)
           | inr ne ↦
-              let is : 2 ≡ c = omega (arith, ne, at.0, at.1) in
+              let is : 2 ≡ c = omega (arith, ne, at.within.0, at.within.1) in
               ap (λ t. if t then up1 else up2) (ne_eqb (length b.parameters + length b.alerts + 25 + c) (length b.parameters + length b.alerts + 26) (λ e. absurd (omega (arith, e, is))))
               ∙ came.two_up ∙ ap (λ n. computer_up b m n k) is
         ])
 
-    pub reads-given : (j : ℕ) (x : Operand) → IsOperand (sizes_in b) x → given values turned one two (operand_number (sizes_in b) x) ≡ true
+    pub reads-given : (j : ℕ) (x : Operand) → IsBookOperand b x → given values turned one two (operand_number (sizes_in b) x) ≡ true
         → Reads (world_of b m j) k x (reads_given now keys up1 up2 (operand_number (sizes_in b) x))
     reads-given j x at on =
         each-world b m (λ w. Reads w k x (reads_given now keys up1 up2 (operand_number (sizes_in b) x))) (λ phases alerts. reads-so phases alerts x at on) j
@@ -315,8 +317,8 @@ module _ (b : Book) where
 -- with what came, the moment has begun
 pub begins : (d : Draft) → IsSealed d → (m : ℕ → Moment) (k visited : ℕ) (old t new : Terms) (params : Params) (keys : Keys) (up1 up2 : Bool) (was now : List (Option ℤ))
     → TermsStand (the_book d) m k old → Came (the_book d) m k params keys up1 up2
-    → ((h : ℕ) → k ≡ suc h → (p : ℕ) → p < length (the_book d).parameters → get_or was p None ≡ value_in (the_book d) m p h)
-    → ((p : ℕ) → p < length (the_book d).parameters → get_or now p None ≡ value_in (the_book d) m p k)
+    → ((h : ℕ) → k ≡ suc h → (p : ℕ) → p < length (the_book d).parameters → is_asked_for (the_book d) p ≡ true → get_or was p None ≡ value_in (the_book d) m p h)
+    → ((p : ℕ) → p < length (the_book d).parameters → is_asked_for (the_book d) p ≡ true → get_or now p None ≡ value_in (the_book d) m p k)
     → HalfStepped (places (the_book d)) (world_of (the_book d) m) none-hit k 0 visited t
     → HasWoken (the_book d) (given (the_book d) (value_turned was now) (key_turned old.keys keys) (differ up1 old.one_up) (differ up2 old.two_up)) (reads_given (the_book d) now keys up1 up2) t new
     → BookHalf (the_book d) m k 0 0 visited new
@@ -326,5 +328,16 @@ begins d sealed m k visited old t new params keys up1 up2 was now stands came be
     half-more d sealed (world_of b m) none-hit (moved (known_world b m 0) k) hit (reads_given b now keys up1 up2) k 0 visited t new wakes
     (given-is b m k old params keys up1 up2 was now stands came before told)
     (λ h e j p le is n x asks at on. reads-given b m k params keys up1 up2 now came told (value_turned was now) (key_turned old.keys keys) (differ up1 old.one_up) (differ up2 old.two_up) j x at on)
+    (λ j p lt is. absurd (omega arith))
+    half
+
+-- the first moment has begun, whatever is given: it wakes each condition
+pub begins-first : (d : Draft) → IsSealed d → (m : ℕ → Moment) (k visited : ℕ) (t new : Terms) (f : ℕ → Bool) (reads : ℕ → Reading) → k ≡ 0
+    → HalfStepped (places (the_book d)) (world_of (the_book d) m) none-hit k 0 visited t → HasWoken (the_book d) f reads t new → BookHalf (the_book d) m k 0 0 visited new
+begins-first d sealed m k visited t new f reads first half wakes =
+    let b = the_book d in
+    half-more d sealed (world_of b m) none-hit (moved (known_world b m 0) k) f reads k 0 visited t new wakes
+    (λ h e x at. absurd (omega (arith, first, e)))
+    (λ h e j p le is n x asks at on. absurd (omega (arith, first, e)))
     (λ j p lt is. absurd (omega arith))
     half

@@ -10,7 +10,7 @@ use Rattle.ecam_kinds.specs.declared.phase.Phase.{Phase}
 use Rattle.book_model.specs.declared.draft.Draft.{Draft}
 use Rattle.book_model.specs.Told.{TellsOf}
 use Rattle.book_model.specs.Sealed.{the_book, IsSealed}
-use Rattle.book_model.specs.Conditions.{alerts_from, lines_from}
+use Rattle.book_model.specs.Conditions.{alerts_from, lines_from, memos_from}
 use Rattle.book_model.proofs.BookLists.{many-alerts}
 use Rattle.wakes.specs.Marks.{is_marked}
 use Rattle.flight_phases.specs.Inputs.{AreInputs}
@@ -24,7 +24,7 @@ use Rattle.fwc_lane.proofs.Awake.{awake-off}
 use Rattle.fwc_lane.proofs.Known.{phase-known}
 use Rattle.fwc_lane.proofs.FlightSteps.{inputs-rest, inputs-kept}
 use Rattle.fwc_lane.proofs.AlertSteps.{calm-passes, alerts-begin, alerts-skip, alerts-end}
-use Rattle.fwc_lane.proofs.ProcedureSteps.{lines-begin, lines-past, lines-end, lines-told}
+use Rattle.fwc_lane.proofs.ProcedureSteps.{lines-begin, lines-past, lines-told}
 use Rattle.fwc_lane.proofs.MemoSteps.{memos-begin, memos-skip, memos-end, memos-told}
 
 module _ (d : Draft) (sealed : IsSealed d) (m : ℕ → Moment) (k visited : ℕ) (small : k < 2 ^ 63) (t : Terms) (off : (j : ℕ) → is_marked t.stirred j ≡ false)
@@ -55,19 +55,19 @@ module _ (d : Draft) (sealed : IsSealed d) (m : ℕ → Moment) (k visited : ℕ
       behind-alerts = alerts-end d m k (length d.alerts.items) visited t refl all-alerts.terms
 
       module _ (stood held : List Bool) (lines : LinesWere (the_book d) m k stood) (memos : MemosWere (the_book d) m k held) where
-        all-lines : LinesHalf (the_book d) m k (length (lines_of (the_book d).alerts)) visited t stood
+        all-lines : LinesHalf (the_book d) m k (memos_from (the_book d)) visited t stood
         all-lines =
-            lines-past d sealed m k visited t stood small 0 (length (lines_of (the_book d).alerts)) (omega arith) (let most : length (lines_of (the_book d).alerts) ≤ length (lines_of (the_book d).alerts) = omega arith in most) (λ j from to. off j)
-            (lines-begin d m k visited t stood lines behind-alerts)
+            lines-past d sealed m k visited t stood small (lines_from (the_book d)) (memos_from (the_book d)) (let from : lines_from (the_book d) ≤ lines_from (the_book d) = omega arith in from) (omega arith)
+            (let most : memos_from (the_book d) ≤ memos_from (the_book d) = omega arith in most) (λ j from to. off j) (lines-begin d sealed m k visited t stood lines behind-alerts)
 
         -- the lines
         pub lines-same : TellsOf stood (lines_of (the_book d).alerts) (line_stands (the_book d) m k)
-        lines-same = lines-told d m k visited t stood all-lines
+        lines-same = lines-told d sealed m k visited t stood all-lines
 
         all-memos : MemosHalf (the_book d) m k (length d.memos.items) visited t held
         all-memos =
             memos-skip d sealed m k visited t held small 0 (length d.memos.items) (omega arith) (let le : length d.memos.items ≤ length d.memos.items = omega arith in le) (λ j from to. off j)
-            (memos-begin d m k visited t held memos (lines-end d m k visited t stood all-lines))
+            (memos-begin d m k visited t held memos all-lines.terms)
 
         -- the memos
         pub memos-same : TellsOf held (the_book d).memos (λ x. holds (world (the_book d) m) x.when k)

@@ -20,12 +20,11 @@ use Rattle.book_model.proofs.ConditionRanges.{ranges-apart}
 use Rattle.book_model.proofs.ConditionWorlds.{phase-world}
 use Rattle.flight_phases.specs.Inputs.{AreInputs}
 use Rattle.term_eval.specs.declared.env.Env.{Env}
-use Rattle.term_eval.specs.Shown.{Shows}
 use Rattle.term_eval.specs.Woken.{moved}
 use Rattle.condition_codes.specs.Places.{nodes_before}
 use Rattle.fwc_lane.specs.declared.terms.Terms.{Terms}
 use Rattle.fwc_lane.specs.Conditions.{StepsTerm, TellsMoved, TermsStand, BookHalf, known_world}
-use Rattle.fwc_lane.specs.Given.{Lends}
+use Rattle.fwc_lane.specs.Given.{Lends, ShowsFirst}
 use Rattle.fwc_lane.specs.PhaseTruths.{inputs_by}
 use Rattle.fwc_lane.specs.Waking.{NoneMarked}
 use Rattle.fwc_lane.proofs.Showing.{shows-flight}
@@ -45,8 +44,8 @@ tells d m k i lt t = same-tells (known_world (the_book d) m 0) (world_of (the_bo
 
 module _ (d : Draft) (sealed : IsSealed d) (p : PhaseTerms) (same : p ≡ d.phase) (m : ℕ → Moment) (k : ℕ) (env : Env) (lends : Lends (the_book d) m k env)
     (one : env.phase.number ≡ 1) (none : length env.active.now ≡ 0) where
-  shows : (i : ℕ) → i < alerts_from → Shows env (world_of (the_book d) m i) k
-  shows i lt = subst (λ w. Shows env w k) (sym (phase-world (the_book d) m i lt)) (shows-flight (the_book d) m k env lends one none)
+  shows : (i : ℕ) → i < alerts_from → ShowsFirst env (world_of (the_book d) m i) k
+  shows i lt = subst (λ w. ShowsFirst env w k) (sym (phase-world (the_book d) m i lt)) (shows-flight (the_book d) m k env lends one none)
 
   module _ (i : ℕ) (lt : i < alerts_from) (t : Placed) (is : slice_get (phase_places p) i ≡ Some t) (visited : ℕ) (old new : Terms) (answer : Bool) (steps : StepsTerm (places (the_book d)) env k i t old new answer)
       (half : BookHalf (the_book d) m k i 0 visited old) where

@@ -82,7 +82,7 @@ fresh-whole b l fits fresh m = record {
   attention = fresh.attention (attention b m);
   selector = fresh.selector (panel b m);
   phase = λ j e. absurd (omega arith);
-  values = λ p lt. fresh.values p;
+  values = λ p lt on. fresh.values p;
   lines = λ j e. absurd (omega arith);
   memos = λ j e. absurd (omega arith);
   drawn = record { picture = fresh.picture; counted = λ j e. absurd (omega arith) };

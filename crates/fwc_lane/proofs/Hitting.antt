@@ -1,5 +1,5 @@
 -- Conditions that are woken by the numbers of operands.
-use Rattle.std.proofs.Common.{◌≡◌, ℕ, ◌+◌, Bool, true, false, ◌||◌, List, [], ◌∷◌, length, refl, sym, ap, ◌∙◌}
+use Rattle.std.proofs.Common.{◌≡◌, ℕ, suc, ◌+◌, Bool, true, false, ◌||◌, List, [], ◌∷◌, length, slice_get, Some, refl, sym, ap, ◌∙◌}
 use Rattle.std.specs.List.{list_any}
 use Rattle.ecam_spec.specs.Book.{Book}
 use Rattle.book_model.specs.declared.draft.Draft.{Draft}
@@ -26,6 +26,11 @@ or-or false b c = refl
 pub any-alike : {X : Type 0} (f g : X → Bool) → ((x : X) → f x ≡ g x) → (xs : List X) → list_any f xs ≡ list_any g xs
 any-alike f g same [] = refl
 any-alike f g same (x ∷ xs) = ap (λ b. b || list_any f xs) (same x) ∙ ap (λ b. g x || b) (any-alike f g same xs)
+
+-- where two agree on each of its members
+pub any-each : {X : Type 0} (f g : X → Bool) (xs : List X) → ((i : ℕ) (x : X) → slice_get xs i ≡ Some x → f x ≡ g x) → list_any f xs ≡ list_any g xs
+any-each f g [] same = refl
+any-each f g (x ∷ xs) same = ap (λ b. b || list_any f xs) (same 0 x refl) ∙ ap (λ b. g x || b) (any-each f g xs (λ i y is. same (suc i) y is))
 
 pub any-or : {X : Type 0} (f g : X → Bool) (xs : List X) → list_any (λ x. f x || g x) xs ≡ (list_any f xs || list_any g xs)
 any-or f g [] = refl

@@ -183,8 +183,8 @@ module _ (d : Draft) (sealed : IsSealed d) (m : ℕ → Moment) (k visited : ℕ
         let b = the_book d in
         half-more d sealed (world_of b m) (moved (known_world b m 0) k) (moved (known_world b m 1) k) (λ o. other && eqb o (length b.parameters + length b.alerts)) (λ o. InPhase now)
         k alerts_from visited t new wakes
-        (λ h e. phase-moves b m k h now.number was other e turned is (before h e))
-        (λ h e j p le place n x asks at on. reads-phase j x le at on)
+        (λ h e x at. phase-moves b m k h now.number was other e turned is (before h e) x at.within)
+        (λ h e j p le place n x asks at on. reads-phase j x le at.within on)
         (λ j p lt place. no-phase (sizes_in b) other p.tree (names-within d sealed j p place) (is-input d sealed j p lt place).free)
         half
 
@@ -208,8 +208,8 @@ module _ (d : Draft) (sealed : IsSealed d) (m : ℕ → Moment) (k visited : ℕ
         let b = the_book d in
         half-more d sealed (world_of b m) (moved (known_world b m (suc a)) k) (moved (known_world b m (suc (suc a))) k) (λ o. other && eqb o (length b.parameters + a)) (λ o. Flag now)
         k (alerts_from + suc a) visited t new wakes
-        (λ h e. alert-moves b m k h a other now was e turned is (before h e) there)
-        (λ h e j p le place n x asks at on. reads-alert j x le at on)
+        (λ h e x at. alert-moves b m k h a other now was e turned is (before h e) there x at.within)
+        (λ h e j p le place n x asks at on. reads-alert j x le at.within on)
         (λ j p lt place.
         let found = early d sealed a j p there lt place in
         names-no d sealed other a found.0 p.tree there found.1 found.2)

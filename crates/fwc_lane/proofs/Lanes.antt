@@ -1,25 +1,34 @@
 -- One event more: for which era a lane stands then, by what its parts stand for.
-use Rattle.std.proofs.Common.{◌≡◌, ℕ, suc, ◌+◌, ◌-◌, ◌^◌, ◌≤◌, min, Bool, true, false, List, [], ◌∷◌, ◌++◌, length, refl, sym, ap, subst, ◌∙◌, inl, inr, arith}
+use Rattle.std.proofs.Common.{◌≡◌, ℕ, zero, suc, ◌+◌, ◌-◌, ◌^◌, ◌<◌, ◌≤◌, min, Bool, true, false, List, [], ◌∷◌, ◌++◌, length, refl, sym, ap, subst, ◌∙◌, inl, inr, arith}
 use Rattle.std.proofs.Math.Nat.{eq-or-lt_of_le}
 use Rattle.ecam_spec.specs.declared.kinds.Event.{Event}
 use Rattle.ecam_spec.specs.declared.kinds.Event.TheVariants.{Word, Tick, Press, Release, Fail, Up, End}
 use Rattle.ecam_spec.specs.declared.kinds.Key.{Key}
-use Rattle.ecam_spec.specs.Book.{Book}
+use Rattle.ecam_spec.specs.Book.{Parameter, Book}
 use Rattle.ecam_spec.specs.Value.{BusWord}
 use Rattle.ecam_spec.specs.History.{Flags, Moment, Stroke, Era, era_with, changes_computers, OneMore}
 use Rattle.ecam_spec.specs.Replay.{is_tick, moment_of}
 use Rattle.ecam_spec.specs.Situation.{words_in, strokes_in, computer_up}
+use Rattle.ecam_spec.proofs.ValueAgree.{value-below}
 use Rattle.ecam_spec.proofs.MomentSteps.{moment_open, moments_kept, moment_kept, moment_tick, length_tick, moment_begun, moment_word, moment_press, moment_release, moment_computers}
 use Rattle.ecam_kinds.specs.declared.keys.Keys.{Keys}
 use Rattle.ecam_kinds.specs.KeyState.{KeysStand}
 use Rattle.param_table.specs.declared.table.Params.{Params}
-use Rattle.param_table.specs.TableState.{ParamsFit, ParamsStand}
+use Rattle.param_table.specs.TableState.{ParamsFit, ParamsStand, value_before}
 use Rattle.fwc_lane.specs.declared.lane.Lane.{Lane}
 use Rattle.fwc_lane.specs.Calm.{IsCalm, IsIdle}
 use Rattle.fwc_lane.specs.LaneFits.{LaneFits}
 use Rattle.fwc_lane.specs.LaneStands.{WholeStands, Continues, HasWords, HasStrokes, LaneStands, AreUp}
 use Rattle.fwc_lane.specs.Given.{Came}
 use Rattle.fwc_lane.specs.Visits.{visits}
+
+-- ---- the value of a parameter in the last whole moment
+
+-- it is told by the words before the moment that hasn't ended
+pub value_before-same : (p : Parameter) (v w : ℕ → List BusWord) (k : ℕ) → ((i : ℕ) → i < k → v i ≡ w i) → value_before p v k ≡ value_before p w k
+unfolding value_before
+value_before-same p v w zero same = refl
+value_before-same p v w (suc j) same = value-below v w j (λ i le. same i (omega arith)) p
 
 -- ---- an event that ends no moment
 

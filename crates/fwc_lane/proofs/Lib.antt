@@ -9,6 +9,7 @@ pub mod Hitting
 pub mod Awake
 pub mod Unheard
 pub mod NamesWithin
+pub mod NamedOperands
 pub mod MoreKnown
 pub mod Stages
 pub mod Known
@@ -28,6 +29,7 @@ pub mod MemoSteps
 pub mod ConditionsRest
 pub mod CrewMoments
 pub mod CrewRest
+pub mod PagesAlike
 pub mod ZoneRest
 pub mod PageChoice
 pub mod ZonePictures

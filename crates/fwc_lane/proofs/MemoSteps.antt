@@ -18,20 +18,20 @@ use Rattle.book_model.proofs.ConditionPlaces.{memo-place-at, all-places}
 use Rattle.book_model.proofs.ConditionRanges.{ranges-apart}
 use Rattle.book_model.proofs.ConditionWorlds.{rest-world}
 use Rattle.term_eval.specs.declared.env.Env.{Env}
-use Rattle.term_eval.specs.Shown.{Shows}
 use Rattle.term_eval.specs.Woken.{Operand, moved}
 use Rattle.condition_codes.specs.Places.{nodes_before}
 use Rattle.fwc_lane.specs.declared.terms.Terms.{Terms}
 use Rattle.fwc_lane.specs.Conditions.{StepsTerm, TellsMoved, IsLeft, HalfStepped, BookHalf, MemosHalf, MemosWere, AllStepped, known_world}
+use Rattle.fwc_lane.specs.Given.{ShowsFirst}
 use Rattle.fwc_lane.proofs.Stages.{rest-tells}
 use Rattle.fwc_lane.proofs.FlagSteps.{set-own, set-other, set-behind, with-item}
 use Rattle.wakes.specs.Marks.{is_marked}
-use Rattle.fwc_lane.specs.Waking.{NoneMarked, memo_start}
+use Rattle.fwc_lane.specs.Waking.{NoneMarked, memo_number}
 use Rattle.fwc_lane.proofs.Counting.{counted-visits}
 use Rattle.fwc_lane.proofs.Stepping.{half-rest, rest-holds}
 
 module _ (d : Draft) (sealed : IsSealed d) (xs : List Memo) (j : ℕ) (x : Memo) (same : xs ≡ d.memos.items) (within : j < length xs) (here : x ≡ get_or xs j x)
-    (m : ℕ → Moment) (k : ℕ) (env : Env) (shows : Shows env (world (the_book d) m) k) (visited : ℕ) (old new : Terms) (answer : Bool)
+    (m : ℕ → Moment) (k : ℕ) (env : Env) (shows : ShowsFirst env (world (the_book d) m) k) (visited : ℕ) (old new : Terms) (answer : Bool)
     (steps : StepsTerm (places (the_book d)) env k (memos_from (the_book d) + j) (placed_of x.when) old new answer) (flags later : List Bool) (is : later ≡ set flags j answer) (room : j < length flags)
     (half : MemosHalf (the_book d) m k j visited old flags) where
   place : ℕ
@@ -41,8 +41,8 @@ module _ (d : Draft) (sealed : IsSealed d) (xs : List Memo) (j : ℕ) (x : Memo)
   unfolding place
   world-is = rest-world (the_book d) m place (omega arith)
 
-  shown : Shows env (world_of (the_book d) m place) k
-  shown = subst (λ w. Shows env w k) (sym world-is) shows
+  shown : ShowsFirst env (world_of (the_book d) m place) k
+  shown = subst (λ w. ShowsFirst env w k) (sym world-is) shows
 
   hit : Operand → Bool
   hit = moved (known_world (the_book d) m (suc (length (the_book d).alerts))) k
@@ -134,7 +134,7 @@ module _ (d : Draft) (sealed : IsSealed d) (m : ℕ → Moment) (k visited : ℕ
       left = λ h e i y le there. half.left h e i y (let w : j ≤ i = omega arith in w) there;
     }
 
-  memos-off : (j n : ℕ) → j + n ≤ length d.memos.items → NoneMarked t.stirred (memo_start (the_book d) j) (memo_start (the_book d) (j + n))
+  memos-off : (j n : ℕ) → j + n ≤ length d.memos.items → NoneMarked t.stirred (memo_number (the_book d) j) (memo_number (the_book d) (j + n))
       → MemosHalf (the_book d) m k j visited t flags → MemosHalf (the_book d) m k (j + n) visited t flags
   memos-off j zero le off half = let e : j ≡ j + 0 = omega arith in subst (λ i. MemosHalf (the_book d) m k i visited t flags) e half
   memos-off j (suc n) le off half =
@@ -144,12 +144,12 @@ module _ (d : Draft) (sealed : IsSealed d) (m : ℕ → Moment) (k visited : ℕ
       (memo-off (j + n) x (omega arith) here (off _ (omega arith) (omega arith)) (memos-off j n (omega arith) (λ i from to. off i from (omega (arith, to))) half)))
 
   -- up to the next that has one, or to the end
-  pub memos-skip : (j i : ℕ) → j ≤ i → i ≤ length d.memos.items → NoneMarked t.stirred (memo_start (the_book d) j) (memo_start (the_book d) i)
+  pub memos-skip : (j i : ℕ) → j ≤ i → i ≤ length d.memos.items → NoneMarked t.stirred (memo_number (the_book d) j) (memo_number (the_book d) i)
       → MemosHalf (the_book d) m k j visited t flags → MemosHalf (the_book d) m k i visited t flags
   memos-skip j i le most off half =
       let e : j + (i - j) ≡ i = omega arith in
       subst (λ n. MemosHalf (the_book d) m k n visited t flags) e
-      (memos-off j (i - j) (omega arith) (subst (λ n. NoneMarked t.stirred (memo_start (the_book d) j) (memo_start (the_book d) n)) (sym e) off) half)
+      (memos-off j (i - j) (omega arith) (subst (λ n. NoneMarked t.stirred (memo_number (the_book d) j) (memo_number (the_book d) n)) (sym e) off) half)
 
 -- before the first memo
 pub memos-begin : (d : Draft) (m : ℕ → Moment) (k visited : ℕ) (terms : Terms) (flags : List Bool) → MemosWere (the_book d) m k flags → BookHalf (the_book d) m k (memos_from (the_book d)) (suc (length (the_book d).alerts)) visited terms

@@ -12,17 +12,16 @@ use Rattle.term_eval.specs.CellState.{Stand}
 use Rattle.term_eval.specs.Reading.{Reads}
 use Rattle.term_eval.specs.Woken.{Operand, operands}
 use Rattle.term_eval.specs.declared.reading.Reading.{Reading}
-use Rattle.watch_lists.specs.Naming.{IsOperand, operand_number}
-use Rattle.watch_lists.proofs.Scope.{any_same}
+use Rattle.watch_lists.specs.Naming.{operand_number}
 use Rattle.wakes.specs.Marks.{is_marked}
 use Rattle.condition_codes.specs.Places.{nodes_before}
 use Rattle.fwc_lane.specs.declared.terms.Terms.{Terms}
 use Rattle.fwc_lane.specs.Waking.{sizes_in, HasWoken}
 use Rattle.fwc_lane.specs.Conditions.{IsAsked, IsWaiting, IsLeft, HalfStepped}
-use Rattle.fwc_lane.proofs.Askers.{asks-operand, asks-named}
+use Rattle.fwc_lane.proofs.Askers.{asks-named}
 use Rattle.fwc_lane.proofs.Hears.{waits-by, heard-none, heard-or, atoms-heard}
 use Rattle.fwc_lane.proofs.Hitting.{any-or}
-use Rattle.fwc_lane.proofs.NamesWithin.{names-within}
+use Rattle.fwc_lane.proofs.NamedOperands.{IsBookOperand, asks-one, any-named}
 
 or-swap : (x y z : Bool) → ((x || y) || z) ≡ ((x || z) || y)
 or-swap x y z = or_assoc x y z ∙ ap (λ c. x || c) (or_comm y z) ∙ sym (or_assoc x z y)
@@ -30,9 +29,9 @@ or-swap x y z = or_assoc x y z ∙ ap (λ c. x || c) (or_comm y z) ∙ sym (or_a
 -- an operand that passes the test reads so in the worlds of the conditions that are left, and those that were stepped name none
 module _ (d : Draft) (sealed : IsSealed d) (worlds : ℕ → World) (hit hit' : Operand → Bool) (f : ℕ → Bool) (reads : ℕ → Reading) (k i visited : ℕ) (t new : Terms)
     (wakes : HasWoken (the_book d) f reads t new)
-    (hits : (h : ℕ) → k ≡ suc h → (x : Operand) → IsOperand (sizes_in (the_book d)) x → hit' x ≡ (hit x || f (operand_number (sizes_in (the_book d)) x)))
+    (hits : (h : ℕ) → k ≡ suc h → (x : Operand) → IsBookOperand (the_book d) x → hit' x ≡ (hit x || f (operand_number (sizes_in (the_book d)) x)))
     (so : (h : ℕ) → k ≡ suc h → (j : ℕ) (p : Placed) → i ≤ j → slice_get (places (the_book d)) j ≡ Some p → (n : ℕ) (x : Operand) → Asks p.tree n x
-    → IsOperand (sizes_in (the_book d)) x → f (operand_number (sizes_in (the_book d)) x) ≡ true → Reads (worlds j) k x (reads (operand_number (sizes_in (the_book d)) x)))
+    → IsBookOperand (the_book d) x → f (operand_number (sizes_in (the_book d)) x) ≡ true → Reads (worlds j) k x (reads (operand_number (sizes_in (the_book d)) x)))
     (apart : (j : ℕ) (p : Placed) → j < i → slice_get (places (the_book d)) j ≡ Some p
     → list_any (λ x. f (operand_number (sizes_in (the_book d)) x)) (operands p.tree) ≡ false) where
   abbrev passes : Operand → Bool
@@ -41,7 +40,7 @@ module _ (d : Draft) (sealed : IsSealed d) (worlds : ℕ → World) (hit hit' : 
   either : (h : ℕ) → k ≡ suc h → (j : ℕ) (p : Placed) → slice_get (places (the_book d)) j ≡ Some p
       → list_any hit' (operands p.tree) ≡ (list_any hit (operands p.tree) || list_any passes (operands p.tree))
   either h e j p is =
-      any_same (sizes_in (the_book d)) hit' (λ x. hit x || passes x) (hits h e) p.tree (names-within d sealed j p is) ∙ any-or hit passes (operands p.tree)
+      any-named d sealed j p is hit' (λ x. hit x || passes x) (hits h e) ∙ any-or hit passes (operands p.tree)
 
   -- ---- a condition that was stepped
 
@@ -82,11 +81,11 @@ module _ (d : Draft) (sealed : IsSealed d) (worlds : ℕ → World) (hit hit' : 
         ∙ or-swap (list_any hit (operands p.tree)) (eqb own.due (suc h)) (list_any passes (operands p.tree)) ∙ ap (λ a. a || eqb own.due (suc h)) (sym (either h e j p is));
     nodes = waits-by (worlds j) h (λ n. heard passes p.tree n || heard hit p.tree n) (heard hit' p.tree) p.tree p.at (nodes_before (places (the_book d)) j) new.nodes
         (heard-or passes hit hit' p.tree
-        (λ n x asks. hits h e x (asks-operand (sizes_in (the_book d)) p.tree (names-within d sealed j p is) n x asks) ∙ or_comm (hit x) (passes x)))
+        (λ n x asks. hits h e x (asks-one d sealed j p is n x asks) ∙ or_comm (hit x) (passes x)))
         (wakes.turns j p is (worlds j) h (heard hit p.tree) (atoms-heard hit p.tree)
         (λ n x asks on.
         subst (λ m. Reads (worlds j) m x (reads (operand_number (sizes_in (the_book d)) x))) e
-        (so h e j p le is n x asks (asks-operand (sizes_in (the_book d)) p.tree (names-within d sealed j p is) n x asks) on))
+        (so h e j p le is n x asks (asks-one d sealed j p is n x asks) on))
         own.nodes);
     kept = λ off. own.kept (was-calm j p is off);
     calm = λ off.

@@ -1,10 +1,9 @@
--- One line more is stepped.
-use Rattle.std.proofs.Common.{◌≡◌, ℕ, zero, suc, ◌+◌, ◌-◌, ◌*◌, ◌^◌, ◌<◌, ◌≤◌, Bool, true, false, not, ◌&&◌, List, [], ◌∷◌, ◌++◌, map, length, take, get_or, set, slice_get, Some, refl, sym, ap, subst, ◌∙◌, inl, inr, arith, add-one, length-append}
-use Rattle.std.proofs.Math.Nat.{eq-or-lt_of_le}
-use Rattle.std.proofs.lemmas.Bool.{cases_lt}
-use Rattle.std.proofs.lemmas.List.{take_all, length-map}
+-- The conditions of the procedure lines are stepped, and each line is told of whose conditions one is.
+use Rattle.std.proofs.Common.{◌≡◌, ◌≢◌, ℕ, zero, suc, ◌+◌, ◌-◌, ◌*◌, ◌^◌, ◌<◌, ◌≤◌, Bool, true, false, not, ◌&&◌, List, [], ◌∷◌, ◌++◌, map, length, take, get_or, set, slice_get, Some, refl, sym, ap, subst, ◌∙◌, inl, inr, arith, add-one, length-append}
+use Rattle.std.proofs.lemmas.Bool.{cases_eq, cases_lt}
+use Rattle.std.proofs.lemmas.List.{take_all, length-map, get_or-set_other}
 use Rattle.std.proofs.lemmas.Grind.{flat_map-append}
-use Rattle.std.proofs.lemmas.Option.{slice_get_within}
+use Rattle.std.proofs.lemmas.Option.{slice_get_within, slice_get-get_or}
 use Rattle.ecam_spec.specs.Book as plain
 use Rattle.ecam_spec.specs.BookTerms.{lines_of}
 use Rattle.ecam_spec.specs.Term.{holds}
@@ -18,162 +17,27 @@ use Rattle.book_model.specs.View.{placed_of, tree_in, line_of}
 use Rattle.book_model.specs.Told.{TellsOf}
 use Rattle.book_model.specs.Sealed.{the_book, alert_in, IsSealed}
 use Rattle.book_model.specs.Conditions.{places, lines_from, memos_from, world_of}
-use Rattle.book_model.proofs.BookLists.{many-alerts}
+use Rattle.book_model.proofs.BookLists.{many-parameters, many-alerts}
 use Rattle.book_model.proofs.BookLines.{line-place}
 use Rattle.book_model.proofs.BookReads.{alert-get}
-use Rattle.book_model.proofs.ConditionPlaces.{line-when, line-done}
-use Rattle.book_model.proofs.ConditionNames.{when-names, done-names}
+use Rattle.book_model.proofs.ConditionPlaces.{line-when, line-done, all-places}
 use Rattle.ecam_spec.specs.TermNames.{IsWithin}
 use Rattle.book_model.proofs.ConditionRanges.{ranges-apart}
 use Rattle.book_model.proofs.ConditionWorlds.{rest-world}
 use Rattle.warning_display.proofs.Passing.{taken}
 use Rattle.term_eval.specs.declared.env.Env.{Env}
 use Rattle.ecam_spec.specs.TermSize.{Placed}
-use Rattle.term_eval.specs.Shown.{Shows}
+use Rattle.fwc_lane.specs.Given.{ShowsFirst}
 use Rattle.term_eval.specs.Woken.{Operand, moved}
-use Rattle.condition_codes.specs.Places.{nodes_before}
 use Rattle.fwc_lane.specs.declared.terms.Terms.{Terms}
-use Rattle.fwc_lane.specs.Conditions.{StepsLine, HalfStepped, TellsMoved, BookHalf, LinesHalf, LinesWere, known_world}
+use Rattle.fwc_lane.specs.Conditions.{StepsTerm, TellsMoved, BookHalf, LinesHalf, LinesWere, known_world}
+use Rattle.fwc_lane.specs.LineFlags.{stands_by}
+use Rattle.fwc_lane.proofs.NamesWithin.{names-within}
 use Rattle.fwc_lane.proofs.Stages.{rest-tells}
-use Rattle.fwc_lane.proofs.FlagSteps.{set-own, set-other, set-behind, with-item}
+use Rattle.fwc_lane.proofs.FlagSteps.{set-own, with-item}
 use Rattle.wakes.specs.Marks.{is_marked}
 use Rattle.fwc_lane.specs.Waking.{NoneMarked}
-use Rattle.fwc_lane.proofs.Stepping.{half-rest, rest-holds}
-
-module _ (d : Draft) (sealed : IsSealed d) (xs : List Alert) (a : ℕ) (x : Alert) (same : xs ≡ d.alerts.items) (within : a < length xs) (here : x ≡ get_or xs a x)
-    (ls : List Line) (j : ℕ) (l : Line) (own : ls ≡ x.lines.items) (inside : j < length ls) (at : l ≡ get_or ls j l) where
-  -- the number of the line among all, and of its first condition
-  abbrev line : ℕ
-  line = length (lines_of (take a (the_book d).alerts)) + j
-
-  first : ℕ
-  first = lines_from (the_book d) + 2 * line
-
-  when-here : slice_get (places (the_book d)) first ≡ Some (placed_of l.when)
-  unfolding first
-  when-here = line-when d sealed xs a x same within here ls j l own inside at
-
-  done-here : slice_get (places (the_book d)) (suc first) ≡ Some (placed_of l.done)
-  unfolding first
-  done-here = ap (slice_get (places (the_book d))) (sym (add-one first)) ∙ line-done d sealed xs a x same within here ls j l own inside at
-
-  module _ (m : ℕ → Moment) (k : ℕ) (env : Env) (shows : Shows env (world (the_book d) m) k) (visited : ℕ) (old new : Terms) (answer : Bool)
-      (steps : StepsLine (places (the_book d)) env k (lines_from (the_book d) + 2 * line) (placed_of l.when) (placed_of l.done) old new answer) (flags later : List Bool) (is : later ≡ set flags line answer) (room : line < length flags)
-      (half : LinesHalf (the_book d) m k line visited old flags) where
-    hit : Operand → Bool
-    hit = moved (known_world (the_book d) m (suc (length (the_book d).alerts))) k
-
-    world-at : (i : ℕ) → lines_from (the_book d) ≤ i → Shows env (world_of (the_book d) m i) k
-    world-at i le = subst (λ w. Shows env w k) (sym (rest-world (the_book d) m i le)) shows
-
-    tells-at : (i : ℕ) → lines_from (the_book d) ≤ i → (p : Placed) → slice_get (places (the_book d)) i ≡ Some p → TellsMoved hit (world_of (the_book d) m i) k p
-    unfolding hit
-    tells-at i le p at' = subst (λ w. TellsMoved hit w k p) (sym (rest-world (the_book d) m i le)) (rest-tells d sealed m k i p at')
-
-    from : lines_from (the_book d) ≤ first
-    unfolding first
-    from = omega arith
-
-    old-half : HalfStepped (places (the_book d)) (world_of (the_book d) m) hit k first visited old
-    unfolding first hit
-    old-half = half.terms
-
-    own-steps : StepsLine (places (the_book d)) env k first (placed_of l.when) (placed_of l.done) old new answer
-    unfolding first
-    own-steps = steps
-
-    truth : answer ≡ line_stands (the_book d) m k (line_of l)
-    unfolding line_stands
-    truth =
-        own-steps.truth (world_of (the_book d) m) hit visited when-here done-here (ranges-apart (the_book d)) (world-at first from) (world-at (suc first) (omega (arith, from)))
-        (tells-at first from _ when-here) (tells-at (suc first) (omega (arith, from)) _ done-here) old-half
-        ∙ ap (λ w. holds w (tree_in l.when) k && not (holds (world_of (the_book d) m (suc first)) (tree_in l.done) k)) (rest-world (the_book d) m first from)
-        ∙ ap (λ w. holds (world (the_book d) m) (tree_in l.when) k && not (holds w (tree_in l.done) k)) (rest-world (the_book d) m (suc first) (omega (arith, from)))
-
-    told : (i : ℕ) (y : plain.Line) → i < suc line → slice_get (lines_of (the_book d).alerts) i ≡ Some y → get_or later i false ≡ line_stands (the_book d) m k y
-    told i y lt there =
-        elim (eq-or-lt_of_le (let le : i ≤ line = omega arith in le)) [
-          | inl e ↦
-              let both : Some (line_of l) ≡ Some y = sym (line-place d xs a x same within here ls j l own inside at) ∙ ap (slice_get (lines_of (the_book d).alerts)) (sym e) ∙ there in
-              let one : line_of l ≡ y = cc in
-              ap (λ n. get_or later n false) e ∙ set-own flags later line answer false is room ∙ truth ∙ ap (line_stands (the_book d) m k) one
-          | inr less ↦ set-other flags later line answer false is i less ∙ half.told i y less there
-        ]
-
-    pub line-on : LinesHalf (the_book d) m k (length (lines_of (take a (the_book d).alerts)) + (j + 1)) visited new later
-    unfolding first hit
-    line-on =
-        let next : suc line ≡ length (lines_of (take a (the_book d).alerts)) + (j + 1) = omega arith in
-        let after : suc (suc first) ≡ lines_from (the_book d) + 2 * suc line = omega arith in
-        subst (λ n. LinesHalf (the_book d) m k n visited new later) next record {
-          terms = subst (λ n. BookHalf (the_book d) m k n (suc (length (the_book d).alerts)) visited new) after
-              (own-steps.stands (world_of (the_book d) m) hit visited when-here done-here (ranges-apart (the_book d)) (world-at first from) (world-at (suc first) (omega (arith, from)))
-              (tells-at first from _ when-here) (tells-at (suc first) (omega (arith, from)) _ done-here) old-half);
-          told = told;
-          left = λ h e i y le there. set-behind flags later line answer false is i le ∙ half.left h e i y (let w : line ≤ i = omega arith in w) there;
-        }
-
-  -- a line of which no condition is stirred
-  module _ (m : ℕ → Moment) (k visited : ℕ) (t : Terms) (flags : List Bool) (small : k < 2 ^ 63)
-      (when-off : is_marked t.stirred (lines_from (the_book d) + 2 * line) ≡ false) (done-off : is_marked t.stirred (suc (lines_from (the_book d) + 2 * line)) ≡ false)
-      (half : LinesHalf (the_book d) m k line visited t flags) where
-    hits : Operand → Bool
-    hits = moved (known_world (the_book d) m (suc (length (the_book d).alerts))) k
-
-    tells-there : (i : ℕ) → lines_from (the_book d) ≤ i → (p : Placed) → slice_get (places (the_book d)) i ≡ Some p → TellsMoved hits (world_of (the_book d) m i) k p
-    unfolding hits
-    tells-there i le p at' = subst (λ w. TellsMoved hits w k p) (sym (rest-world (the_book d) m i le)) (rest-tells d sealed m k i p at')
-
-    from-there : lines_from (the_book d) ≤ first
-    unfolding first
-    from-there = omega arith
-
-    was : HalfStepped (places (the_book d)) (world_of (the_book d) m) hits k first visited t
-    unfolding first hits
-    was = half.terms
-
-    keeps : (h i : ℕ) → k ≡ suc h → lines_from (the_book d) ≤ i → first ≤ i → (p : Placed) → slice_get (places (the_book d)) i ≡ Some p → is_marked t.stirred i ≡ false
-        → holds (world (the_book d) m) p.tree h ≡ holds (world (the_book d) m) p.tree k
-    keeps h i e le next p here' off =
-        subst (λ w. holds w p.tree h ≡ holds w p.tree k) (rest-world (the_book d) m i le)
-        (rest-holds (world_of (the_book d) m i) hits k h i (nodes_before (places (the_book d)) i) p t small e (tells-there i le p here') (was.left i p next here') off)
-
-    stood : (h : ℕ) → k ≡ suc h → line_stands (the_book d) m h (line_of l) ≡ line_stands (the_book d) m k (line_of l)
-    unfolding line_stands first
-    stood h e =
-        ap (λ b. b && not (holds (world (the_book d) m) (tree_in l.done) h)) (keeps h first e from-there (let w : first ≤ first = omega arith in w) _ when-here when-off)
-        ∙ ap (λ b. holds (world (the_book d) m) (tree_in l.when) k && not b) (keeps h (suc first) e (omega (arith, from-there)) (let w : first ≤ suc first = omega arith in w) _ done-here done-off)
-
-    by-moment : (n : ℕ) → k ≡ n → (i : ℕ) (y : plain.Line) → i ≡ line → line_of l ≡ y → slice_get (lines_of (the_book d).alerts) i ≡ Some y → get_or flags i false ≡ line_stands (the_book d) m k y
-    unfolding first
-    by-moment zero e i y same' one there =
-        absurd (let w : ⊥ = (let clash : true ≡ false = sym ((was.left first _ (let le : first ≤ first = omega arith in le) when-here).stirs e) ∙ when-off in cc) in w)
-    by-moment (suc h) e i y same' one there =
-        half.left h e i y (let le : line ≤ i = omega arith in le) there
-        ∙ ap (line_stands (the_book d) m h) (sym one) ∙ stood h e ∙ ap (line_stands (the_book d) m k) one
-
-    rest-told : (i : ℕ) (y : plain.Line) → i < suc line → slice_get (lines_of (the_book d).alerts) i ≡ Some y → get_or flags i false ≡ line_stands (the_book d) m k y
-    rest-told i y lt there =
-        elim (eq-or-lt_of_le (let le : i ≤ line = omega arith in le)) [
-          | inl e ↦
-              let both : Some (line_of l) ≡ Some y = sym (line-place d xs a x same within here ls j l own inside at) ∙ ap (slice_get (lines_of (the_book d).alerts)) (sym e) ∙ there in
-              let one : line_of l ≡ y = cc in
-              by-moment k refl i y e one there
-          | inr less ↦ half.told i y less there
-        ]
-
-    pub line-off : LinesHalf (the_book d) m k (length (lines_of (take a (the_book d).alerts)) + (j + 1)) visited t flags
-    unfolding first hits
-    line-off =
-        let next : suc line ≡ length (lines_of (take a (the_book d).alerts)) + (j + 1) = omega arith in
-        let after : suc (suc first) ≡ lines_from (the_book d) + 2 * suc line = omega arith in
-        let when-rest = half-rest (places (the_book d)) (world_of (the_book d) m) k first _ when-here hits visited t small (tells-there first from-there _ when-here) when-off was in
-        subst (λ n. LinesHalf (the_book d) m k n visited t flags) next record {
-          terms = subst (λ n. BookHalf (the_book d) m k n (suc (length (the_book d).alerts)) visited t) after
-              (half-rest (places (the_book d)) (world_of (the_book d) m) k (suc first) _ done-here hits visited t small (tells-there (suc first) (omega (arith, from-there)) _ done-here) done-off when-rest);
-          told = rest-told;
-          left = λ h e i y le there. half.left h e i y (let w : line ≤ i = omega arith in w) there;
-        }
+use Rattle.fwc_lane.proofs.Stepping.{half-rest}
 
 -- how many lines an alert and those before it have
 module _ (d : Draft) (xs : List Alert) (a : ℕ) (x : Alert) (same : xs ≡ d.alerts.items) (within : a < length xs) (here : x ≡ get_or xs a x) where
@@ -218,84 +82,135 @@ module _ (d : Draft) (P : ℕ → Type 0) (n : ℕ) (less : n < length (lines_of
   with-line : P n
   with-line = from-alert (length d.alerts.items) 0 (omega arith) (let none : start d 0 ≤ n = omega arith in none)
 
--- the places of a line's conditions, and what they name
-pub line-places : (d : Draft) → IsSealed d → (n : ℕ) → n < length (lines_of (the_book d).alerts) → (w p : Placed) × (slice_get (places (the_book d)) (lines_from (the_book d) + 2 * n) ≡ Some w)
-    × (slice_get (places (the_book d)) (suc (lines_from (the_book d) + 2 * n)) ≡ Some p) × IsWithin (length d.params.items) (length d.alerts.items) w.tree
-    × IsWithin (length d.params.items) (length d.alerts.items) p.tree
-line-places d sealed n less =
-    with-line d (λ n. (w p : Placed) × (slice_get (places (the_book d)) (lines_from (the_book d) + 2 * n) ≡ Some w)
-    × (slice_get (places (the_book d)) (suc (lines_from (the_book d) + 2 * n)) ≡ Some p) × IsWithin (length d.params.items) (length d.alerts.items) w.tree
-    × IsWithin (length d.params.items) (length d.alerts.items) p.tree) n less
-    (λ a x within here j l inside at. (
-      placed_of l.when,
-      placed_of l.done,
-      line-when d sealed d.alerts.items a x refl within here x.lines.items j l refl inside at,
-      ap (slice_get (places (the_book d))) (sym (add-one (lines_from (the_book d) + 2 * (start d a + j)))) ∙ line-done d sealed d.alerts.items a x refl within here x.lines.items j l refl inside at,
-      when-names d sealed d.alerts.items a x refl within here x.lines.items j l refl inside at,
-      done-names d sealed d.alerts.items a x refl within here x.lines.items j l refl inside at,
+-- the place of a condition, and what it names
+pub condition-place : (d : Draft) → IsSealed d → (i : ℕ) → i < memos_from (the_book d)
+    → (p : Placed) × (slice_get (places (the_book d)) i ≡ Some p) × IsWithin (length d.params.items) (length d.alerts.items) p.tree
+condition-place d sealed i less =
+    let inside : i < length (places (the_book d)) = omega (arith, less, all-places d sealed) in
+    with-item (places (the_book d)) i inside
+    (λ p here.
+    let is : slice_get (places (the_book d)) i ≡ Some p = slice_get-get_or (places (the_book d)) i p inside ∙ ap Some (sym here) in (
+      p,
+      is,
+      subst (λ n. IsWithin n (length d.alerts.items) p.tree) (many-parameters d)
+          (subst (λ n. IsWithin (length (the_book d).parameters) n p.tree) (many-alerts d) (names-within d sealed i p is)),
     ))
 
--- a line that is stepped
-pub line-next : (d : Draft) → IsSealed d → (n : ℕ) → n < length (lines_of (the_book d).alerts) → (m : ℕ → Moment) (k : ℕ) (env : Env) → Shows env (world (the_book d) m) k → (visited : ℕ) (old new : Terms) (answer : Bool)
-    → ((w p : Placed) → slice_get (places (the_book d)) (lines_from (the_book d) + 2 * n) ≡ Some w → slice_get (places (the_book d)) (suc (lines_from (the_book d) + 2 * n)) ≡ Some p
-    → IsWithin (length d.params.items) (length d.alerts.items) w.tree → IsWithin (length d.params.items) (length d.alerts.items) p.tree → StepsLine (places (the_book d)) env k (lines_from (the_book d) + 2 * n) w p old new answer)
-    → (flags later : List Bool) → later ≡ set flags n answer → n < length flags → LinesHalf (the_book d) m k n visited old flags → LinesHalf (the_book d) m k (n + 1) visited new later
-line-next d sealed n less m k env shows visited old new answer steps flags later is room half =
-    with-line d (λ n. ((w p : Placed) → slice_get (places (the_book d)) (lines_from (the_book d) + 2 * n) ≡ Some w → slice_get (places (the_book d)) (suc (lines_from (the_book d) + 2 * n)) ≡ Some p
-    → IsWithin (length d.params.items) (length d.alerts.items) w.tree → IsWithin (length d.params.items) (length d.alerts.items) p.tree → StepsLine (places (the_book d)) env k (lines_from (the_book d) + 2 * n) w p old new answer)
-    → later ≡ set flags n answer → n < length flags → LinesHalf (the_book d) m k n visited old flags → LinesHalf (the_book d) m k (n + 1) visited new later) n less
-    (λ a x within here j l inside at steps is room half.
-    let e : start d a + (j + 1) ≡ start d a + j + 1 = omega arith in
-    subst (λ i. LinesHalf (the_book d) m k i visited new later) e
-    (line-on d sealed d.alerts.items a x refl within here x.lines.items j l refl inside at m k env shows visited old new answer
-    (steps (placed_of l.when) (placed_of l.done) (line-when d sealed d.alerts.items a x refl within here x.lines.items j l refl inside at)
-    (ap (slice_get (places (the_book d))) (sym (add-one (lines_from (the_book d) + 2 * (start d a + j)))) ∙ line-done d sealed d.alerts.items a x refl within here x.lines.items j l refl inside at)
-    (when-names d sealed d.alerts.items a x refl within here x.lines.items j l refl inside at) (done-names d sealed d.alerts.items a x refl within here x.lines.items j l refl inside at))
-    flags later is room half))
-    steps is room half
+module _ (d : Draft) (sealed : IsSealed d) (m : ℕ → Moment) where
+  -- what is kept of the lines' conditions is told of moment h
+  abbrev AreOf : List Bool → ℕ → Type 0
+  AreOf truths h = (i : ℕ) (p : Placed) → lines_from (the_book d) ≤ i → i < memos_from (the_book d) → slice_get (places (the_book d)) i ≡ Some p
+      → get_or truths i false ≡ holds (world_of (the_book d) m i) p.tree h
 
--- lines of which no condition is stirred
-module _ (d : Draft) (sealed : IsSealed d) (m : ℕ → Moment) (k visited : ℕ) (t : Terms) (flags : List Bool) (small : k < 2 ^ 63) where
-  line-over : (n : ℕ) → n < length (lines_of (the_book d).alerts) → is_marked t.stirred (lines_from (the_book d) + 2 * n) ≡ false → is_marked t.stirred (suc (lines_from (the_book d) + 2 * n)) ≡ false
-      → LinesHalf (the_book d) m k n visited t flags → LinesHalf (the_book d) m k (n + 1) visited t flags
-  line-over n less when-off done-off half =
-      with-line d (λ n. is_marked t.stirred (lines_from (the_book d) + 2 * n) ≡ false → is_marked t.stirred (suc (lines_from (the_book d) + 2 * n)) ≡ false
-      → LinesHalf (the_book d) m k n visited t flags → LinesHalf (the_book d) m k (n + 1) visited t flags) n less
-      (λ a x within here j l inside at when-off done-off half.
-      let e : start d a + (j + 1) ≡ start d a + j + 1 = omega arith in
-      subst (λ i. LinesHalf (the_book d) m k i visited t flags) e
-      (line-off d sealed d.alerts.items a x refl within here x.lines.items j l refl inside at m k visited t flags small when-off done-off half))
-      when-off done-off half
+  -- a line stands by it where it stands in that moment
+  module _ (truths : List Bool) (h : ℕ) (are : AreOf truths h) where
+    held : (i : ℕ) (p : Placed) → lines_from (the_book d) ≤ i → i < memos_from (the_book d) → slice_get (places (the_book d)) i ≡ Some p → get_or truths i false ≡ holds (world (the_book d) m) p.tree h
+    held i p from to is = are i p from to is ∙ ap (λ w. holds w p.tree h) (rest-world (the_book d) m i from)
 
-  some-over : (n r : ℕ) → n + r ≤ length (lines_of (the_book d).alerts) → NoneMarked t.stirred (lines_from (the_book d) + 2 * n) (lines_from (the_book d) + 2 * (n + r))
-      → LinesHalf (the_book d) m k n visited t flags → LinesHalf (the_book d) m k (n + r) visited t flags
-  some-over n zero le off half = let e : n ≡ n + 0 = omega arith in subst (λ i. LinesHalf (the_book d) m k i visited t flags) e half
-  some-over n (suc r) le off half =
-      let e : (n + r) + 1 ≡ n + suc r = omega arith in
-      subst (λ i. LinesHalf (the_book d) m k i visited t flags) e
-      (line-over (n + r) (omega arith) (off _ (omega arith) (omega arith)) (off _ (omega arith) (omega arith)) (some-over n r (omega arith) (λ j low high. off j low (omega arith)) half))
+    module _ (a : ℕ) (x : Alert) (within : a < length d.alerts.items) (here : x ≡ get_or d.alerts.items a x) (j : ℕ) (l : Line) (inside : j < length x.lines.items) (at : l ≡ get_or x.lines.items j l) where
+      place : slice_get (lines_of (the_book d).alerts) (start d a + j) ≡ Some (line_of l)
+      place = line-place d d.alerts.items a x refl within here x.lines.items j l refl inside at
 
-  -- up to the next of which one is, or to the end
-  pub lines-past : (n i : ℕ) → n ≤ i → i ≤ length (lines_of (the_book d).alerts) → NoneMarked t.stirred (lines_from (the_book d) + 2 * n) (lines_from (the_book d) + 2 * i)
-      → LinesHalf (the_book d) m k n visited t flags → LinesHalf (the_book d) m k i visited t flags
-  lines-past n i le most off half =
-      let e : n + (i - n) ≡ i = omega arith in
-      subst (λ i. LinesHalf (the_book d) m k i visited t flags) e
-      (some-over n (i - n) (omega arith) (λ j low high. off j low (omega arith)) half)
+      less : start d a + j < length (lines_of (the_book d).alerts)
+      less = slice_get_within (lines_of (the_book d).alerts) (start d a + j) (line_of l) place
 
--- before the first line
-pub lines-begin : (d : Draft) (m : ℕ → Moment) (k visited : ℕ) (terms : Terms) (flags : List Bool) → LinesWere (the_book d) m k flags → BookHalf (the_book d) m k (lines_from (the_book d)) (suc (length (the_book d).alerts)) visited terms
-    → LinesHalf (the_book d) m k 0 visited terms flags
-lines-begin d m k visited terms flags were half = record {
-  terms = subst (λ n. BookHalf (the_book d) m k n (suc (length (the_book d).alerts)) visited terms) (let e : lines_from (the_book d) ≡ lines_from (the_book d) + 2 * 0 = omega arith in e) half;
-  told = λ j l lt is. absurd (omega arith);
-  left = λ h e j l le is. were h e j l is;
-}
+      stands : stands_by truths (lines_from (the_book d) + 2 * (start d a + j)) ≡ line_stands (the_book d) m h (line_of l)
+      unfolding line_stands
+      stands =
+          let first = lines_from (the_book d) + 2 * (start d a + j) in
+          ap (λ c. c && not (get_or truths (suc first) false))
+          (held first (placed_of l.when) (omega arith) (omega (arith, less)) (line-when d sealed d.alerts.items a x refl within here x.lines.items j l refl inside at))
+          ∙ ap (λ c. holds (world (the_book d) m) (tree_in l.when) h && not c)
+          (held (suc first) (placed_of l.done) (omega arith) (omega (arith, less))
+          (ap (slice_get (places (the_book d))) (sym (add-one first)) ∙ line-done d sealed d.alerts.items a x refl within here x.lines.items j l refl inside at))
 
--- behind the last
-module _ (d : Draft) (m : ℕ → Moment) (k visited : ℕ) (terms : Terms) (flags : List Bool) (half : LinesHalf (the_book d) m k (length (lines_of (the_book d).alerts)) visited terms flags) where
-  pub lines-end : BookHalf (the_book d) m k (memos_from (the_book d)) (suc (length (the_book d).alerts)) visited terms
-  lines-end = half.terms
+    line-by : (n : ℕ) (y : plain.Line) → slice_get (lines_of (the_book d).alerts) n ≡ Some y → stands_by truths (lines_from (the_book d) + 2 * n) ≡ line_stands (the_book d) m h y
+    line-by n y is =
+        with-line d (λ n. (y : plain.Line) → slice_get (lines_of (the_book d).alerts) n ≡ Some y → stands_by truths (lines_from (the_book d) + 2 * n) ≡ line_stands (the_book d) m h y) n
+        (slice_get_within (lines_of (the_book d).alerts) n y is)
+        (λ a x within here j l inside at y is.
+        let both : Some (line_of l) ≡ Some y = sym (place a x within here j l inside at) ∙ is in
+        let one : line_of l ≡ y = cc in
+        stands a x within here j l inside at ∙ ap (line_stands (the_book d) m h) one)
+        y is
 
-  pub lines-told : TellsOf flags (lines_of (the_book d).alerts) (line_stands (the_book d) m k)
-  lines-told = λ j l is. half.told j l (slice_get_within (lines_of (the_book d).alerts) j l is) is
+  module _ (k visited : ℕ) where
+    abbrev Half : ℕ → Terms → List Bool → Type 0
+    Half i t flags = LinesHalf (the_book d) m k i visited t flags
+
+    hit : Operand → Bool
+    hit = moved (known_world (the_book d) m (suc (length (the_book d).alerts))) k
+
+    tells : (i : ℕ) (p : Placed) → lines_from (the_book d) ≤ i → slice_get (places (the_book d)) i ≡ Some p → TellsMoved hit (world_of (the_book d) m i) k p
+    unfolding hit
+    tells i p from here = subst (λ w. TellsMoved hit w k p) (sym (rest-world (the_book d) m i from)) (rest-tells d sealed m k i p here)
+
+    -- a condition is stepped, and its line, of number n, told of
+    module _ (n i : ℕ) (p : Placed) (from : lines_from (the_book d) ≤ i) (low : lines_from (the_book d) + 2 * n ≤ i) (high : i ≤ lines_from (the_book d) + 2 * n + 1) (here : slice_get (places (the_book d)) i ≡ Some p)
+        (env : Env) (shows : ShowsFirst env (world (the_book d) m) k) (old new : Terms) (answer : Bool) (steps : StepsTerm (places (the_book d)) env k i p old new answer) (truths : new.truths.items ≡ set old.truths.items i answer)
+        (flags later : List Bool) (is : later ≡ set flags n (stands_by new.truths.items (lines_from (the_book d) + 2 * n))) (room : n < length flags) (half : Half i old flags) where
+      other : (j : ℕ) → j ≢ i → get_or new.truths.items j false ≡ get_or old.truths.items j false
+      other j ne = ap (λ ys. get_or ys j false) truths ∙ get_or-set_other old.truths.items i j answer false ne
+
+      -- other lines stand where they stood
+      stays : (j : ℕ) → j ≢ n → stands_by old.truths.items (lines_from (the_book d) + 2 * j) ≡ stands_by new.truths.items (lines_from (the_book d) + 2 * j)
+      stays j ne =
+          let first = lines_from (the_book d) + 2 * j in
+          ap (λ c. c && not (get_or old.truths.items (suc first) false)) (sym (other first (omega (arith, low, high, ne))))
+          ∙ ap (λ c. get_or new.truths.items first false && not c) (sym (other (suc first) (omega (arith, low, high, ne))))
+
+      pub line-on : Half (suc i) new later
+      unfolding hit
+      line-on = record {
+        terms = steps.stands (world_of (the_book d) m) hit visited here (ranges-apart (the_book d)) (subst (λ w. ShowsFirst env w k) (sym (rest-world (the_book d) m i from)) shows) (tells i p from here) half.terms;
+        told = λ j within early. elim (cases_eq j n) [
+          | inl e ↦ subst (λ j. get_or later j false ≡ stands_by new.truths.items (lines_from (the_book d) + 2 * j)) (sym e) (set-own flags later n _ false is room)
+          | inr ne ↦ ap (λ ys. get_or ys j false) is ∙ get_or-set_other flags n j _ false ne ∙ half.told j within (λ z. omega (arith, early z, low, high, ne)) ∙ stays j ne
+        ];
+      }
+
+    -- conditions that aren't stirred
+    module _ (t : Terms) (flags : List Bool) (small : k < 2 ^ 63) where
+      line-off : (i : ℕ) (p : Placed) → lines_from (the_book d) ≤ i → slice_get (places (the_book d)) i ≡ Some p → is_marked t.stirred i ≡ false → Half i t flags → Half (suc i) t flags
+      unfolding hit
+      line-off i p from here off half = record {
+        terms = half-rest (places (the_book d)) (world_of (the_book d) m) k i p here hit visited t small (tells i p from here) off half.terms;
+        told = λ j within early. half.told j within
+            (λ z. absurd (let w : ⊥ = (let clash : true ≡ false = sym ((half.terms.left i p (let le : i ≤ i = omega arith in le) here).stirs z) ∙ off in cc) in w));
+      }
+
+      some-off : (i r : ℕ) → lines_from (the_book d) ≤ i → i + r ≤ memos_from (the_book d) → NoneMarked t.stirred i (i + r) → Half i t flags → Half (i + r) t flags
+      some-off i zero from to off half = let e : i ≡ i + 0 = omega arith in subst (λ n. Half n t flags) e half
+      some-off i (suc r) from to off half =
+          let e : suc (i + r) ≡ i + suc r = omega arith in
+          let (p, here, names) = condition-place d sealed (i + r) (omega (arith, to)) in
+          subst (λ n. Half n t flags) e
+          (line-off (i + r) p (omega (arith, from)) here (off (i + r) (omega arith) (omega arith)) (some-off i r from (omega (arith, to)) (λ j low high. off j low (omega (arith, high))) half))
+
+      -- up to the next that is, or to the end
+      pub lines-past : (i n : ℕ) → lines_from (the_book d) ≤ i → i ≤ n → n ≤ memos_from (the_book d) → NoneMarked t.stirred i n → Half i t flags → Half n t flags
+      lines-past i n from le to off half =
+          let e : i + (n - i) ≡ n = omega (arith, le) in
+          subst (λ n. Half n t flags) e
+          (some-off i (n - i) from (omega (arith, le, to)) (subst (λ n. NoneMarked t.stirred i n) (sym e) off) half)
+
+    module _ (t : Terms) (flags : List Bool) where
+      -- before the first
+      begun : (n : ℕ) → k ≡ n → LinesWere (the_book d) m k flags → BookHalf (the_book d) m k (lines_from (the_book d)) (suc (length (the_book d).alerts)) visited t
+          → (j : ℕ) (y : plain.Line) → slice_get (lines_of (the_book d).alerts) j ≡ Some y → (k ≡ 0 → lines_from (the_book d) + 2 * j < lines_from (the_book d))
+          → get_or flags j false ≡ stands_by t.truths.items (lines_from (the_book d) + 2 * j)
+      begun zero e were half j y is early = absurd (let w : ⊥ = omega (arith, early e) in w)
+      begun (suc h) e were half j y is early = were h e j y is ∙ sym (line-by t.truths.items h (λ i p from to here. ((half.left i p from here).later h e).told) j y is)
+
+      pub lines-begin : LinesWere (the_book d) m k flags → BookHalf (the_book d) m k (lines_from (the_book d)) (suc (length (the_book d).alerts)) visited t → Half (lines_from (the_book d)) t flags
+      lines-begin were half = record {
+        terms = half;
+        told = λ j within early. with-item (lines_of (the_book d).alerts) j within
+            (λ y here. begun k refl were half j y (slice_get-get_or (lines_of (the_book d).alerts) j y within ∙ ap Some (sym here)) early);
+      }
+
+      -- behind the last
+      pub lines-told : Half (memos_from (the_book d)) t flags → TellsOf flags (lines_of (the_book d).alerts) (line_stands (the_book d) m k)
+      lines-told half = λ j y is.
+          let within : j < length (lines_of (the_book d).alerts) = slice_get_within (lines_of (the_book d).alerts) j y is in
+          half.told j within (λ z. omega (arith, within)) ∙ line-by t.truths.items k (λ i p from to here. (half.terms.stepped i p to here).told) j y is

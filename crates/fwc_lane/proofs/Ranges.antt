@@ -22,6 +22,11 @@ ranged-none from f o = elim (cases_lt o from) [
   | inr above ↦ ranged-above from 0 f o (omega arith)
 ]
 
+-- where none passes the test
+pub ranged-off : (from n o : ℕ) → ranged from n (λ i. false) o ≡ false
+unfolding ranged
+ranged-off from n o = and-false (leb from o && ltb o (from + n))
+
 -- one number more
 pub ranged-next : (from n : ℕ) (f : ℕ → Bool) (o : ℕ) → ranged from (suc n) f o ≡ (ranged from n f o || (f n && eqb o (from + n)))
 ranged-next from n f o = elim (cases_lt o from) [

@@ -1,15 +1,16 @@
 -- A moment in which nothing comes begins: it wakes no condition, and the inputs of the phase are what they were.
-use Rattle.std.proofs.Common.{◌≡◌, ℕ, zero, suc, ◌+◌, ◌^◌, ◌<◌, Bool, true, false, ◌&&◌, ◌||◌, eqb, ltb, [], length, slice_index, refl, sym, ap, ◌∙◌, arith}
+use Rattle.std.proofs.Common.{◌≡◌, ℕ, zero, suc, ◌+◌, ◌^◌, ◌<◌, Bool, true, false, ◌&&◌, ◌||◌, eqb, ltb, [], length, get_or, slice_index, None, refl, sym, ap, ◌∙◌, arith}
 use Rattle.std.proofs.lemmas.Bool.{lt-leb}
 use Rattle.ecam_spec.specs.Book.{Book}
 use Rattle.ecam_spec.specs.History.{Moment}
 use Rattle.ecam_spec.specs.Phase.{Flight}
-use Rattle.ecam_spec.specs.Situation.{words_in}
+use Rattle.ecam_spec.specs.Situation.{words_in, value_in}
 use Rattle.book_model.specs.declared.draft.Draft.{Draft}
 use Rattle.book_model.specs.Sealed.{the_book, IsSealed}
 use Rattle.book_model.specs.Conditions.{places, world_of}
 use Rattle.flight_phases.specs.declared.inputs.PhaseInputs.{PhaseInputs}
 use Rattle.flight_phases.specs.Inputs.{AreInputs, SameInputs}
+use Rattle.param_table.specs.Asked.{is_asked_for}
 use Rattle.term_eval.specs.Woken.{differ}
 use Rattle.wakes.specs.Marks.{is_marked}
 use Rattle.wakes.proofs.Bits.{none_in}
@@ -90,14 +91,17 @@ module _ (d : Draft) (sealed : IsSealed d) (m : ℕ → Moment) (old : Lane) (fi
       refl
       (counted-none (places b) [] old.terms.cells.visits old.terms.cells.visits none-marked (omega (arith, fits.terms.visits)))
 
+  still : (p : ℕ) → p < length b.parameters → is_asked_for b p ≡ true → get_or old.values.items p None ≡ value_in b m p k
+  still = values-told b m k old.values.items (λ p lt on. was.values p lt on ∙ sym (stay (words_in b m) k came.words p lt on))
+
   begun-terms : BookHalf b m k 0 0 old.terms.cells.visits unmarked
   begun-terms =
       begins d sealed m k old.terms.cells.visits old.terms (record old.terms { woken = []; stirred = []; dues = old.terms.dues; cells = old.terms.cells }) unmarked old.params old.keys old.terms.one_up old.terms.two_up old.values.items old.values.items
       was.terms came (value-before b m k old.values.items was.values)
-      (values-told b m k old.values.items (λ p lt. was.values p lt ∙ sym (stay (words_in b m) k came.words p lt))) half
+      still half
       (awake-none b all-given (reads_given b old.values.items old.keys old.terms.one_up old.terms.two_up) unmarked none-given)
 
   pub begun : HasBegun b m k old.terms.cells.visits old.terms.one_up old.terms.two_up false (record old { terms = unmarked })
   begun =
       has-begun b m k old.terms.cells.visits old.terms.one_up old.terms.two_up false old unmarked old.values old.turned was came begun-terms
-      (values-told b m k old.values.items (λ p lt. was.values p lt ∙ sym (stay (words_in b m) k came.words p lt))) (λ off. refl) (λ p off. refl) old.idle
+      (λ e. absurd (let w : ⊥ = (let clash : true ≡ false = sym rest.calm.ticked ∙ was.ticked ∙ ap (ltb 0) e in cc) in w)) still (λ off. refl) (λ p off. refl) old.idle

@@ -13,11 +13,11 @@ use Rattle.term_eval.specs.Memory.{Memory, NodeMemory}
 use Rattle.term_eval.specs.NodeState.{NodesStand, Within, first_wake}
 use Rattle.term_eval.specs.Due.{staying, IsDue}
 use Rattle.term_eval.specs.Woken.{Operand}
-use Rattle.term_eval.specs.Shown.{Shows}
 use Rattle.condition_codes.specs.Places.{nodes_before}
 use Rattle.fwc_lane.specs.declared.terms.Terms.{Terms}
 use Rattle.fwc_lane.specs.TermsFit.{TermsFit}
 use Rattle.fwc_lane.specs.Conditions.{IsLeft, TellsMoved, StepsTerm}
+use Rattle.fwc_lane.specs.Given.{ShowsFirst}
 use Rattle.fwc_lane.proofs.Stepping.{half-step}
 
 -- what it says, and what is kept of it
@@ -94,7 +94,7 @@ run-fits b i start p truth due old new runs fits = subst (TermsFit b) (sym runs.
 
 pub run-steps : (b : Book) (env : Env) (k i : ℕ) (p : Placed) (truth : Bool) (due : ℕ) (old new : Terms) → k < 2 ^ 63 → slice_get (places b) i ≡ Some p → TermsFit b old
     → RunsOne i (nodes_before (places b) i) p truth due old new
-    → ((w : World) (hit : Operand → Bool) → Shows env w k → TellsMoved hit w k p → IsLeft w hit k i (nodes_before (places b) i) p old
+    → ((w : World) (hit : Operand → Bool) → ShowsFirst env w k → TellsMoved hit w k p → IsLeft w hit k i (nodes_before (places b) i) p old
     → IsRun w k (nodes_before (places b) i) p new truth due)
     → StepsTerm (places b) env k i p old new truth
 run-steps b env k i p truth due old new small here fits runs told =

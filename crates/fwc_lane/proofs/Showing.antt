@@ -12,8 +12,8 @@ use Rattle.alert_truth.specs.Alerts.{present, active, waiting, starred, up}
 use Rattle.alert_truth.specs.declared.truths.Truths.{Truths}
 use Rattle.alert_truth.specs.TruthsState.{HalfStand, TruthsStand}
 use Rattle.term_eval.specs.declared.env.Env.{Env}
-use Rattle.term_eval.specs.Shown.{Shows, is_active}
-use Rattle.fwc_lane.specs.Given.{Lends}
+use Rattle.term_eval.specs.Shown.{is_active}
+use Rattle.fwc_lane.specs.Given.{Lends, ShowsFirst}
 
 module _ (b : Book) (m : ℕ → Moment) where
   -- the words of alert_truth at a book's conditions and phases are the definitions
@@ -39,9 +39,9 @@ module _ (b : Book) (m : ℕ → Moment) where
 
   module _ (k : ℕ) (env : Env) (lends : Lends b m k env) where
     shows-where : (phases : ℕ → ℕ) (actives : ℕ → Signal) → env.phase.number ≡ phases k → ((a : ℕ) → a < length env.active.now → is_active env a ≡ actives a k)
-        → Shows env (world_where b m phases actives) k
-    shows-where phases actives phase alerts = record {
-      values = lends.values;
+        → ShowsFirst env (world_where b m phases actives) k
+    shows-where phases actives phase alerts = λ first. record {
+      values = lends.values first;
       phase = phase;
       active = alerts;
       pressed = lends.pressed;
@@ -50,12 +50,12 @@ module _ (b : Book) (m : ℕ → Moment) where
     }
 
     -- phase 1 and no alert
-    pub shows-flight : env.phase.number ≡ 1 → length env.active.now ≡ 0 → Shows env (flight_world b m) k
+    pub shows-flight : env.phase.number ≡ 1 → length env.active.now ≡ 0 → ShowsFirst env (flight_world b m) k
     shows-flight phase none = shows-where (λ i. 1) (λ a i. false) phase (λ a lt. absurd (omega arith))
 
     -- the phase and the alerts before alert i
     pub shows-own : (t : Truths) (i : ℕ) → env.phase.number ≡ phase_in b m k → env.active.now ≡ take i t.active.items
-        → HalfStand b (condition_in b m) (phase_in b m) k i t → Shows env (alert_world b m (known_below b m i)) k
+        → HalfStand b (condition_in b m) (phase_in b m) k i t → ShowsFirst env (alert_world b m (known_below b m i)) k
     unfolding previous
     shows-own t i phase actives half =
         shows-where (phase_in b m) (λ a. get_or (known_below b m i) a (λ j. false)) phase
@@ -69,10 +69,10 @@ module _ (b : Book) (m : ℕ → Moment) where
 
     -- the phase and all alerts
     pub shows-whole : (t : Truths) (p : Phase) (flags : Bor (List Bool)) → p.number ≡ phase_in b m k → flags.now ≡ t.active.items
-        → TruthsStand b (condition_in b m) (phase_in b m) (suc k) t → Shows (record env { phase = p; active = flags }) (world b m) k
+        → TruthsStand b (condition_in b m) (phase_in b m) (suc k) t → ShowsFirst (record env { phase = p; active = flags }) (world b m) k
     unfolding world previous
-    shows-whole t p flags phase actives stands = record {
-      values = lends.values;
+    shows-whole t p flags phase actives stands = λ first. record {
+      values = lends.values first;
       phase = phase;
       active = λ a lt.
           let below : a < length b.alerts = omega (arith, ap length actives, stands.fits.active) in

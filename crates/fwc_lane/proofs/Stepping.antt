@@ -1,6 +1,6 @@
 -- One condition more is stepped: run where it may turn, and left as it is where it doesn't. The others, whose nodes and slots are
 -- their own, are as they were.
-use Rattle.std.proofs.Common.{◌≡◌, ◌≢◌, ℕ, zero, suc, ◌+◌, ◌^◌, ◌<◌, ◌≤◌, Bool, true, false, not, ◌&&◌, ◌||◌, List, length, slice_get, slice_index, get_or, set, Some, AllPairs, refl, sym, ap, subst, ◌∙◌, inl, inr, arith, eqb}
+use Rattle.std.proofs.Common.{◌≡◌, ◌≢◌, ℕ, zero, suc, ◌+◌, ◌^◌, ◌<◌, ◌≤◌, Bool, true, false, ◌||◌, List, length, slice_get, slice_index, get_or, set, Some, AllPairs, refl, sym, ap, subst, ◌∙◌, inl, inr, arith, eqb}
 use Rattle.std.proofs.Math.Nat.{eq-or-lt_of_le}
 use Rattle.std.proofs.lemmas.List.{get_or-set_same, get_or-set_other}
 use Rattle.std.proofs.lemmas.Option.{slice_get_within}
@@ -9,7 +9,6 @@ use Rattle.ecam_spec.specs.Term.{World, holds}
 use Rattle.ecam_spec.specs.TermSize.{Placed, EndsBefore, slots, nodes}
 use Rattle.book_model.specs.Conditions.{places}
 use Rattle.book_model.proofs.ConditionRanges.{range}
-use Rattle.term_eval.specs.declared.env.Env.{Env}
 use Rattle.term_eval.specs.declared.code.Step.{Step}
 use Rattle.term_eval.specs.declared.link.Link.{Link}
 use Rattle.term_eval.specs.declared.owner.Owner.{Owner}
@@ -33,7 +32,7 @@ use Rattle.fwc_lane.specs.Visits.{IsCounted}
 use Rattle.fwc_lane.proofs.Askers.{nodes-apart}
 use Rattle.fwc_lane.proofs.Hears.{waits-by, heard-same}
 use Rattle.fwc_lane.proofs.NodeFrames.{waits-same, wake-same, ends-before}
-use Rattle.fwc_lane.specs.Conditions.{IsAsked, IsLeft, IsWaiting, HalfStepped, TellsMoved, StepsTerm, StepsLine}
+use Rattle.fwc_lane.specs.Conditions.{IsAsked, IsLeft, IsWaiting, HalfStepped, TellsMoved}
 
 -- the code under a condition's number can be run
 pub is-ready : (b : Book) (t : Terms) (i : ℕ) (p : Placed) (steps : List Step) (start : ℕ) → TermsFit b t → slice_get (places b) i ≡ Some p
@@ -208,15 +207,3 @@ module _ (ps : List Placed) (worlds : ℕ → World) (k i : ℕ) (p : Placed) (h
           left = λ j q le is. later hit j q (omega arith) is (half.left j q (omega arith) is);
           counted = subst (λ ws. IsCounted ps visited ws new.cells.visits) (sym marks) (visits ∙ half.counted);
         }
-
--- one line more
-pub line-steps : (ps : List Placed) (env : Env) (k i : ℕ) (p q : Placed) (old mid new : Terms) (when done answer : Bool) → StepsTerm ps env k i p old mid when → StepsTerm ps env k (suc i) q mid new done
-    → answer ≡ (when && not done) → StepsLine ps env k i p q old new answer
-line-steps ps env k i p q old mid new when done answer first second is = record {
-  truth = λ worlds hit visited here next apart shows shows' tells tells' half.
-      is
-      ∙ ap (λ b. b && not done) (first.truth worlds hit visited here shows tells half)
-      ∙ ap (λ b. holds (worlds i) p.tree k && not b) (second.truth worlds hit visited next shows' tells' (first.stands worlds hit visited here apart shows tells half));
-  stands = λ worlds hit visited here next apart shows shows' tells tells' half.
-      second.stands worlds hit visited next apart shows' tells' (first.stands worlds hit visited here apart shows tells half);
-}

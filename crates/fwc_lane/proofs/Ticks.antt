@@ -1,5 +1,5 @@
 -- The end of a moment: what turned in it, and what a lane is then.
-use Rattle.std.proofs.Common.{Bor, Vec, Global, ◌≡◌, ℕ, zero, suc, ◌<◌, Bool, false, not, List, length, get_or, slice_index, Option, None, sym, ap, subst, ◌∙◌, arith, ltb, eqb}
+use Rattle.std.proofs.Common.{Bor, Vec, Global, ◌≡◌, ℕ, zero, suc, ◌<◌, Bool, true, false, not, List, length, get_or, slice_index, Option, None, sym, ap, subst, ◌∙◌, arith, ltb, eqb}
 use Rattle.std.specs.Prelude.{ℤ}
 use Rattle.std.proofs.lemmas.Bool.{lt-ltb, ne_eqb}
 use Rattle.ecam_spec.specs.Book.{Book}
@@ -14,6 +14,7 @@ use Rattle.ecam_spec.specs.Keys.{IsKey, pressed}
 use Rattle.ecam_spec.specs.Situation.{words_in, strokes_in, computer_up, parameter_at, phase_in, value_in, world}
 use Rattle.ecam_kinds.specs.declared.keys.Keys.{Keys}
 use Rattle.ecam_kinds.specs.KeyState.{is_pressed}
+use Rattle.param_table.specs.Asked.{is_asked_for}
 use Rattle.param_table.specs.declared.table.Params.{Params}
 use Rattle.param_table.specs.TableState.{value_before}
 use Rattle.ecam_spec.specs.Screen.{cockpit, line_stands}
@@ -65,9 +66,9 @@ pub record TurnedFrom (b : Book) (m : ℕ → Moment) (k : ℕ) (old : Lane) (t 
 
 -- the values of the moment before, where there was one
 pub value-before : (b : Book) (m : ℕ → Moment) (k : ℕ) (values : List (Option ℤ)) → AreBefore b (words_in b m) k values → (j : ℕ) → k ≡ suc j
-    → (p : ℕ) → p < length b.parameters → get_or values p None ≡ value_in b m p j
+    → (p : ℕ) → p < length b.parameters → is_asked_for b p ≡ true → get_or values p None ≡ value_in b m p j
 unfolding value_before value_in
-value-before b m k values before j e p lt = before p lt ∙ ap (value_before (parameter_at b p) (words_in b m)) e
+value-before b m k values before j e p lt on = before p lt on ∙ ap (value_before (parameter_at b p) (words_in b m)) e
 
 pub are-turned : (b : Book) (m : ℕ → Moment) (k visited : ℕ) (one two : Bool) (old : Lane) (t : Turned) (phase : Phase) (values : Bool) (lines memos : List Bool) (marks : CrewMarks) (was calm : Bool)
     → HasBegun b m k visited one two values old → TurnedFrom b m k old t phase values lines memos marks was calm → AreTurned b m k t
@@ -75,7 +76,7 @@ unfolding previous
 are-turned b m k visited one two old t phase values lines memos marks was calm stands from = record {
   first = first-is k old.ticked t.first stands.ticked from.first;
   phase = λ j e off. sym from.phase_is ∙ ap (λ (p : Phase). p.number) (from.phase_kept off) ∙ stands.phase j e;
-  values = λ j e off p lt. stands.kept (sym from.values ∙ off) j e p lt;
+  values = λ j e off p lt on. stands.kept (sym from.values ∙ off) j e p lt on;
   lines = λ j e off a lt on i l is.
       let there = own-place b a i l lt is in
       let lit = shown-told b m j old.marks (subst (λ n. MarksStand b (cockpit b m) n old.marks) e stands.marks) a lt ∙ on in
@@ -92,7 +93,7 @@ are-turned b m k visited one two old t phase values lines memos marks was calm s
 
 -- the environment of the moment, by what came in it
 pub lends-from : (b : Book) (m : ℕ → Moment) (k : ℕ) (v : Bor (List (Option ℤ))) (p : Phase) (a : Bor (List Bool)) (q : Bor Keys) (o t : Bool) (params : Params) (keys : Keys) → q.now ≡ keys
-    → Came b m k params keys o t → ((i : ℕ) → i < length v.now → get_or v.now i None ≡ value_in b m i k) → Lends b m k (record { values = v; phase = p; active = a; keys = q; one_up = o; two_up = t })
+    → Came b m k params keys o t → (k ≡ 0 → (i : ℕ) → i < length v.now → get_or v.now i None ≡ value_in b m i k) → Lends b m k (record { values = v; phase = p; active = a; keys = q; one_up = o; two_up = t })
 lends-from b m k v p a q o t params keys same came values = record {
   values = values;
   pressed = λ key is. ap (λ (ks : Keys). is_pressed ks key) same ∙ came.strokes.pressed key is;
@@ -110,13 +111,19 @@ came-with b m k params keys one two one' two' first second came = record {
 }
 
 -- the values of a moment, by the words so far
-pub values-told : (b : Book) (m : ℕ → Moment) (k : ℕ) (values : List (Option ℤ)) → ((p : ℕ) → p < length b.parameters → get_or values p None ≡ value (parameter_at b p) (words_in b m) k)
-    → (p : ℕ) → p < length b.parameters → get_or values p None ≡ value_in b m p k
+pub values-told : (b : Book) (m : ℕ → Moment) (k : ℕ) (values : List (Option ℤ))
+    → ((p : ℕ) → p < length b.parameters → is_asked_for b p ≡ true → get_or values p None ≡ value (parameter_at b p) (words_in b m) k)
+    → (p : ℕ) → p < length b.parameters → is_asked_for b p ≡ true → get_or values p None ≡ value_in b m p k
 unfolding value_in
 values-told b m k values told = told
 
+pub all-told : (b : Book) (m : ℕ → Moment) (k : ℕ) (values : List (Option ℤ)) → ((p : ℕ) → p < length b.parameters → get_or values p None ≡ value (parameter_at b p) (words_in b m) k)
+    → (p : ℕ) → p < length b.parameters → get_or values p None ≡ value_in b m p k
+unfolding value_in
+all-told b m k values told = told
+
 -- and in the moment after it they are those of the moment before
-pub values-before : (b : Book) (m : ℕ → Moment) (k : ℕ) (values : List (Option ℤ)) → ((p : ℕ) → p < length b.parameters → get_or values p None ≡ value_in b m p k)
+pub values-before : (b : Book) (m : ℕ → Moment) (k : ℕ) (values : List (Option ℤ)) → ((p : ℕ) → p < length b.parameters → is_asked_for b p ≡ true → get_or values p None ≡ value_in b m p k)
     → AreBefore b (words_in b m) (suc k) values
 unfolding value_before value_in
 values-before b m k values told = told
@@ -140,14 +147,16 @@ terms-after b m k visited t params keys kept one two same all came =
 
 -- a moment has begun in a lane that stood for those before it
 pub has-begun : (b : Book) (m : ℕ → Moment) (k visited : ℕ) (one two turned : Bool) (old : Lane) (t : Terms) (values : Vec (Option ℤ) Global) (flags : Vec Bool Global) → WholeStands b m k old → Came b m k old.params old.keys one two
-    → BookHalf b m k 0 0 visited t → ((p : ℕ) → p < length b.parameters → get_or values.items p None ≡ value_in b m p k) → (turned ≡ false → values.items ≡ old.values.items)
+    → BookHalf b m k 0 0 visited t → (k ≡ 0 → (p : ℕ) → p < length b.parameters → get_or values.items p None ≡ value_in b m p k)
+    → ((p : ℕ) → p < length b.parameters → is_asked_for b p ≡ true → get_or values.items p None ≡ value_in b m p k) → (turned ≡ false → values.items ≡ old.values.items)
     → ((p : ℕ) → get_or flags.items p false ≡ false → get_or values.items p None ≡ get_or old.values.items p None)
     → (idle : Bool) → HasBegun b m k visited one two turned (record old { terms = t; values = values; turned = flags; idle = idle })
-has-begun b m k visited one two turned old t values flags was came half told kept stays idle = record {
+has-begun b m k visited one two turned old t values flags was came half all told kept stays idle = record {
   came = came;
+  all = all;
   values = told;
-  kept = λ off j e p lt. sym (told p lt) ∙ ap (λ vs. get_or vs p None) (kept off) ∙ value-before b m k old.values.items was.values j e p lt;
-  flags = λ j e p lt off. sym (told p lt) ∙ stays p off ∙ value-before b m k old.values.items was.values j e p lt;
+  kept = λ off j e p lt on. sym (told p lt on) ∙ ap (λ vs. get_or vs p None) (kept off) ∙ value-before b m k old.values.items was.values j e p lt on;
+  flags = λ j e p lt on off. sym (told p lt on) ∙ stays p off ∙ value-before b m k old.values.items was.values j e p lt on;
   terms = half;
   ticked = was.ticked;
   phases = was.phases;

@@ -13,6 +13,7 @@ use Rattle.ecam_spec.specs.declared.kinds.Kind.TheVariants.{Disc, Bnr, Bcd}
 use Rattle.ecam_spec.specs.Book.{Book}
 use Rattle.ecam_spec.specs.Value.{BusWord, value}
 use Rattle.ecam_spec.specs.Situation.{parameter_at}
+use Rattle.param_table.specs.Asked.{is_asked_for}
 use Rattle.param_table.specs.TableState.{IsValueOf, ParamsStand, value_before}
 use Rattle.param_table.specs.declared.table.Params.{Params}
 use Rattle.system_display.specs.Pages.{IsShort, AreShort}
@@ -27,7 +28,7 @@ use Rattle.fwc_lane.proofs.Listing.{right-true}
 use Rattle.fwc_lane.proofs.Ranges.{ranged-in, ranged-above}
 use Rattle.fwc_lane.proofs.TurnedFlags.{turned-then}
 
-is-short : (kind : Kind) (o : Option ℤ) → IfSome o (IsValueOf kind) → IfSome o IsShort
+pub is-short : (kind : Kind) (o : Option ℤ) → IfSome o (IsValueOf kind) → IfSome o IsShort
 is-short Bnr None h = h
 is-short Bcd None h = h
 is-short Disc None h = h
@@ -117,16 +118,16 @@ module _ (b : Book) (params : Params) (was : List (Option ℤ)) (first : Terms) 
 
   module _ (from : ℕ) (now : List (Option ℤ)) (flags : List Bool) (terms : Terms) (is : AreReadTo b params was first from now flags terms) where
     -- some that follow have no other value
-    pub read-over : (end : ℕ) → from ≤ end → ((words : ℕ → List BusWord) (k : ℕ) → ParamsStand b words k params → (p : ℕ) → from ≤ p → p < end → p < length b.parameters
+    pub read-over : (end : ℕ) → from ≤ end → ((words : ℕ → List BusWord) (k : ℕ) → ParamsStand b words k params → (p : ℕ) → from ≤ p → p < end → p < length b.parameters → is_asked_for b p ≡ true
         → value (parameter_at b p) words k ≡ value_before (parameter_at b p) words k) → AreReadTo b params was first end now flags terms
     read-over end more same = record {
       many = is.many;
       flagged = is.flagged;
       short = is.short;
       fits = is.fits;
-      read = λ words k stands before p low within. elim (cases_lt p from) [
-        | inl lt ↦ is.read words k stands before p lt within
-        | inr le ↦ is.later p le ∙ before p within ∙ sym (same words k stands p le low within)
+      read = λ words k stands before p low within on. elim (cases_lt p from) [
+        | inl lt ↦ is.read words k stands before p lt within on
+        | inr le ↦ is.later p le ∙ before p within on ∙ sym (same words k stands p le low within on)
       ];
       later = λ p le. is.later p (omega (arith, le, more));
       turned = is.turned;
@@ -156,9 +157,9 @@ module _ (b : Book) (params : Params) (was : List (Option ℤ)) (first : Terms) 
         flagged = long ∙ is.flagged;
         short = subst AreShort (sym set-is) (All-set (λ x. IfSome x IsShort) now from v (is-short _ v bound) is.short);
         fits = fits;
-        read = λ words k stands before p low within. elim (cases_eq p from) [
+        read = λ words k stands before p low within on. elim (cases_eq p from) [
           | inl e ↦ ap (λ j. get_or after j None) e ∙ own ∙ has words k stands ∙ ap (λ j. value (parameter_at b j) words k) (sym e)
-          | inr ne ↦ others p ne ∙ is.read words k stands before p (omega (arith, low, ne)) within
+          | inr ne ↦ others p ne ∙ is.read words k stands before p (omega (arith, low, ne)) within on
         ];
         later = λ p le. others p (λ e. absurd (omega (arith, le, e))) ∙ is.later p (omega (arith, le));
         turned = told;

@@ -1,30 +1,31 @@
 -- A zone whose inputs stay as they were stays as it was.
-use Rattle.std.proofs.Common.{◌≡◌, ℕ, suc, ◌<◌, Bool, true, false, not, ◌&&◌, ◌==◌, List, [], ◌∷◌, ◌++◌, map, length, get_or, slice_get, Option, Some, None, cond, refl, sym, ap, ◌∙◌, inl, inr}
-use Rattle.std.specs.Prelude.{filter, flat_map, find, ℤ}
+use Rattle.std.proofs.Common.{◌≡◌, ℕ, suc, ◌<◌, Bool, true, false, not, ◌&&◌, ◌==◌, List, [], ◌∷◌, ◌++◌, map, length, get_or, slice_get, Option, Some, cond, refl, sym, ap, ◌∙◌, inl, inr}
+use Rattle.std.specs.Prelude.{filter, flat_map, find}
 use Rattle.std.specs.List.{list_any}
 use Rattle.std.specs.Option.{option_and_then, option_or}
 use Rattle.std.proofs.lemmas.Bool.{cases_lt}
 use Rattle.std.proofs.lemmas.List.{get_or_past}
 use Rattle.std.proofs.lemmas.List.Elements.{All-filter, filter_agree}
-use Rattle.ecam_spec.specs.declared.kinds.Colour.TheVariants.{White}
 use Rattle.ecam_spec.specs.declared.kinds.Choice.TheVariants.{Auto, Page, Status}
 use Rattle.ecam_spec.specs.Book as plain
 use Rattle.ecam_spec.specs.Book.{Book, Line, Memo}
 use Rattle.ecam_spec.specs.Term.{holds, in_set}
 use Rattle.ecam_spec.specs.Value.{value}
-use Rattle.ecam_spec.specs.Picture.{row, zone}
+use Rattle.ecam_spec.specs.Picture.{row}
 use Rattle.ecam_spec.specs.Places.{below, first_in}
 use Rattle.ecam_spec.specs.History.{Moment}
 use Rattle.ecam_spec.specs.Crew.{normal}
 use Rattle.ecam_spec.specs.LeftZone.{LeftRow, title_colour, alert_rows, left_rows, plain as plain_row}
 use Rattle.ecam_spec.specs.RightZone.{right_rows}
 use Rattle.ecam_spec.specs.StatusPage.{status_rows, status_page}
-use Rattle.ecam_spec.specs.SystemDisplay.{page_rows, page_row, shown_value, called_page, display_rows}
+use Rattle.ecam_spec.specs.SystemDisplay.{page_rows, called_page, display_rows}
 use Rattle.ecam_spec.specs.Situation.{alert_at, no_alert, parameter_at, no_parameter, value_in, phase_in, world, active_in, starred_in}
 use Rattle.ecam_spec.specs.Screen as screen
 use Rattle.ecam_spec.specs.Screen.{alert_numbers, order, cockpit, line_stands, shown_in, is_shown_in, cancelled_in, left_in, right_in, status_in, display}
 use Rattle.ecam_spec.proofs.CrewSteps.{shown-flags}
 use Rattle.ecam_spec.proofs.OrderLaws.{order-below, below-below}
+use Rattle.param_table.specs.Asked.{is_asked_for}
+use Rattle.fwc_lane.proofs.PagesAlike.{IsOfBook, one-of-book, called-of-book, page-alike}
 use Rattle.warning_display.proofs.Passing.{filter_told, any_told}
 
 -- two tests that agree on the members of a list keep the same of it
@@ -40,10 +41,6 @@ flat_map_passing f g p same (x ∷ xs) = by (p x) refl (flat_map_passing f g p s
   by : (on : Bool) → p x ≡ on → flat_map f (filter p xs) ≡ flat_map g (filter p xs) → flat_map f (cond on (x ∷ filter p xs) (filter p xs)) ≡ flat_map g (cond on (x ∷ filter p xs) (filter p xs))
   by true e rest = ap (λ ys. ys ++ flat_map f (filter p xs)) (same x e) ∙ ap (λ ys. g x ++ ys) rest
   by false e rest = rest
-
-pub map_same : {X Y : Type 0} (f g : X → Y) → ((x : X) → f x ≡ g x) → (xs : List X) → map f xs ≡ map g xs
-map_same f g same [] = refl
-map_same f g same (x ∷ xs) = ap (λ y. y ∷ map f xs) (same x) ∙ ap (λ ys. g x ∷ ys) (map_same f g same xs)
 
 module _ (b : Book) (m : ℕ → Moment) (k j : ℕ) where
   -- ---- what is shown
@@ -129,41 +126,29 @@ module _ (b : Book) (m : ℕ → Moment) (k j : ℕ) where
       ap (λ p. option_or (option_and_then (slice_get b.pages) (option_and_then (λ a. (alert_at b a).page) (first_in (shown_in b m k)))) (find (λ (x : plain.Page). in_set x.phases p) b.pages)) phase
       ∙ ap (λ xs. option_or (option_and_then (slice_get b.pages) (option_and_then (λ a. (alert_at b a).page) (first_in xs))) (find (λ (x : plain.Page). in_set x.phases (phase_in b m j)) b.pages)) shown
 
-  module _ (values : (p : ℕ) → p < length b.parameters → value_in b m p k ≡ value_in b m p j) where
-    shown-same : (r : plain.PageRow) (p : ℕ) (v : Option ℤ) → shown_value (display b m k) r p v ≡ shown_value (display b m j) r p v
-    unfolding shown_value display
-    shown-same r p None = refl
-    shown-same r p (Some z) = refl
-
+  module _ (values : (p : ℕ) → p < length b.parameters → is_asked_for b p ≡ true → value_in b m p k ≡ value_in b m p j) where
     -- a parameter that isn't there never has a value
-    every-value : (p : ℕ) → value_in b m p k ≡ value_in b m p j
+    every-value : (p : ℕ) → is_asked_for b p ≡ true → value_in b m p k ≡ value_in b m p j
     unfolding value_in value
-    every-value p =
+    every-value p on =
         elim (cases_lt p (length b.parameters)) [
-          | inl lt ↦ values p lt
+          | inl lt ↦ values p lt on
           | inr past ↦
               let none : parameter_at b p ≡ no_parameter = get_or_past b.parameters p no_parameter past in
               ap (λ (x : plain.Parameter). value x (λ i. (m i).words) k) none ∙ sym (ap (λ (x : plain.Parameter). value x (λ i. (m i).words) j) none)
         ]
 
-    row-kept : (r : plain.PageRow) (o : Option ℕ) → page_row (display b m k) r o ≡ page_row (display b m j) r o
-    unfolding page_row display
-    row-kept r None = refl
-    row-kept r (Some p) = shown-same r p (value_in b m p k) ∙ ap (shown_value (display b m j) r p) (every-value p)
-
-    pub page-kept : (o : Option plain.Page) → page_rows (display b m k) o ≡ page_rows (display b m j) o
-    unfolding page_rows
-    page-kept None = refl
-    page-kept (Some p) =
-        ap (λ rs. zone 18 (row White p.title ∷ rs)) (map_same (λ (r : plain.PageRow). page_row (display b m k) r r.show) (λ (r : plain.PageRow). page_row (display b m j) r r.show) (λ r. row-kept r r.show) p.rows)
+    page-kept : (o : Option plain.Page) → IsOfBook b o → page_rows (display b m k) o ≡ page_rows (display b m j) o
+    unfolding display
+    page-kept o own = page-alike b (display b m k) (display b m j) (λ p. refl) every-value o own
 
     pub one-page-kept : (i : ℕ) → display_rows (display b m k) (Page i) ≡ display_rows (display b m j) (Page i)
     unfolding display_rows display
-    one-page-kept i = page-kept (slice_get b.pages i)
+    one-page-kept i = page-kept (slice_get b.pages i) (one-of-book b (Some i))
 
     pub called-page-kept : phase_in b m k ≡ phase_in b m j → shown_in b m k ≡ shown_in b m j → display_rows (display b m k) Auto ≡ display_rows (display b m j) Auto
-    unfolding display_rows
-    called-page-kept phase shown = page-kept (called_page (display b m k)) ∙ ap (page_rows (display b m j)) (called-kept phase shown)
+    unfolding display_rows display
+    called-page-kept phase shown = page-kept (called_page (display b m k)) (called-of-book b (display b m k) refl) ∙ ap (page_rows (display b m j)) (called-kept phase shown)
 
   pub status-page-kept : (q : ℕ) → status_in b m k ≡ status_in b m j → display_rows (display b m k) (Status q) ≡ display_rows (display b m j) (Status q)
   unfolding display_rows display

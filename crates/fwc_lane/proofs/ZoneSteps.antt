@@ -1,5 +1,5 @@
 -- Each zone of a moment: left alone where nothing turned that it shows, else filled by what the moment shows.
-use Rattle.std.proofs.Common.{◌≡◌, ◌↔◌, ℕ, zero, suc, ◌<◌, Bool, true, false, ◌||◌, ◌==◌, List, [], ◌∷◌, ◌++◌, length, get_or, slice_get, Option, Some, None, refl, sym, ap, subst, ◌∙◌}
+use Rattle.std.proofs.Common.{◌≡◌, ◌↔◌, ℕ, zero, suc, ◌<◌, Bool, true, false, ◌||◌, ◌==◌, List, [], ◌∷◌, ◌++◌, length, slice_get, Option, Some, refl, sym, ap, subst, ◌∙◌}
 use Rattle.std.specs.Prelude.{filter, ℤ, codes, decimal, nat_lt, if◌then◌else◌}
 use Rattle.std.specs.Int.{from_bool}
 use Rattle.std.specs.Option.{option_and_then}
@@ -17,9 +17,8 @@ use Rattle.ecam_spec.specs.RightZone.{right_zone, right_beyond}
 use Rattle.ecam_spec.specs.declared.kinds.Sound.{Sound}
 use Rattle.ecam_spec.specs.SystemDisplay.{Display, page_rows, called_page, display_rows}
 use Rattle.ecam_spec.specs.Lamps.{warns, cautions, sound}
-use Rattle.system_display.specs.Pages.{Displays}
 use Rattle.ecam_spec.specs.Selection.{choice}
-use Rattle.ecam_spec.specs.Situation.{alert_at, world, condition_in, phase_in, active_in, starred_in, value_in}
+use Rattle.ecam_spec.specs.Situation.{alert_at, world, condition_in, phase_in, active_in, starred_in}
 use Rattle.ecam_spec.specs.Screen as screen
 use Rattle.ecam_spec.specs.Screen.{order, cockpit, panel, attention, display, line_stands, shown_in, is_shown_in, cancelled_in, left_in, right_in, status_in}
 use Rattle.ecam_spec.specs.LampRows.{lamp_rows}
@@ -41,6 +40,7 @@ use Rattle.fwc_lane.specs.Scenes.{AreTurned, shown_turned}
 use Rattle.fwc_lane.specs.Drawn.{AreCounts, LeftStands, RightStands, FlagsStand, flag_rows_in, display_rows_in, lamp_rows_in}
 use Rattle.fwc_lane.proofs.FlagSteps.{left-false, right-false}
 use Rattle.fwc_lane.proofs.Showing.{active-is, starred-is}
+use Rattle.fwc_lane.proofs.PagesAlike.{display_with, page-with, one-of-book}
 use Rattle.fwc_lane.proofs.ZoneRest.{shown-kept, left-kept, right-kept, status-kept, one-page-kept, called-page-kept, status-page-kept}
 
 -- a function of two that are equal
@@ -176,10 +176,10 @@ module _ (b : Book) (m : ℕ → Moment) where
       ap (display_rows (display b m (suc j))) (sym is) ∙ shown ∙ ap (display_rows (display b m j)) (is ∙ held) in
       mends_kept 15 (display_rows_in b m (suc j)) s (subst (λ rows. StandAt 15 rows s.rows) (sym zone) (was j refl))
 
-  -- the display shows these values, and the kinds of the book's parameters
-  pub displays : (k : ℕ) (these : List (Option ℤ)) → ((p : ℕ) → p < length b.parameters → get_or these p None ≡ value_in b m p k) → Displays b these (display b m k)
-  unfolding display
-  displays k these values = record { kinds = λ p lt. refl; values = λ p lt. sym (values p lt) }
+  -- a page by the display with these values is the page
+  pub drawn-alike : (k : ℕ) (these : List (Option ℤ)) (page : Option ℕ) (s t : TrackedRows) → Mends 15 (page_rows (display_with b m k these) (option_and_then (slice_get b.pages) page)) s t
+      → Mends 15 (page_rows (display b m k) (option_and_then (slice_get b.pages) page)) s t
+  drawn-alike k these page s t = subst (λ rows. Mends 15 rows s t) (page-with b m k these (option_and_then (slice_get b.pages) page) (one-of-book b page))
 
   module _ (k : ℕ) (s t : TrackedRows) where
     pub auto-drawn : (first page : Option ℕ) → Auto ≡ choice (panel b m) k → first ≡ target (shown_in b m) (suc k)

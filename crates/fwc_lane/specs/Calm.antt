@@ -8,6 +8,7 @@ use Rattle.ecam_spec.specs.Phase.{Flight, phase}
 use Rattle.ecam_spec.specs.Situation.{parameter_at}
 use Rattle.ecam_kinds.specs.KeyState.{is_held}
 use Rattle.wakes.specs.Marks.{is_marked}
+use Rattle.param_table.specs.Asked.{is_asked_for}
 use Rattle.param_table.specs.declared.table.Params.{Params}
 use Rattle.param_table.specs.TableState.{ParamsStand, value_before}
 use Rattle.flight_phases.specs.Inputs.{SameInputs}
@@ -41,10 +42,10 @@ pub record RestsNow (l : Lane) : Type 0 where
 abbrev pub PhaseStays : PhaseState → Type 0
 PhaseStays state = (f : Flight) (k : ℕ) → Stands f (suc k) state → SameInputs f k → phase f (suc k) ≡ phase f k
 
--- each parameter has the value of the moment before
+-- each parameter that the book asks for has the value of the moment before
 abbrev pub ValuesStay : Book → Params → Type 0
 ValuesStay b params = (words : ℕ → List BusWord) (k : ℕ) → ParamsStand b words k params
-    → (p : ℕ) → p < length b.parameters → value (parameter_at b p) words k ≡ value_before (parameter_at b p) words k
+    → (p : ℕ) → p < length b.parameters → is_asked_for b p ≡ true → value (parameter_at b p) words k ≡ value_before (parameter_at b p) words k
 
 -- nothing acts in the moment that hasn't ended, nor did in the one before, and the parts that this left stay as they are as
 -- long as nothing does

@@ -1,9 +1,9 @@
 -- What is kept of all conditions of a book while a moment steps them one after another.
-use Rattle.std.specs.Prelude.{◌≡◌, ℕ, zero, suc, ◌+◌, ◌-◌, ◌*◌, ◌^◌, ◌<◌, ◌≤◌, min, ◌==◌, Bool, not, ◌&&◌, ◌||◌, List, length, slice_get, slice_index, slice_index_or, true, false, Some, AllPairs}
+use Rattle.std.specs.Prelude.{◌≡◌, ℕ, zero, suc, ◌+◌, ◌-◌, ◌*◌, ◌^◌, ◌<◌, ◌≤◌, min, ◌==◌, Bool, ◌||◌, List, length, slice_get, slice_index, slice_index_or, true, false, Some, AllPairs}
 use Rattle.std.specs.List.{list_any}
 use Rattle.ecam_spec.specs.declared.kinds.Key.{Key}
 use Rattle.ecam_spec.specs.Keys.{IsKey, pressed}
-use Rattle.ecam_spec.specs.Book.{Book, Line, Memo}
+use Rattle.ecam_spec.specs.Book.{Book, Memo}
 use Rattle.ecam_spec.specs.BookTerms.{lines_of}
 use Rattle.ecam_spec.specs.TermSize.{Placed, slots, EndsBefore}
 use Rattle.ecam_spec.specs.Term.{World, holds}
@@ -15,7 +15,6 @@ use Rattle.ecam_kinds.specs.declared.phase.Phase.{Phase}
 use Rattle.book_model.specs.Told.{TellsOf}
 use Rattle.book_model.specs.Conditions.{places, lines_from, memos_from, alerts_from, world_of}
 use Rattle.term_eval.specs.declared.env.Env.{Env}
-use Rattle.term_eval.specs.Shown.{Shows}
 use Rattle.term_eval.specs.CellState.{Stand}
 use Rattle.term_eval.specs.Code.{IsShort}
 use Rattle.term_eval.specs.NodeState.{state_at, NodesWait, NodesStand, first_wake}
@@ -29,6 +28,8 @@ use Rattle.alert_truth.specs.TruthsState.{HalfStand, TruthsStand}
 use Rattle.flight_phases.specs.State as flight_phases
 use Rattle.flight_phases.specs.declared.state.PhaseState.{PhaseState}
 use Rattle.fwc_lane.specs.declared.terms.Terms.{Terms}
+use Rattle.fwc_lane.specs.Given.{ShowsFirst}
+use Rattle.fwc_lane.specs.LineFlags.{stands_by}
 use Rattle.fwc_lane.specs.Visits.{visits, IsCounted}
 
 -- ---- one condition
@@ -87,25 +88,11 @@ pub record TellsMoved (hit : Operand → Bool) (w : World) (k : ℕ) (p : Placed
 -- is its truth, and it is stepped then
 pub record StepsTerm (ps : List Placed) (env : Env) (k i : ℕ) (p : Placed) (old new : Terms) (answer : Bool) : Type 0 where
   pub truth : (worlds : ℕ → World) (hit : Operand → Bool) (visited : ℕ) → slice_get ps i ≡ Some p
-      → Shows env (worlds i) k → TellsMoved hit (worlds i) k p → HalfStepped ps worlds hit k i visited old
+      → ShowsFirst env (worlds i) k → TellsMoved hit (worlds i) k p → HalfStepped ps worlds hit k i visited old
       → answer ≡ holds (worlds i) p.tree k
   pub stands : (worlds : ℕ → World) (hit : Operand → Bool) (visited : ℕ) → slice_get ps i ≡ Some p
-      → AllPairs EndsBefore ps → Shows env (worlds i) k → TellsMoved hit (worlds i) k p
+      → AllPairs EndsBefore ps → ShowsFirst env (worlds i) k → TellsMoved hit (worlds i) k p
       → HalfStepped ps worlds hit k i visited old → HalfStepped ps worlds hit k (suc i) visited new
-
--- both conditions of a line were stepped, `when` and then `done`: the answer is whether the line stands
-pub record StepsLine (ps : List Placed) (env : Env) (k i : ℕ) (when_at done_at : Placed) (old new : Terms) (answer : Bool) : Type 0 where
-  pub truth : (worlds : ℕ → World) (hit : Operand → Bool) (visited : ℕ)
-      → slice_get ps i ≡ Some when_at → slice_get ps (suc i) ≡ Some done_at → AllPairs EndsBefore ps
-      → Shows env (worlds i) k → Shows env (worlds (suc i)) k
-      → TellsMoved hit (worlds i) k when_at → TellsMoved hit (worlds (suc i)) k done_at
-      → HalfStepped ps worlds hit k i visited old
-      → answer ≡ (holds (worlds i) when_at.tree k && not (holds (worlds (suc i)) done_at.tree k))
-  pub stands : (worlds : ℕ → World) (hit : Operand → Bool) (visited : ℕ)
-      → slice_get ps i ≡ Some when_at → slice_get ps (suc i) ≡ Some done_at → AllPairs EndsBefore ps
-      → Shows env (worlds i) k → Shows env (worlds (suc i)) k
-      → TellsMoved hit (worlds i) k when_at → TellsMoved hit (worlds (suc i)) k done_at
-      → HalfStepped ps worlds hit k i visited old → HalfStepped ps worlds hit k (suc (suc i)) visited new
 
 -- ---- a book's conditions
 
@@ -156,14 +143,12 @@ module _ (b : Book) (moments : ℕ → Moment) where
     pub terms : BookHalf k (alerts_from + i) (suc i) visited t
     pub alerts : HalfStand b (condition_in b moments) (phase_in b moments) k i truths
 
-  -- the procedure lines below i have been stepped. Of these the flags tell which stand, and of the others which stood in the
-  -- moment before
+  -- the conditions of the procedure lines below number i have been stepped. Each flag tells whether its line stands by
+  -- what is kept of both of the line's conditions, in the first moment only where the first of them has been stepped
   pub record LinesHalf (k i visited : ℕ) (t : Terms) (flags : List Bool) : Type 0 where
-    pub terms : BookHalf k (lines_from b + 2 * i) (suc (length b.alerts)) visited t
-    pub told : (j : ℕ) (l : Line) → j < i → slice_get (lines_of b.alerts) j ≡ Some l
-        → slice_index_or flags j false ≡ line_stands b moments k l
-    pub left : (h : ℕ) → k ≡ suc h → (j : ℕ) (l : Line) → i ≤ j → slice_get (lines_of b.alerts) j ≡ Some l
-        → slice_index_or flags j false ≡ line_stands b moments h l
+    pub terms : BookHalf k i (suc (length b.alerts)) visited t
+    pub told : (j : ℕ) → j < length (lines_of b.alerts) → (k ≡ 0 → lines_from b + 2 * j < i)
+        → slice_index_or flags j false ≡ stands_by t.truths.items (lines_from b + 2 * j)
 
   -- the memos below i have been stepped. Of these the flags tell which hold, and of the others which held in the moment
   -- before

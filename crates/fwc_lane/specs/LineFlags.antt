@@ -1,5 +1,5 @@
--- The flags of the procedure lines, as far as their alerts are shown.
-use Rattle.std.specs.Prelude.{◌≡◌, ℕ, suc, ◌<◌, ◌≤◌, Bool, true, false, List, length, take, slice_index, slice_index_or, All}
+-- The flags of the procedure lines: what they say, and which are looked at.
+use Rattle.std.specs.Prelude.{◌≡◌, ℕ, suc, ◌<◌, ◌≤◌, Bool, true, false, not, ◌&&◌, List, length, take, slice_index, slice_index_or, All}
 use Rattle.ecam_spec.specs.Book.{Book}
 use Rattle.ecam_spec.specs.BookTerms.{lines_of}
 
@@ -21,3 +21,7 @@ pub record AreLineAlerts (b : Book) (alerts : List ℕ) : Type 0 where
 -- each line of an alert that is shown has the flag that it had
 abbrev pub KeepsShown : Book → List Bool → List Bool → List Bool → Type 0
 KeepsShown b shown old new = (a n : ℕ) → slice_index_or shown a false ≡ true → HasLine b a n → slice_index_or new n false ≡ slice_index_or old n false
+
+-- the line whose first condition has number n stands, by these truths of all conditions
+abbrev pub stands_by : List Bool → ℕ → Bool
+stands_by truths n = slice_index_or truths n false && not (slice_index_or truths (suc n) false)

@@ -8,6 +8,7 @@ use Rattle.ecam_spec.specs.History.{Moment}
 use Rattle.ecam_spec.specs.Situation.{alert_at, value_in, phase_in, condition_in, world}
 use Rattle.ecam_spec.specs.Screen.{cockpit, attention, panel, line_stands, is_shown_in, cancelled_in}
 use Rattle.book_model.specs.Told.{TellsOf}
+use Rattle.param_table.specs.Asked.{is_asked_for}
 use Rattle.system_display.specs.Pages.{AreShort}
 use Rattle.alert_truth.specs.TruthsState.{TruthsFit, TruthsStand}
 use Rattle.crew_marks.specs.MarksState.{MarksFit, MarksStand}
@@ -33,25 +34,26 @@ pub record SceneFits (b : Book) (s : Scene) : Type 0 where
   pub last : s.phase.number ≤ 10
   pub status_lines : TellsStatusLines b s.has_status_lines
 
--- it is what moment k shows, and a parameter whose flag isn't set has the value of the moment before
+-- it is what moment k shows, with the values of the parameters that the book asks for, of which each whose flag isn't set
+-- has the value of the moment before
 pub record SceneStands (b : Book) (m : ℕ → Moment) (k : ℕ) (s : Scene) : Type 0 where
   pub phase : s.phase.number ≡ phase_in b m k
-  pub values : (p : ℕ) → p < length b.parameters → slice_index_or s.values.now p None ≡ value_in b m p k
+  pub values : (p : ℕ) → p < length b.parameters → is_asked_for b p ≡ true → slice_index_or s.values.now p None ≡ value_in b m p k
   pub lines : TellsOf s.lines.now (lines_of b.alerts) (line_stands b m k)
   pub memos : TellsOf s.memos.now b.memos (λ x. holds (world b m) x.when k)
-  pub turned : (j : ℕ) → k ≡ suc j → (p : ℕ) → p < length b.parameters → slice_index_or s.turned.now p false ≡ false
+  pub turned : (j : ℕ) → k ≡ suc j → (p : ℕ) → p < length b.parameters → is_asked_for b p ≡ true → slice_index_or s.turned.now p false ≡ false
       → value_in b m p k ≡ value_in b m p j
   pub truths : TruthsStand b (condition_in b m) (phase_in b m) (suc k) s.truths.now
   pub marks : MarksStand b (cockpit b m) (suc k) s.marks.now
   pub attention : AttentionStands b (attention b m) (suc k) s.attention.now
   pub selector : selecting.Stands (panel b m) (suc k) s.selector.now
 
--- what didn't turn in moment k is as it was in the moment before, of which there is one where it isn't the first. Of lines it
--- speaks of those whose alerts the moment before showed
+-- what didn't turn in moment k is as it was in the moment before, of which there is one where it isn't the first. Of
+-- values it speaks of those that the book asks for, and of lines of those whose alerts the moment before showed
 pub record AreTurned (b : Book) (m : ℕ → Moment) (k : ℕ) (t : Turned) : Type 0 where
   pub first : t.first ≡ (k == 0)
   pub phase : (j : ℕ) → k ≡ suc j → t.phase ≡ false → phase_in b m k ≡ phase_in b m j
-  pub values : (j : ℕ) → k ≡ suc j → t.values ≡ false → (p : ℕ) → p < length b.parameters → value_in b m p k ≡ value_in b m p j
+  pub values : (j : ℕ) → k ≡ suc j → t.values ≡ false → (p : ℕ) → p < length b.parameters → is_asked_for b p ≡ true → value_in b m p k ≡ value_in b m p j
   pub lines : (j : ℕ) → k ≡ suc j → t.lines ≡ false → (a : ℕ) → a < length b.alerts → is_shown_in b m a j ≡ true
       → (i : ℕ) (l : Line) → slice_get (alert_at b a).lines i ≡ Some l → line_stands b m k l ≡ line_stands b m j l
   pub memos : (j : ℕ) → k ≡ suc j → t.memos ≡ false → (i : ℕ) (x : Memo) → slice_get b.memos i ≡ Some x

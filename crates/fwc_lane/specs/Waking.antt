@@ -1,5 +1,5 @@
 -- What a moment brings that is another than in the moment before, by the numbers of operands, and whom it wakes.
-use Rattle.std.specs.Prelude.{◌≡◌, ℕ, suc, ◌+◌, ◌-◌, ◌^◌, ◌==◌, nat_le, nat_lt, Bool, true, false, not, ◌&&◌, ◌||◌, List, length, slice_get, slice_index_or, ℤ, Option, Some, None, ◌≤◌, ◌<◌, ◌*◌, MatchOption}
+use Rattle.std.specs.Prelude.{◌≡◌, ℕ, suc, ◌+◌, ◌-◌, ◌^◌, ◌==◌, nat_le, nat_lt, Bool, true, false, not, ◌&&◌, ◌||◌, List, length, slice_get, slice_index_or, ℤ, Option, Some, None, ◌≤◌, ◌<◌, MatchOption}
 use Rattle.std.specs.List.{list_any}
 use Rattle.std.specs.Option.{option_eq}
 use Rattle.std.specs.Ordering.{int_eq}
@@ -8,7 +8,7 @@ use Rattle.ecam_spec.specs.BookTerms.{terms_of, slots_in}
 use Rattle.ecam_spec.specs.Term.{World}
 use Rattle.ecam_spec.specs.TermSize.{Placed, slots}
 use Rattle.ecam_kinds.specs.declared.keys.Keys.{Keys}
-use Rattle.book_model.specs.Conditions.{places, lines_from, memos_from}
+use Rattle.book_model.specs.Conditions.{places, memos_from}
 use Rattle.term_eval.specs.declared.reading.Reading.{Reading}
 use Rattle.term_eval.specs.declared.reading.Reading.TheVariants.{Flag}
 use Rattle.term_eval.specs.Memory.{Memory, NodeMemory}
@@ -147,9 +147,6 @@ FindsNext marks start from count found =
     MatchOption found (NoneMarked marks (start from) (start count))
     (λ i. (from ≤ i) × (i < count) × NoneMarked marks (start from) (start i))
 
--- where the conditions of a line start, and those of a memo
-abbrev pub line_start : Book → ℕ → ℕ
-line_start b i = lines_from b + 2 * i
-
-abbrev pub memo_start : Book → ℕ → ℕ
-memo_start b i = memos_from b + i
+-- the number of a memo's condition
+abbrev pub memo_number : Book → ℕ → ℕ
+memo_number b i = memos_from b + i

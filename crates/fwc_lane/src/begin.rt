@@ -1,9 +1,10 @@
 // What a moment brings is read, and wakes the conditions that name what of it is another.
-ghost use Rattle.std.specs.Prelude.{◌≡◌, ◌<◌, ◌^◌, ℕ, List, false, None, length, slice_index_or};
+ghost use Rattle.std.specs.Prelude.{◌≡◌, ◌<◌, ◌^◌, ℕ, List, true, false, None, length, slice_index_or};
 ghost use Rattle.ecam_spec.specs.Value.{BusWord, value};
 ghost use Rattle.ecam_spec.specs.History.{Moment};
 ghost use Rattle.ecam_spec.specs.Situation.{parameter_at, words_in};
 ghost use Rattle.book_model.specs.Sealed.{the_book};
+ghost use Rattle.param_table.specs.Asked.{is_asked_for};
 ghost use Rattle.param_table.specs.TableState.{ParamsFit, ParamsStand};
 ghost use Rattle.system_display.specs.Pages.{AreShort};
 ghost use Rattle.fwc_lane.specs.Conditions.{TermsStand, BookHalf};
@@ -12,17 +13,18 @@ ghost use Rattle.fwc_lane.specs.TermsFit.{TermsFit};
 
 use crate::strokes::Strokes;
 use crate::terms::Terms;
-use crate::values::read_values;
+use crate::values::read_moment;
 use crate::waking::{wake_computers, wake_first, wake_keys};
 use book_model::Book;
 use param_table::Params;
 
-/// Begins the end of moment `now`: reads its values, and marks and counts the conditions that are due, and those that name a
-/// value, a key or a computer that is another than it was, whose nodes that ask for it are told. Tells in `turned` which
-/// values are, and answers whether some is. Its cost is a look for each 64 parameters, a write of a byte for each, at most
-/// two writes for each 64 conditions, a look at each source of those that may have another value, three at each key if one
-/// is or was pressed, a few looks and writes for each condition that is due and for each node that asks for what is another,
-/// and a look at each that is told.
+/// Begins the end of moment `now`: reads its values, in the first moment all, in a later one those that may have turned of
+/// the parameters that the book asks for; and marks and counts the conditions that are due, and those that name a value, a
+/// key or a computer that is another than it was, whose nodes that ask for it are told. Tells in `turned` which values may
+/// be, and answers whether some may. Its cost is a look for each 64 parameters, a write of a byte for each, at most two
+/// writes for each 64 conditions, a look at each source of the parameters that are asked for and may have another value,
+/// three at each key if one is or was pressed, a few looks and writes for each condition that is due and for each node
+/// that asks for what is another, and a look at each that is told; in the first moment a look at each source of all.
 pub fn begin_moment(
     terms: &mut Terms,
     values: &mut Vec<Option<i64>>,
@@ -45,10 +47,16 @@ pub fn begin_moment(
     ensures flags { length turned.new.items ≡ length turned.old.items }
     ensures turned { (p : ℕ) → slice_index_or turned.new.items p false ≡ false
         → slice_index_or values.new.items p None ≡ slice_index_or values.old.items p None }
+    ensures first { now ≡ 0 → (words : ℕ → List BusWord) (k : ℕ)
+        → ParamsStand (the_book book.now) words k params.now
+        → (p : ℕ) → p < length (the_book book.now).parameters
+        → slice_index_or values.new.items p None
+        ≡ value (parameter_at (the_book book.now) p) words k }
     ensures values { (words : ℕ → List BusWord) (k : ℕ)
         → ParamsStand (the_book book.now) words k params.now
         → AreBefore (the_book book.now) words k values.old.items
         → (p : ℕ) → p < length (the_book book.now).parameters
+        → is_asked_for (the_book book.now) p ≡ true
         → slice_index_or values.new.items p None
         ≡ value (parameter_at (the_book book.now) p) words k }
     ensures short { AreShort values.new.items }
@@ -69,7 +77,7 @@ pub fn begin_moment(
         terms.truths.len(),
         now,
     );
-    let any = read_values(values, turned, terms, params, book);
+    let any = read_moment(values, turned, terms, params, book, now);
     wake_keys(terms, book, keys);
     wake_computers(terms, book, one_up, two_up);
     any

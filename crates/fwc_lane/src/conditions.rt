@@ -31,15 +31,19 @@ pub fn step_term(terms: &mut Terms, number: usize, _term: &Term, env: &Env<'_>, 
         → slice_get (places b) number ≡ Some (placed_of _term.now)
         → StepsTerm (places b) env.now now number (placed_of _term.now) terms.old terms.new result }
 {
-    step_numbered(terms, number, env, now)
+    if now > 0 {
+        return step_later(terms, number, now);
+    }
+    begin_term(terms, number, env)
 }
 
-/// The same of the condition that has this number.
+/// The same of a condition that is known to be stirred, by its number, so that nothing looks whether it is.
 #[inline(always)]
-pub fn step_numbered(terms: &mut Terms, number: usize, env: &Env<'_>, now: u64) -> bool
+pub fn step_stirred(terms: &mut Terms, number: usize, env: &Env<'_>, now: u64) -> bool
     requires place { (b : plain.Book) × (p : Placed) × TermsFit b terms.old
         × (slice_get (places b) number ≡ Some p)
         × IsWithin (length env.now.values.now) (length env.now.active.now) p.tree }
+    requires stirred { is_marked terms.old.stirred number ≡ true }
     requires first { 1 ≤ env.now.phase.number }
     requires last { env.now.phase.number ≤ 10 }
     requires now { now < 2 ^ 63 }
@@ -48,9 +52,10 @@ pub fn step_numbered(terms: &mut Terms, number: usize, env: &Env<'_>, now: u64) 
         → slice_get (places b) number ≡ Some p
         → IsWithin (length env.now.values.now) (length env.now.active.now) p.tree
         → StepsTerm (places b) env.now now number p terms.old terms.new result }
+    ensures truths { terms.new.truths.items ≡ slice_set terms.old.truths.items number result }
 {
     if now > 0 {
-        return step_later(terms, number, now);
+        return run_term(terms, number, now);
     }
     begin_term(terms, number, env)
 }
@@ -88,6 +93,7 @@ fn begin_term(terms: &mut Terms, number: usize, env: &Env<'_>) -> bool
         → slice_get (places b) number ≡ Some p
         → IsWithin (length env.now.values.now) (length env.now.active.now) p.tree
         → StepsTerm (places b) env.now 0 number p terms.old terms.new result }
+    ensures truths { terms.new.truths.items ≡ slice_set terms.old.truths.items number result }
 {
     let codes = terms.codes.table();
     let steps = codes.code(number);
@@ -108,6 +114,7 @@ fn run_term(terms: &mut Terms, number: usize, now: u64) -> bool
     ensures steps { (b : plain.Book) (p : Placed) (env : Env) → TermsFit b terms.old
         → slice_get (places b) number ≡ Some p
         → StepsTerm (places b) env now number p terms.old terms.new result }
+    ensures truths { terms.new.truths.items ≡ slice_set terms.old.truths.items number result }
 {
     let codes = terms.codes.table();
     let parts = codes.parts(number);

@@ -1,21 +1,22 @@
 // The running state of one flight warning computer.
-ghost use Rattle.std.specs.Prelude.{◌≡◌, ◌+◌, ◌-◌, ◌^◌, ℕ, suc, min, true, false, List, [], length, IfOk, if◌then◌else◌};
+ghost use Rattle.std.specs.Prelude.{◌≡◌, ◌+◌, ◌-◌, ◌^◌, ◌<◌, ℕ, suc, min, true, false, List, [], length, None, IfOk, IfSome, if◌then◌else◌};
 ghost use Rattle.ecam_spec.specs.Book as plain;
 ghost use Rattle.ecam_spec.specs.Value.{BusWord};
 ghost use Rattle.ecam_spec.specs.History.{Flags, Moment, Stroke, Era, empty_era, era_with};
 ghost use Rattle.ecam_spec.specs.Replay.{is_tick, moment_of};
+ghost use Rattle.ecam_spec.specs.Situation.{parameter_at, value_in};
 ghost use Rattle.ecam_spec.specs.Keys.{IsEvent};
-ghost use Rattle.ecam_spec.specs.declared.kinds.Event.TheVariants.{Word};
+ghost use Rattle.ecam_spec.specs.declared.kinds.Event.TheVariants.{Word, Tick};
 ghost use Rattle.book_model.specs.Sealed.{the_book};
 ghost use Rattle.term_eval.specs.CellState.{StandForNone};
 ghost use Rattle.fwc_lane.specs.TermsFit.{TermsFit};
 ghost use Rattle.fwc_lane.specs.LaneFits.{LaneFits, CanGoOn};
-ghost use Rattle.fwc_lane.specs.LaneStands.{LaneStands, WholeStands, AreUp};
+ghost use Rattle.fwc_lane.specs.LaneStands.{LaneStands, WholeStands, Continues, AreUp};
 ghost use Rattle.fwc_lane.specs.Begun.{HasBegun};
 ghost use Rattle.fwc_lane.specs.Given.{Came};
 ghost use Rattle.fwc_lane.specs.Visits.{visits};
 ghost use Rattle.ecam_kinds.specs.KeyState.{KeysStand};
-ghost use Rattle.param_table.specs.TableState.{ParamsFit, ParamsStand};
+ghost use Rattle.param_table.specs.TableState.{ParamsFit, ParamsStand, IsValueOf};
 
 use crate::begin::begin_moment;
 use crate::blank::{lists_of, parts_of};
@@ -43,11 +44,13 @@ use term_eval::Env;
 /// goes by, with its picture. Memory is taken in `new` and `beside` alone, and nothing grows with the history.
 #[derive(Drop)]
 pub struct Lane {
-    /// The words that the sources took last.
+    /// The words that the sources took last, and the last ones before the moment that hasn't ended.
     pub params: Params,
-    /// Per parameter its value in the last moment; before the first none has one.
+    /// Of each parameter that a condition names or a page shows its value in the last moment, and before the first none.
+    /// What stands at the others says nothing; `value` tells those of all.
     pub values: Vec<Option<i64>>,
-    /// Per parameter whether its value turned in the last moment that wasn't at rest; between moments they say nothing.
+    /// Of each of these parameters whether its value may have turned in the last moment that wasn't at rest; between moments
+    /// they say nothing.
     pub turned: Vec<bool>,
     /// What is kept of the conditions.
     pub terms: Terms,
@@ -74,8 +77,8 @@ pub struct Lane {
     /// The last moment left all at rest: no alert is restless, no chime or NORMAL can end, and no row changed. Where it isn't
     /// set it says nothing.
     pub calm: bool,
-    /// The last moment changed nothing, and no key came since: where no value turns, no condition is due and no computer
-    /// fails or comes up, this one changes nothing either. Where it isn't set it says nothing.
+    /// The last moment changed nothing, and no key came since: where no value turns that the book asks for, no condition is
+    /// due and no computer fails or comes up, this one changes nothing either. Where it isn't set it says nothing.
     pub idle: bool,
     /// How many moments there were: the number of the one that hasn't ended.
     pub moments: u64,
@@ -99,7 +102,7 @@ impl Lane {
         ensures unvisited { IfOk result (λ l. l.terms.cells.visits ≡ 0) }
     {
         let terms = Terms::new(alloc, book)?;
-        let params = Params::new(alloc, book)?;
+        let params = Params::watching(alloc, book, &terms.watch)?;
         Lane::with(alloc, book, terms, params)
     }
 
@@ -219,22 +222,23 @@ impl Lane {
         self.counts = other.counts;
     }
 
-    /// Takes one event more, after which these computers are up. A word costs a look at the sources that listen to it, a key
-    /// one write or two; what becomes of the computers themselves changes nothing here. A Tick costs a look for each 64
-    /// parameters, conditions and alerts, a write of a byte for each parameter and one for each 64 conditions, a look at the
-    /// sources of those that may have another value, three at each key where one is or was pressed, a few looks and writes for
-    /// each node that asks for what is another, and for the conditions that may turn by that a look at each temporal node and
-    /// at each node that turns; in the first moment one at each node of all. Of alerts, lines and memos it looks at those
-    /// whose condition may turn, and, where an alert turned or a key acts on them, at the alerts of which something is told or
-    /// kept; a zone of the picture is filled only where something that it shows turned. Where an alert or a mark turned, it
-    /// seeks the first alert with rows on the status page: a look for each 64 alerts and at each near one up to that, and,
-    /// where the book has no status lines, before that a look at the flags of the cancelled, which ends it where none is set.
-    /// A Tick in which no parameter may have another value, no condition is due and no key acts, after one that left all at
-    /// rest, costs a few looks and writes, besides what the end of a moment costs the parameters: it looks at no condition,
-    /// alert, line, memo or row. After another such Tick, with no key between them and the phase not timed, it costs eight
-    /// looks and eight counts in all, and where conditions or mailboxes wait for the moment, a few looks and writes at each.
-    // (It stands in its caller, so that a word goes to its sources at once.)
-    #[inline(always)]
+    /// Takes one event more, after which these computers are up. A word costs a look-up and a few writes at each of at most
+    /// two mailboxes, and, where its bits are others than those of the word before, a look at each source that takes it
+    /// there and whose parameter the book asks for; a key one write or two; what becomes of the computers themselves changes
+    /// nothing here. A Tick costs a look for each 64 parameters, conditions and alerts, a write of a byte for each parameter
+    /// and one for each 64 conditions, a look at the sources of the parameters that the book asks for and that may have
+    /// another value, three at each key where one is or was pressed, a few looks and writes for each node that asks for what
+    /// is another, and for the conditions that may turn by that a look at each temporal node and at each node that turns; in
+    /// the first moment one at each source of all parameters and at each node of all conditions. Of alerts, lines and memos
+    /// it looks at those whose condition may turn, and, where an alert turned or a key acts on them, at the alerts of which
+    /// something is told or kept; a zone of the picture is filled only where something that it shows turned. Where an alert
+    /// or a mark turned, it seeks the first alert with rows on the status page: a look for each 64 alerts and at each near
+    /// one up to that, and, where the book has no status lines, before that a look at the flags of the cancelled, which ends
+    /// it where none is set. A Tick in which no parameter that the book asks for may have another value, no condition is due
+    /// and no key acts, after one that left all at rest, costs a few looks and writes, besides what the end of a moment
+    /// costs the parameters: it looks at no condition, alert, line, memo or row. After another such Tick, with no key
+    /// between them and the phase not timed, it costs eight looks and eight counts in all, and where conditions or mailboxes
+    /// wait for the moment, a few looks and writes at each.
     pub fn event(&mut self, book: &Book, event: &Event, one_up: bool, two_up: bool)
         requires fits { LaneFits (the_book book.now) self.old }
         requires event { IsEvent event.now }
@@ -257,7 +261,7 @@ impl Lane {
             else 0) }
     {
         match event {
-            Event::Word { bus, bits } => self.params.take(book, *bus, *bits),
+            Event::Word { bus, bits } => self.word(book, *bus, *bits),
             Event::Tick => self.tick(book, one_up, two_up),
             Event::Press(key) => {
                 self.keys.press(*key);
@@ -273,6 +277,44 @@ impl Lane {
         }
     }
 
+    /// The same, where the event is a word.
+    // (It stands in its caller, so that a word goes to its sources at once.)
+    #[inline(always)]
+    pub fn word(&mut self, book: &Book, bus: u8, bits: u32)
+        requires { LaneFits (the_book book.now) self.old }
+        ensures fits { LaneFits (the_book book.now) self.new }
+        ensures stands { (e : Era) → LaneStands (the_book book.now) e self.old
+            → LaneStands (the_book book.now) (era_with e (Word bus bits)) self.new }
+        ensures moments { self.new.moments ≡ self.old.moments }
+        ensures unvisited { self.new.terms.cells.visits ≡ self.old.terms.cells.visits }
+    {
+        self.params.take(book, bus, bits)
+    }
+
+    /// The same, where the event is a Tick: the moment ends.
+    // (It stands in its caller, so that an idle moment costs no call.)
+    #[inline(always)]
+    pub fn tick(&mut self, book: &Book, one_up: bool, two_up: bool)
+        requires fits { LaneFits (the_book book.now) self.old }
+        requires goes_on { CanGoOn self.old }
+        ensures fits { LaneFits (the_book book.now) self.new }
+        ensures stands { (e : Era) → AreUp (era_with e Tick) one_up two_up
+            → LaneStands (the_book book.now) e self.old
+            → LaneStands (the_book book.now) (era_with e Tick) self.new }
+        ensures visits { (e : Era) → AreUp (era_with e Tick) one_up two_up
+            → LaneStands (the_book book.now) e self.old
+            → self.new.terms.cells.visits ≡ min (self.old.terms.cells.visits
+            + visits (the_book book.now) (moment_of (era_with e Tick)) (length e.moments))
+            (2 ^ 64 - 1) }
+        ensures moments { self.new.moments ≡ self.old.moments + 1 }
+    {
+        if self.idles(book, one_up, two_up) {
+            self.pass(book);
+            return;
+        }
+        self.rest_or_step(book, one_up, two_up)
+    }
+
     /// Whether any source of the book listens to a word's bus and label. A word to which none does leaves each lane of the
     /// book as it is. Its cost is one look-up.
     #[inline(always)]
@@ -284,35 +326,19 @@ impl Lane {
         self.params.listens(book, bus, bits)
     }
 
-    // The moment ends. (It stands in its caller, so that an idle moment costs no call.)
-    #[inline(always)]
-    fn tick(&mut self, book: &Book, one_up: bool, two_up: bool)
-        requires fits { LaneFits (the_book book.now) self.old }
-        requires goes_on { CanGoOn self.old }
-        ensures fits { LaneFits (the_book book.now) self.new }
-        ensures moments { self.new.moments ≡ self.old.moments + 1 }
-        ensures params { (words : ℕ → List BusWord) (k : ℕ) → words (suc k) ≡ []
-            → ParamsStand (the_book book.now) words k self.old.params
-            → ParamsStand (the_book book.now) words (suc k) self.new.params }
-        ensures keys { (strokes : ℕ → List Stroke) (k : ℕ) → strokes (suc k) ≡ []
-            → KeysStand strokes k self.old.keys → KeysStand strokes (suc k) self.new.keys }
-        ensures whole { (m : ℕ → Moment)
-            → Came (the_book book.now) m self.old.moments self.old.params self.old.keys one_up
-            two_up
-            → WholeStands (the_book book.now) m self.old.moments self.old
-            → WholeStands (the_book book.now) m (suc self.old.moments) self.new }
-        ensures visits { (m : ℕ → Moment)
-            → Came (the_book book.now) m self.old.moments self.old.params self.old.keys one_up
-            two_up
-            → WholeStands (the_book book.now) m self.old.moments self.old
-            → self.new.terms.cells.visits ≡ min (self.old.terms.cells.visits
-            + visits (the_book book.now) m self.old.moments) (2 ^ 64 - 1) }
+    /// The value of a parameter in the last whole moment, whether or not anything of the book asks for it: `None` where no
+    /// source was fresh with a value, and before the first moment. Its cost is a look at each of its sources.
+    pub fn value(&self, book: &Book, param: usize) -> Option<i64>
+        requires fits { LaneFits (the_book book.now) self.now }
+        requires param { param < length book.now.params.items }
+        ensures value { (e : Era) → LaneStands (the_book book.now) e self.now
+            → (m : ℕ → Moment) → Continues e m → (k : ℕ) → length e.moments ≡ suc k
+            → result ≡ value_in (the_book book.now) m param k }
+        ensures none { (e : Era) → LaneStands (the_book book.now) e self.now
+            → length e.moments ≡ 0 → result ≡ None }
+        ensures bound { IfSome result (IsValueOf (parameter_at (the_book book.now) param).kind) }
     {
-        if self.idles(book, one_up, two_up) {
-            self.pass(book);
-            return;
-        }
-        self.rest_or_step(book, one_up, two_up)
+        self.params.value_before(book, param)
     }
 
     // The moment ends, where it isn't known beforehand that nothing acts. (It stands by itself, so that an idle moment takes

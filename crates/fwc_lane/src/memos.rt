@@ -3,11 +3,11 @@ ghost use Rattle.std.specs.Prelude.{◌≡◌, ◌<◌, ◌≤◌, ◌^◌, ℕ,
 ghost use Rattle.ecam_spec.specs.Term.{holds};
 ghost use Rattle.ecam_spec.specs.History.{Moment};
 ghost use Rattle.ecam_spec.specs.Situation.{world};
-ghost use Rattle.term_eval.specs.Shown.{Shows};
 ghost use Rattle.book_model.specs.Sealed.{the_book};
 ghost use Rattle.book_model.specs.Told.{TellsOf};
 ghost use Rattle.book_model.specs.Conditions.{memos_from};
 ghost use Rattle.fwc_lane.specs.Conditions.{BookHalf, MemosWere, AllStepped};
+ghost use Rattle.fwc_lane.specs.Given.{ShowsFirst};
 ghost use Rattle.fwc_lane.specs.TermsFit.{TermsFit};
 
 use crate::conditions::step_term;
@@ -38,14 +38,14 @@ pub fn step_memos(
     ensures fits { TermsFit (the_book book.now) terms.new }
     ensures flags { length flags.new.items ≡ length flags.old.items }
     ensures told { (m : ℕ → Moment) (visits : ℕ)
-        → Shows env.now (world (the_book book.now) m) now
+        → ShowsFirst env.now (world (the_book book.now) m) now
         → MemosWere (the_book book.now) m now flags.old.items
         → BookHalf (the_book book.now) m now (memos_from (the_book book.now))
         (suc (length (the_book book.now).alerts)) visits terms.old
         → TellsOf flags.new.items (the_book book.now).memos
         (λ x. holds (world (the_book book.now) m) x.when now) }
     ensures stands { (m : ℕ → Moment) (visits : ℕ)
-        → Shows env.now (world (the_book book.now) m) now
+        → ShowsFirst env.now (world (the_book book.now) m) now
         → MemosWere (the_book book.now) m now flags.old.items
         → BookHalf (the_book book.now) m now (memos_from (the_book book.now))
         (suc (length (the_book book.now).alerts)) visits terms.old

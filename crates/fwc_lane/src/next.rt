@@ -1,12 +1,11 @@
 // The next of some items that has a condition of a set.
 ghost use Rattle.std.specs.Prelude.{◌≡◌, ◌+◌, ◌<◌, ◌≤◌, ◌^◌, ℕ, true, false, length};
-ghost use Rattle.ecam_spec.specs.BookTerms.{lines_of};
 ghost use Rattle.book_model.specs.Sealed.{the_book};
 ghost use Rattle.book_model.specs.Conditions.{alerts_from};
 ghost use Rattle.wakes.specs.Marks.{is_marked};
-ghost use Rattle.fwc_lane.specs.Waking.{NoneMarked, FindsNext, line_start, memo_start};
+ghost use Rattle.fwc_lane.specs.Waking.{NoneMarked, FindsNext, memo_number};
 
-use crate::numbers::{first_memo, line_number};
+use crate::numbers::first_memo;
 use alert_truth::Truths;
 use book_model::Book;
 use wakes::Marked;
@@ -48,26 +47,10 @@ pub fn none_marked(marked: &Marked) -> bool
     marked.first_from(0).is_none()
 }
 
-/// The first line from one on of which a condition is in the set. Its cost is a look for each 64 conditions that it goes
-/// over.
-pub fn next_line(set: &Marked, book: &Book, from: usize) -> Option<usize>
-    requires { from ≤ length (lines_of (the_book book.now).alerts) }
-    ensures { FindsNext set.now (line_start (the_book book.now)) from
-        (length (lines_of (the_book book.now).alerts)) result }
-{
-    book.sealed();
-    let first = line_number(book, 0);
-    let term = set.first_from(first + 2 * from)?;
-    if term >= first_memo(book) {
-        return None;
-    }
-    Some((term - first) / 2)
-}
-
 /// The first memo from one on whose condition is in the set. Its cost is a look for each 64 memos that it goes over.
 pub fn next_memo(set: &Marked, book: &Book, from: usize) -> Option<usize>
     requires { from ≤ length book.now.memos.items }
-    ensures { FindsNext set.now (memo_start (the_book book.now)) from
+    ensures { FindsNext set.now (memo_number (the_book book.now)) from
         (length book.now.memos.items) result }
 {
     let first = first_memo(book);

@@ -26,9 +26,10 @@ use wakes::Wakes;
 
 impl Lane {
     /// Whether it is known that nothing changes in the moment, after which these computers are up, since nothing did in the
-    /// one before: no key came, the same computers were up in it, no condition is due, no parameter may have another value,
-    /// and no word's freshness may end with it. Its cost is seven looks, and at most one more for each 64 parameters; where
-    /// conditions or mailboxes wait for the moment, also one for each 64 and one at each that waits.
+    /// one before: no key came, the same computers were up in it, no condition is due, no parameter that the book asks for
+    /// may have another value, and no word of a source of one may end to be fresh with it. Its cost is seven looks, and at
+    /// most one more for each 64 parameters; where conditions or mailboxes wait for the moment, also one for each 64 and one
+    /// at each that waits.
     #[inline(always)]
     pub(crate) fn idles(&self, book: &Book, one_up: bool, two_up: bool) -> bool
         requires fits { LaneFits (the_book book.now) self.now }
@@ -90,8 +91,8 @@ impl Lane {
 
     /// Whether it is known that nothing changes in the moment, after which these computers are up: the moment before left all
     /// at rest, the phase stays, no key acts or was pressed in the moment before, the same computers were up in it, no
-    /// condition is due, and no parameter may have another value. Its cost is a few looks, and at most one more for each 64
-    /// parameters.
+    /// condition is due, and no parameter that the book asks for may have another value. Its cost is a few looks, and at
+    /// most one more for each 64 parameters.
     pub(crate) fn rests(&self, book: &Book, one_up: bool, two_up: bool) -> bool
         requires fits { LaneFits (the_book book.now) self.now }
         requires goes_on { CanGoOn self.now }

@@ -15,7 +15,7 @@ pub struct Turned {
     pub first: bool,
     /// The flight phase.
     pub phase: bool,
-    /// The value of some parameter.
+    /// The value of some parameter that the book asks for.
     pub values: bool,
     /// Whether some procedure line stands whose alert the moment before showed.
     pub lines: bool,
@@ -64,13 +64,13 @@ pub struct Scene<'a> {
     /// Whether some alert of the book has status lines.
     pub has_status_lines: bool,
     pub phase: Phase,
-    /// Per parameter its value.
+    /// Of each parameter that the book asks for its value; what stands at the others says nothing.
     pub values: &'a [Option<i64>],
     /// Per procedure line whether it stands.
     pub lines: &'a [bool],
     /// Per memo whether it holds.
     pub memos: &'a [bool],
-    /// Per parameter whether its value is another than in the moment before.
+    /// Of each of these whether its value may be another than in the moment before.
     pub turned: &'a [bool],
     pub truths: &'a Truths,
     pub marks: &'a Marks,

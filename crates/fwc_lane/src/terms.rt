@@ -5,6 +5,7 @@ ghost use Rattle.book_model.specs.Sealed.{the_book};
 ghost use Rattle.book_model.specs.Conditions.{places};
 ghost use Rattle.condition_codes.specs.IsCodes.{IsCodes};
 ghost use Rattle.condition_codes.specs.IsAskers.{IsAskers};
+ghost use Rattle.watch_lists.specs.Watching.{IsWatch};
 ghost use Rattle.term_eval.specs.CellState.{StandForNone};
 ghost use Rattle.fwc_lane.specs.TermsFit.{TermsFit, TookTerms};
 
@@ -57,6 +58,7 @@ impl Terms {
         ensures fits { IfOk result (TermsFit (the_book book.now)) }
         ensures stands { IfOk result (λ t. StandForNone t.cells.slots) }
         ensures visits { IfOk result (λ t. t.cells.visits ≡ 0) }
+        ensures watch { IfOk result (λ t. IsWatch book.now t.watch) }
     {
         let codes = Codes::new(alloc, book)?;
         let askers = Askers::new(alloc, book, codes.table())?;
@@ -81,6 +83,7 @@ impl Terms {
         ensures fits { IfOk result (TermsFit (the_book book.now)) }
         ensures stands { IfOk result (λ t. StandForNone t.cells.slots) }
         ensures visits { IfOk result (λ t. t.cells.visits ≡ 0) }
+        ensures watch { IfOk result (λ t. IsWatch book.now t.watch) }
     {
         let count = condition_count(book);
         let nodes = Nodes::new(alloc, codes.table().count(), book.slots())?;

@@ -1,8 +1,9 @@
 // The values of a moment.
-ghost use Rattle.std.specs.Prelude.{◌≡◌, ◌<◌, ◌+◌, ◌*◌, ℕ, ℤ, List, length, slice_index_or, false, Option, None};
+ghost use Rattle.std.specs.Prelude.{◌≡◌, ◌<◌, ◌+◌, ◌*◌, ℕ, suc, ℤ, List, length, slice_index_or, true, false, Option, None};
 ghost use Rattle.ecam_spec.specs.Value.{BusWord, value};
 ghost use Rattle.ecam_spec.specs.Situation.{parameter_at};
 ghost use Rattle.book_model.specs.Sealed.{the_book};
+ghost use Rattle.param_table.specs.Asked.{is_asked_for};
 ghost use Rattle.param_table.specs.TableState.{ParamsFit, ParamsStand};
 ghost use Rattle.system_display.specs.Pages.{AreShort};
 ghost use Rattle.term_eval.specs.declared.reading.Reading.TheVariants.{Value};
@@ -19,11 +20,84 @@ use param_table::Params;
 use term_eval::Reading;
 use wakes::{bits_from, lowest};
 
-/// Makes the values of the moment before those of the moment that hasn't ended, tells in `turned` which are other than they
-/// were, and answers whether any is. One that is wakes the conditions that name it. Its cost is a look for each 64
-/// parameters, a write of a byte for each, a look at each source of those that may have another value and a write for each of
-/// them, and what `wake` costs for each that has.
-pub fn read_values(
+/// Makes the values of the moment before those of moment `now`, which hasn't ended, tells in `turned` which may be other
+/// than they were, and answers whether any may be. In the first moment each value is read, and wakes no condition, since
+/// that moment wakes all. In a later one those are read that may be others, of the parameters that the book asks for; one
+/// that is wakes the conditions that name it, and the rest stay as they are. Its cost is that of `read_first` or of
+/// `read_values`.
+#[inline(always)]
+pub fn read_moment(
+    values: &mut Vec<Option<i64>>,
+    turned: &mut Vec<bool>,
+    terms: &mut Terms,
+    params: &Params,
+    book: &Book,
+    now: u64,
+) -> bool
+    requires fits { ParamsFit (the_book book.now) params.now }
+    requires many { length values.old.items ≡ length (the_book book.now).parameters }
+    requires flags { length turned.old.items ≡ length (the_book book.now).parameters }
+    requires short { AreShort values.old.items }
+    requires terms { TermsFit (the_book book.now) terms.old }
+    ensures many { length values.new.items ≡ length values.old.items }
+    ensures flags { length turned.new.items ≡ length turned.old.items }
+    ensures turned { (p : ℕ) → slice_index_or turned.new.items p false ≡ false
+        → slice_index_or values.new.items p None ≡ slice_index_or values.old.items p None }
+    ensures first { now ≡ 0 → (words : ℕ → List BusWord) (k : ℕ)
+        → ParamsStand (the_book book.now) words k params.now
+        → (p : ℕ) → p < length (the_book book.now).parameters
+        → slice_index_or values.new.items p None
+        ≡ value (parameter_at (the_book book.now) p) words k }
+    ensures values { (words : ℕ → List BusWord) (k : ℕ)
+        → ParamsStand (the_book book.now) words k params.now
+        → AreBefore (the_book book.now) words k values.old.items
+        → (p : ℕ) → p < length (the_book book.now).parameters
+        → is_asked_for (the_book book.now) p ≡ true
+        → slice_index_or values.new.items p None
+        ≡ value (parameter_at (the_book book.now) p) words k }
+    ensures short { AreShort values.new.items }
+    ensures terms { TermsFit (the_book book.now) terms.new }
+    ensures same { now ≡ 0 → terms.new ≡ terms.old }
+    ensures wakes { (h : ℕ) → now ≡ suc h → HasWoken (the_book book.now)
+        (ranged 0 (length (the_book book.now).parameters)
+        (value_turned values.old.items values.new.items))
+        (λ o. Value (slice_index_or values.new.items o None)) terms.old terms.new }
+    ensures kept { result ≡ false → values.new.items ≡ values.old.items }
+{
+    if now > 0 {
+        return read_values(values, turned, terms, params, book);
+    }
+    read_first(values, turned, params, book);
+    true
+}
+
+// The same in the first moment. Its cost is a look at each source of each parameter, and two writes for each. (It stands by
+// itself, since only the first moment calls it.)
+#[inline(never)]
+fn read_first(values: &mut Vec<Option<i64>>, turned: &mut Vec<bool>, params: &Params, book: &Book)
+    requires fits { ParamsFit (the_book book.now) params.now }
+    requires many { length values.old.items ≡ length (the_book book.now).parameters }
+    requires short { AreShort values.old.items }
+    ensures many { length values.new.items ≡ length values.old.items }
+    ensures flags { length turned.new.items ≡ length turned.old.items }
+    ensures turned { (p : ℕ) → p < length turned.old.items
+        → slice_index_or turned.new.items p false ≡ true }
+    ensures values { (words : ℕ → List BusWord) (k : ℕ)
+        → ParamsStand (the_book book.now) words k params.now
+        → (p : ℕ) → p < length (the_book book.now).parameters
+        → slice_index_or values.new.items p None
+        ≡ value (parameter_at (the_book book.now) p) words k }
+    ensures short { AreShort values.new.items }
+{
+    turned.fill(true);
+    for param in 0..book.params().len() {
+        values[param] = params.value(book, param);
+    }
+}
+
+// The same in a later moment. Its cost is a look for each 64 parameters, a write of a byte for each, a look at each source
+// of those that may have another value and a write for each of them, and what `wake` costs for each that has.
+fn read_values(
     values: &mut Vec<Option<i64>>,
     turned: &mut Vec<bool>,
     terms: &mut Terms,
@@ -43,6 +117,7 @@ pub fn read_values(
         → ParamsStand (the_book book.now) words k params.now
         → AreBefore (the_book book.now) words k values.old.items
         → (p : ℕ) → p < length (the_book book.now).parameters
+        → is_asked_for (the_book book.now) p ≡ true
         → slice_index_or values.new.items p None
         ≡ value (parameter_at (the_book book.now) p) words k }
     ensures short { AreShort values.new.items }

@@ -2,7 +2,7 @@
 use Rattle.std.proofs.Common.{◌≡◌, ℕ, zero, suc, ◌<◌, ◌==◌, Bool, true, false, not, ◌&&◌, ◌||◌, List, [], ◌∷◌, ◌++◌, length, get_or, replicate, refl, sym, ◌∙◌, ap, subst, cond, arith}
 use Rattle.std.proofs.lemmas.List.{get_or-replicate}
 use Rattle.ecam_spec.specs.declared.kinds.Event.{Event}
-use Rattle.ecam_spec.specs.declared.kinds.Event.TheVariants.{Word, Tick, Press, Release, Fail, Up, End}
+use Rattle.ecam_spec.specs.declared.kinds.Event.TheVariants.{Word, Tick, Fail, Up, End}
 use Rattle.ecam_spec.specs.Book.{Book}
 use Rattle.ecam_spec.specs.History.{Flags, both_up, none_up, flags_with, flags_after, comes_up, Era, empty_era, era_with, era, begun}
 use Rattle.ecam_spec.specs.Picture.{Picture, blank_row, blank, dead}
@@ -15,7 +15,7 @@ use Rattle.ecam_spec.proofs.ReplaySteps.{last_picture_kept, last_picture_tick, p
 use Rattle.ecam_spec.proofs.PictureAgree.{picture_causal}
 use Rattle.ecam_kinds.specs.Shown.{picture_of}
 use Rattle.zone_rows.proofs.Same.{same_row-equal}
-use Rattle.fwc_lane.specs.ChangedRows.{row_differs, row_changed, TellsRows, NoneChanged}
+use Rattle.fwc_lane.specs.ChangedRows.{row_differs, row_changed, TellsRows}
 use Rattle.fwc_lane.specs.LaneStands.{LaneStands, AreUp}
 use Rattle.fwc_lane.specs.declared.lane.Lane.{Lane}
 use Rattle.fwc_pair.specs.declared.pair.Pair.{Pair}
@@ -85,12 +85,6 @@ are-up h x one two same = flags_next h x ∙ sym same
 pub stepped : (b : Book) (h : List Event) (x : Event) (up : Bool) (l : Lane) → (up ≡ true → LaneStands b (era_with (begun h x) x) l) → up ≡ true → LaneStands b (era (h ++ x ∷ [])) l
 stepped b h x up l stands is = subst (λ e. LaneStands b e l) (sym (era_next h x)) (stands is)
 
--- what is known of the rows that the last Tick changed
-pub kept-still : (tick was still : Bool) (before changed : List Bool) → (was ≡ true → NoneChanged before) → (tick ≡ false → still ≡ was)
-    → (tick ≡ false → changed ≡ before) → (tick ≡ true → still ≡ true → NoneChanged changed) → still ≡ true → NoneChanged changed
-kept-still true was still before changed old same rows new on = new refl on
-kept-still false was still before changed old same rows new on = subst NoneChanged (sym (rows refl)) (old (sym (same refl) ∙ on))
-
 -- ---- the picture
 
 not-false : (t : Bool) → not t ≡ false → t ≡ true
@@ -150,15 +144,6 @@ module _ (b : Book) (h : List Event) where
 
 -- ---- the whole event
 
-tick-only : (x : Event) → is_tick x ≡ true → x ≡ Tick
-tick-only (Word bus bits) e = absurd (let w : ⊥ = cc in w)
-tick-only Tick e = refl
-tick-only (Press key) e = absurd (let w : ⊥ = cc in w)
-tick-only (Release key) e = absurd (let w : ⊥ = cc in w)
-tick-only (Fail n) e = absurd (let w : ⊥ = cc in w)
-tick-only (Up n) e = absurd (let w : ⊥ = cc in w)
-tick-only End e = absurd (let w : ⊥ = cc in w)
-
 -- what the pair shows, where these are the computers that are up
 pub record ShowsUp (old : Picture) (one_up two_up : Bool) (new : Pair) : Type 0 where
   pub one : one_up ≡ true → NamesChanges new.one old → IsShown (picture_of new.one.picture) old (picture_of new.face) new.changed
@@ -191,14 +176,20 @@ module _ (b : Book) (h : List Event) where
   abbrev Faced : Event → Pair → Type 0
   Faced x new = (picture_of new.face ≡ last_picture b (h ++ x ∷ [])) × TellsRows (picture b (h ++ x ∷ [])) (tick_count (h ++ x ∷ [])) new.changed
 
-  tick-faced : (old mid new : Pair) → PairStands b h old → flags_of mid ≡ flags_with (flags_of old) Tick
-      → (mid.one_up ≡ true → LaneStands b (era_with (begun h Tick) Tick) new.one) → (mid.two_up ≡ true → LaneStands b (era_with (begun h Tick) Tick) new.two)
-      → ShowsUp (picture_of old.face) mid.one_up mid.two_up new → Faced Tick new
-  unfolding flags_with
-  tick-faced old mid new st flags first second shows =
+  -- of an event that is no Tick nothing is shown
+  pub still-faced : (x : Event) (old new : Pair) → PairStands b h old → is_tick x ≡ false → new.face ≡ old.face → new.changed ≡ old.changed → Faced x new
+  still-faced x old new st quiet face rows = (
+    face-kept b h x (picture_of old.face) (picture_of new.face) quiet (ap picture_of face) st.face,
+    rows-kept b h x old.changed new.changed quiet rows st.changed,
+  )
+
+  pub tick-faced : (old new : Pair) → PairStands b h old → flags_of new ≡ flags_of old
+      → (new.one_up ≡ true → LaneStands b (era_with (begun h Tick) Tick) new.one) → (new.two_up ≡ true → LaneStands b (era_with (begun h Tick) Tick) new.two)
+      → ShowsUp (picture_of old.face) new.one_up new.two_up new → Faced Tick new
+  tick-faced old new st flags first second shows =
       let on : begun h Tick ≡ era h = goes-on h Tick refl in
       let shown =
-      tick-shows new (picture_of old.face) mid.one_up mid.two_up (flags ∙ st.flags) st.face
+      tick-shows new (picture_of old.face) new.one_up new.two_up (flags ∙ st.flags) st.face
       (λ e. subst (λ d. LaneStands b (era_with d Tick) new.one) on (first e))
       (λ e. subst (λ d. LaneStands b (era_with d Tick) new.two) on (second e))
       shows in (
@@ -206,53 +197,41 @@ module _ (b : Book) (h : List Event) where
         rows-shown b h (picture_of old.face) (picture_of new.face) new.changed st.face shown,
       )
 
-  faced : (x : Event) (t : Bool) → is_tick x ≡ t → (old mid new : Pair) → PairStands b h old → flags_of mid ≡ flags_with (flags_of old) x
-      → (mid.one_up ≡ true → LaneStands b (era_with (begun h x) x) new.one) → (mid.two_up ≡ true → LaneStands b (era_with (begun h x) x) new.two)
-      → (is_tick x ≡ false → new.face ≡ old.face) → (is_tick x ≡ false → new.changed ≡ old.changed)
-      → (is_tick x ≡ true → ShowsUp (picture_of old.face) mid.one_up mid.two_up new) → Faced x new
-  faced x false quiet old mid new st flags first second face rows shows = (
-    face-kept b h x (picture_of old.face) (picture_of new.face) quiet (ap picture_of (face quiet)) st.face,
-    rows-kept b h x old.changed new.changed quiet (rows quiet) st.changed,
-  )
-  faced x true tick old mid new st flags first second face rows shows =
-      let is : x ≡ Tick = tick-only x tick in
-      subst (λ y. Faced y new) (sym is)
-      (tick-faced old mid new st (subst (λ y. flags_of mid ≡ flags_with (flags_of old) y) is flags)
-      (λ e. subst (λ y. LaneStands b (era_with (begun h y) y) new.one) is (first e))
-      (λ e. subst (λ y. LaneStands b (era_with (begun h y) y) new.two) is (second e))
-      (shows tick))
-
-  -- the pair stands for the history with the event, where its computers were seen to, stepped and shown
-  pub went-on : (x : Event) (old mid new : Pair) → PairStands b h old → PairFits b new → flags_of mid ≡ flags_with (flags_of old) x → flags_of new ≡ flags_of mid
-      → (mid.one_up ≡ true → LaneStands b (era_with (begun h x) x) new.one) → (mid.two_up ≡ true → LaneStands b (era_with (begun h x) x) new.two)
-      → (is_tick x ≡ false → new.face ≡ old.face) → (is_tick x ≡ false → new.changed ≡ old.changed)
-      → (is_tick x ≡ true → ShowsUp (picture_of old.face) mid.one_up mid.two_up new) → PairStands b (h ++ x ∷ []) new
+  -- the pair stands for the history with the event, where its computers were seen to and stepped, and the picture stands
+  pub went-on : (x : Event) (old new : Pair) → PairStands b h old → PairFits b new → flags_of new ≡ flags_with (flags_of old) x
+      → (new.one_up ≡ true → LaneStands b (era_with (begun h x) x) new.one) → (new.two_up ≡ true → LaneStands b (era_with (begun h x) x) new.two)
+      → Faced x new → PairStands b (h ++ x ∷ []) new
   unfolding UpStand
-  went-on x old mid new st fits flags same first second face rows shows =
-      let now = faced x (is_tick x) refl old mid new st flags first second face rows shows in
+  went-on x old new st fits flags first second now =
       let into : era_with (begun h x) x ≡ era (h ++ x ∷ []) = sym (era_next h x) in
       record {
         fits = fits;
-        flags = same ∙ flags ∙ ap (λ f. flags_with f x) st.flags ∙ sym (flags_step h x);
+        flags = flags ∙ ap (λ f. flags_with f x) st.flags ∙ sym (flags_step h x);
         face = now.0;
         changed = now.1;
         up =
             record {
-              one = λ e. subst (λ d. LaneStands b d new.one) into (first (ap (λ (f : Flags). f.one) (sym same) ∙ e));
-              two = λ e. subst (λ d. LaneStands b d new.two) into (second (ap (λ (f : Flags). f.two) (sym same) ∙ e));
+              one = λ e. subst (λ d. LaneStands b d new.one) into (first e);
+              two = λ e. subst (λ d. LaneStands b d new.two) into (second e);
             };
       }
 
-  -- a word to which no source listens leaves the pair as it is
-  pub unheard : (bus bits : ℕ) (p : Pair) → PairStands b h p → ((l : Lane) (e : Era) → LaneStands b e l → LaneStands b (era_with e (Word bus bits)) l) → PairStands b (h ++ Word bus bits ∷ []) p
+  -- a word changes nothing but the computers that are up
+  pub heard : (bus bits : ℕ) (p : Pair) (one two : Lane) → PairStands b h p → PairFits b (record p { one = one; two = two })
+      → ((e : Era) → (p.one_up ≡ true → LaneStands b e p.one) → p.one_up ≡ true → LaneStands b (era_with e (Word bus bits)) one)
+      → ((e : Era) → (p.two_up ≡ true → LaneStands b e p.two) → p.two_up ≡ true → LaneStands b (era_with e (Word bus bits)) two)
+      → PairStands b (h ++ Word bus bits ∷ []) (record p { one = one; two = two })
   unfolding flags_with UpStand
-  unheard bus bits p st kept =
-      let x = Word bus bits in
-      let on : begun h x ≡ era h = goes-on h x refl in
-      went-on x p p p st st.fits refl refl
-      (λ e. subst (λ d. LaneStands b (era_with d x) p.one) (sym on) (kept p.one (era h) (st.up.one e)))
-      (λ e. subst (λ d. LaneStands b (era_with d x) p.two) (sym on) (kept p.two (era h) (st.up.two e)))
-      (λ quiet. refl) (λ quiet. refl) (λ tick. absurd (let w : ⊥ = cc in w))
+  heard bus bits p one two st fits first second =
+      let on : begun h (Word bus bits) ≡ era h = goes-on h (Word bus bits) refl in
+      went-on (Word bus bits) p (record p { one = one; two = two }) st fits refl
+      (λ e. subst (λ d. LaneStands b (era_with d (Word bus bits)) one) (sym on) (first (era h) st.up.one e))
+      (λ e. subst (λ d. LaneStands b (era_with d (Word bus bits)) two) (sym on) (second (era h) st.up.two e))
+      (still-faced (Word bus bits) p (record p { one = one; two = two }) st refl refl refl)
+
+  -- one to which no source listens leaves the pair as it is
+  pub unheard : (bus bits : ℕ) (p : Pair) → PairStands b h p → ((l : Lane) (e : Era) → LaneStands b e l → LaneStands b (era_with e (Word bus bits)) l) → PairStands b (h ++ Word bus bits ∷ []) p
+  unheard bus bits p st kept = heard bus bits p p.one p.two st st.fits (λ e was on. kept p.one e (was on)) (λ e was on. kept p.two e (was on))
 
   -- the end of a record is no event
   pub ended : (p : Pair) → PairStands b (h ++ End ∷ []) p → PairStands b h p

@@ -3,7 +3,7 @@ use Rattle.std.proofs.Common.{◌≡◌, ℕ, true, false, ◌==◌, List, [], �
 use Rattle.ecam_spec.specs.declared.kinds.Event.{Event}
 use Rattle.ecam_spec.specs.declared.kinds.Event.TheVariants.{Word, Tick, Press, Release, Fail, Up, End}
 use Rattle.ecam_spec.specs.Book.{Book}
-use Rattle.ecam_spec.specs.History.{comes_up, Era, era, era_with, begun}
+use Rattle.ecam_spec.specs.History.{Era, era, era_with, begun}
 use Rattle.ecam_spec.specs.Replay.{is_tick, moment_of}
 use Rattle.ecam_spec.proofs.HistoryLaws.{era_next}
 use Rattle.fwc_lane.specs.Visits.{visits}
@@ -24,11 +24,10 @@ is-tick (Up n) e = absurd (no-path e)
 is-tick End e = absurd (no-path e)
 
 -- a Tick goes on in the era
-pub visits-are : (b : Book) (h : List Event) (x : Event) → x ≡ Tick → visits b (moment_of (era_with (begun h x) x)) (length (begun h x).moments) ≡ tick_visits b h
-visits-are b h x is =
-    ap (λ (e : Era). visits b (moment_of e) (length (begun h x).moments)) (sym (era_next h x))
-    ∙ ap (λ (e : Era). visits b (moment_of (era (h ++ x ∷ []))) (length e.moments)) (goes-on h x (ap comes_up is))
-    ∙ ap (λ y. visits b (moment_of (era (h ++ y ∷ []))) (length (era h).moments)) is
+pub visits-are : (b : Book) (h : List Event) → visits b (moment_of (era_with (begun h Tick) Tick)) (length (begun h Tick).moments) ≡ tick_visits b h
+visits-are b h =
+    ap (λ (e : Era). visits b (moment_of e) (length (begun h Tick).moments)) (sym (era_next h Tick))
+    ∙ ap (λ (e : Era). visits b (moment_of (era (h ++ Tick ∷ []))) (length e.moments)) (goes-on h Tick refl)
 
 pub fail-visits : (n : ℕ) (old new : Pair) → new ≡ cond (n == 1) (record old { one_up = false }) (record old { two_up = false }) → NoVisits old new
 fail-visits n old new is =

@@ -1,5 +1,6 @@
 // One computer of the pair, beside the other.
-ghost use Rattle.std.specs.Prelude.{◌≡◌, ◌||◌, ◌+◌, true, false, length, if◌then◌else◌};
+ghost use Rattle.std.specs.Prelude.{◌≡◌, ◌||◌, ◌+◌, true, false, length};
+ghost use Rattle.ecam_spec.specs.declared.kinds.Event.TheVariants.{Word, Tick};
 ghost use Rattle.ecam_spec.specs.Keys.{IsEvent};
 ghost use Rattle.ecam_spec.specs.History.{Flags, Era, empty_era, era_with};
 ghost use Rattle.ecam_spec.specs.Replay.{is_tick, moment_of};
@@ -38,8 +39,7 @@ pub(crate) fn wake(lane: &mut Lane, up: bool, other: &Lane, other_up: bool, book
     }
 }
 
-/// An event comes to a computer, if it is up. Of one that is down nothing changes.
-#[inline(always)]
+/// An event that is no Tick comes to a computer, if it is up. Of one that is down nothing changes.
 pub(crate) fn step(
     lane: &mut Lane,
     up: bool,
@@ -50,21 +50,50 @@ pub(crate) fn step(
 )
     requires fits { LaneFits (the_book book.now) lane.old }
     requires event { IsEvent event.now }
-    requires goes_on { up ≡ true → is_tick event.now ≡ true → CanGoOn lane.old }
+    requires quiet { is_tick event.now ≡ false }
     ensures fits { LaneFits (the_book book.now) lane.new }
     ensures stands { (e : Era) → AreUp (era_with e event.now) one_up two_up
         → (up ≡ true → LaneStands (the_book book.now) e lane.old) → up ≡ true
         → LaneStands (the_book book.now) (era_with e event.now) lane.new }
-    ensures moments { up ≡ true
-        → lane.new.moments ≡ lane.old.moments + (if is_tick event.now then 1 else 0) }
-    ensures visits { (e : Era) → is_tick event.now ≡ true
-        → AreUp (era_with e event.now) one_up two_up
-        → (up ≡ true → LaneStands (the_book book.now) e lane.old)
-        → Visits up (visits (the_book book.now) (moment_of (era_with e event.now))
-        (length e.moments)) lane.old lane.new }
-    ensures unvisited { is_tick event.now ≡ false → visited lane.new ≡ visited lane.old }
+    ensures moments { lane.new.moments ≡ lane.old.moments }
+    ensures unvisited { visited lane.new ≡ visited lane.old }
 {
     if up {
         lane.event(book, event, one_up, two_up);
+    }
+}
+
+/// The same, of a word.
+#[inline(always)]
+pub(crate) fn hear(lane: &mut Lane, up: bool, book: &Book, bus: u8, bits: u32)
+    requires { LaneFits (the_book book.now) lane.old }
+    ensures fits { LaneFits (the_book book.now) lane.new }
+    ensures stands { (e : Era) → (up ≡ true → LaneStands (the_book book.now) e lane.old)
+        → up ≡ true → LaneStands (the_book book.now) (era_with e (Word bus bits)) lane.new }
+    ensures moments { lane.new.moments ≡ lane.old.moments }
+    ensures unvisited { visited lane.new ≡ visited lane.old }
+{
+    if up {
+        lane.word(book, bus, bits);
+    }
+}
+
+/// A Tick comes to a computer, if it is up. Of one that is down nothing changes.
+#[inline(always)]
+pub(crate) fn tick(lane: &mut Lane, up: bool, book: &Book, one_up: bool, two_up: bool)
+    requires fits { LaneFits (the_book book.now) lane.old }
+    requires goes_on { up ≡ true → CanGoOn lane.old }
+    ensures fits { LaneFits (the_book book.now) lane.new }
+    ensures stands { (e : Era) → AreUp (era_with e Tick) one_up two_up
+        → (up ≡ true → LaneStands (the_book book.now) e lane.old) → up ≡ true
+        → LaneStands (the_book book.now) (era_with e Tick) lane.new }
+    ensures moments { up ≡ true → lane.new.moments ≡ lane.old.moments + 1 }
+    ensures visits { (e : Era) → AreUp (era_with e Tick) one_up two_up
+        → (up ≡ true → LaneStands (the_book book.now) e lane.old)
+        → Visits up (visits (the_book book.now) (moment_of (era_with e Tick)) (length e.moments))
+        lane.old lane.new }
+{
+    if up {
+        lane.tick(book, one_up, two_up);
     }
 }

@@ -1,7 +1,6 @@
 // The picture of the last Tick, mended in place, and the rows that it changed.
 ghost use Rattle.std.specs.Prelude.{◌≡◌, ◌||◌, ◌<◌, [], ◌∷◌, true, false, length, get_or, replicate, ℕ};
 ghost use Rattle.ecam_spec.specs.Picture as spec;
-ghost use Rattle.ecam_spec.specs.Replay.{is_tick};
 ghost use Rattle.ecam_kinds.specs.Shown.{row_of, rows_of, picture_of};
 ghost use Rattle.zone_rows.specs.Tracked.{tracked, IsWhole};
 ghost use Rattle.zone_rows.specs.Mended.{Mends};
@@ -9,7 +8,7 @@ ghost use Rattle.zone_rows.specs.Zones.{IsMended};
 ghost use Rattle.fwc_lane.specs.ChangedRows.{NoneChanged};
 ghost use Rattle.fwc_pair.specs.Faces.{IsShown, OthersStand, NamesChanges};
 
-use ecam_kinds::{Colour, Event, Picture, ROWS, Row};
+use ecam_kinds::{Colour, Picture, ROWS, Row};
 use fwc_lane::Lane;
 use zone_rows::{blank_rest, put_next, set_row};
 
@@ -135,15 +134,14 @@ fn show_dead(face: &mut Picture, changed: &mut [bool; ROWS])
     mend_dead(&mut face.rows, changed);
 }
 
-/// At a Tick, shows what the first computer that is up shows, or that none is, and notes in `still` whether it is known that
-/// no row changed. Other events leave what stands. Costs at most the comparison of each row, and a copy of those that differ;
-/// after the first moment of an era no row is looked at but those that the computer changed, and where it is calm none.
+/// Shows what the first computer that is up shows, or that none is, and notes in `still` whether it is known that no row
+/// changed. Costs at most the comparison of each row, and a copy of those that differ; after the first moment of an era no
+/// row is looked at but those that the computer changed, and where it is calm none.
 #[inline(always)]
 pub(crate) fn show(
     face: &mut Picture,
     changed: &mut [bool; ROWS],
     still: &mut bool,
-    event: &Event,
     one: &Lane,
     one_up: bool,
     two: &Lane,
@@ -151,30 +149,23 @@ pub(crate) fn show(
 )
     requires one { one.now.calm ≡ true → NoneChanged one.now.changed }
     requires two { two.now.calm ≡ true → NoneChanged two.now.changed }
-    ensures face { is_tick event.now ≡ false → face.new ≡ face.old }
-    ensures changed { is_tick event.now ≡ false → changed.new ≡ changed.old }
-    ensures kept { is_tick event.now ≡ false → still.new ≡ still.old }
-    ensures still { is_tick event.now ≡ true → still.new ≡ true → NoneChanged changed.new }
-    ensures one { is_tick event.now ≡ true → one_up ≡ true
-        → NamesChanges one.now (picture_of face.old)
+    ensures still { still.new ≡ true → NoneChanged changed.new }
+    ensures one { one_up ≡ true → NamesChanges one.now (picture_of face.old)
         → IsShown (picture_of one.now.picture) (picture_of face.old) (picture_of face.new)
         changed.new }
-    ensures two { is_tick event.now ≡ true → one_up ≡ false → two_up ≡ true
-        → NamesChanges two.now (picture_of face.old)
+    ensures two { one_up ≡ false → two_up ≡ true → NamesChanges two.now (picture_of face.old)
         → IsShown (picture_of two.now.picture) (picture_of face.old) (picture_of face.new)
         changed.new }
-    ensures dead { is_tick event.now ≡ true → (one_up || two_up) ≡ false
+    ensures dead { (one_up || two_up) ≡ false
         → IsShown spec.dead (picture_of face.old) (picture_of face.new) changed.new }
 {
-    if let Event::Tick = event {
-        *changed = [false; ROWS];
-        if one_up {
-            *still = show_lane(face, changed, one);
-        } else if two_up {
-            *still = show_lane(face, changed, two);
-        } else {
-            show_dead(face, changed);
-            *still = false;
-        }
+    *changed = [false; ROWS];
+    if one_up {
+        *still = show_lane(face, changed, one);
+    } else if two_up {
+        *still = show_lane(face, changed, two);
+    } else {
+        show_dead(face, changed);
+        *still = false;
     }
 }

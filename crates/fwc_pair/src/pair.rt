@@ -1,10 +1,10 @@
 // The two flight warning computers, and the picture that they show.
 ghost use Rattle.std.specs.Prelude.{◌≡◌, ◌↔◌, ◌<◌, ◌^◌, ◌==◌, ◌++◌, ◌∷◌, ℕ, [], List, true, false, length, IfOk, IfSome, IsNone, if◌then◌else◌};
 ghost use Rattle.ecam_spec.specs.declared.kinds.Event.{Event};
-ghost use Rattle.ecam_spec.specs.declared.kinds.Event.TheVariants.{Word, Up, End};
+ghost use Rattle.ecam_spec.specs.declared.kinds.Event.TheVariants.{Word, Tick, Up, End};
 ghost use Rattle.ecam_spec.specs.Book as plain;
 ghost use Rattle.ecam_spec.specs.Keys.{IsEvent};
-ghost use Rattle.ecam_spec.specs.History.{none_up, set_flag, flags_with, flags_after, changes_computers, era, begun};
+ghost use Rattle.ecam_spec.specs.History.{none_up, set_flag, flags_with, flags_after, era, begun};
 ghost use Rattle.ecam_spec.specs.Replay.{is_tick, tick_count, picture, last_picture};
 ghost use Rattle.ecam_spec.specs.Replay as replay;
 ghost use Rattle.ecam_kinds.specs.Shown.{picture_of};
@@ -14,7 +14,7 @@ ghost use Rattle.fwc_lane.specs.LaneStands.{LaneStands};
 ghost use Rattle.fwc_pair.specs.PairState.{flags_of, moments_of, PairFits, UpStand, PairStands};
 ghost use Rattle.fwc_pair.specs.PairVisits.{Visits, NoVisits, tick_visits};
 
-use crate::computer::{step, wake};
+use crate::computer::{hear, step, tick, wake};
 use crate::face::show;
 use crate::standing::{Standing, standing_by};
 use book_model::Book;
@@ -84,11 +84,11 @@ impl Pair {
         self.still = false;
     }
 
-    /// Takes the next event of a history. A word costs one look-up, and where any source listens to it one for each computer
-    /// that is up and a visit of the sources that listen to it, a stroke a write. A
-    /// Tick costs what it costs each computer that is up, and the comparison of the rows that changed. A computer that
-    /// fails costs nothing; one that comes up takes over all that the other holds, or starts cold where that is down
-    /// too.
+    /// Takes the next event of a history. A word costs one look-up, and where any source listens to it, for each computer
+    /// that is up, one more, a few writes at each of at most two mailboxes, and at most a look at each source that takes it
+    /// and whose parameter the book asks for; a stroke a write. A Tick costs what it costs each computer that is up, and the
+    /// comparison of the rows that changed. A computer that fails costs nothing; one that comes up takes over all that the
+    /// other holds, or starts cold where that is down too.
     // (It stands in its caller, so that a word goes to the two computers at once.)
     #[inline(always)]
     pub fn event(&mut self, book: &Book, event: &Event)
@@ -111,53 +111,66 @@ impl Pair {
         ensures unvisited { is_tick event.now ≡ false → NoVisits self.old self.new }
     {
         match event {
-            Event::Word { bus, bits } => self.take_word(book, event, *bus, *bits),
-            Event::Tick => self.take(book, event),
-            _ => self.take(book, event),
+            Event::Word { bus, bits } => self.take_word(book, *bus, *bits),
+            Event::Tick => self.take_tick(book),
+            _ => self.take_other(book, event),
         }
     }
 
-    // The same, where it is a word. One to which no source listens is looked up once, and not by each computer.
+    // The same, where it is a word: it comes to each computer that is up, and nothing else changes. One to which no source
+    // listens is looked up once, and not by each computer.
     #[inline(always)]
-    fn take_word(&mut self, book: &Book, event: &Event, bus: u8, bits: u32)
-        requires word { event.now ≡ Word bus bits }
-        requires fits { PairFits (the_book book.now) self.old }
-        requires event { IsEvent event.now }
-        requires moments { is_tick event.now ≡ true → moments_of self.old < 2 ^ 63 }
+    fn take_word(&mut self, book: &Book, bus: u8, bits: u32)
+        requires { PairFits (the_book book.now) self.old }
         ensures fits { PairFits (the_book book.now) self.new }
         ensures stands { (h : List Event) → PairStands (the_book book.now) h self.old
-            → PairStands (the_book book.now) (h ++ event.now ∷ []) self.new }
-        ensures end { event.now ≡ End → (h : List Event) → PairStands (the_book book.now) h self.old
-            → PairStands (the_book book.now) h self.new }
-        ensures visits { (h : List Event) → PairStands (the_book book.now) h self.old
-            → is_tick event.now ≡ true
-            → Visits self.old.one_up (tick_visits (the_book book.now) h) self.old.one self.new.one
-            × Visits self.old.two_up (tick_visits (the_book book.now) h) self.old.two
-            self.new.two }
-        ensures unvisited { is_tick event.now ≡ false → NoVisits self.old self.new }
+            → PairStands (the_book book.now) (h ++ Word bus bits ∷ []) self.new }
+        ensures unvisited { NoVisits self.old self.new }
     {
         if self.one.hears(book, bus, bits) {
-            self.take(book, event);
+            hear(&mut self.one, self.one_up, book, bus, bits);
+            hear(&mut self.two, self.two_up, book, bus, bits);
         }
     }
 
-    // The same, in a place where it is known what the event is: so that it is asked once, and not by each computer.
+    // The same, where it is a Tick.
     #[inline(always)]
-    fn take(&mut self, book: &Book, event: &Event)
+    fn take_tick(&mut self, book: &Book)
+        requires fits { PairFits (the_book book.now) self.old }
+        requires moments { moments_of self.old < 2 ^ 63 }
+        ensures fits { PairFits (the_book book.now) self.new }
+        ensures stands { (h : List Event) → PairStands (the_book book.now) h self.old
+            → PairStands (the_book book.now) (h ++ Tick ∷ []) self.new }
+        ensures visits { (h : List Event) → PairStands (the_book book.now) h self.old
+            → Visits self.old.one_up (tick_visits (the_book book.now) h) self.old.one self.new.one
+            × Visits self.old.two_up (tick_visits (the_book book.now) h) self.old.two
+            self.new.two }
+    {
+        tick(&mut self.one, self.one_up, book, self.one_up, self.two_up);
+        tick(&mut self.two, self.two_up, book, self.one_up, self.two_up);
+        show(
+            &mut self.face,
+            &mut self.changed,
+            &mut self.still,
+            &self.one,
+            self.one_up,
+            &self.two,
+            self.two_up,
+        );
+    }
+
+    // The same, of what is no Tick. (It stands by itself, since an event that is neither a Tick nor a word seldom comes.)
+    #[inline(never)]
+    fn take_other(&mut self, book: &Book, event: &Event)
         requires fits { PairFits (the_book book.now) self.old }
         requires event { IsEvent event.now }
-        requires moments { is_tick event.now ≡ true → moments_of self.old < 2 ^ 63 }
+        requires quiet { is_tick event.now ≡ false }
         ensures fits { PairFits (the_book book.now) self.new }
         ensures stands { (h : List Event) → PairStands (the_book book.now) h self.old
             → PairStands (the_book book.now) (h ++ event.now ∷ []) self.new }
         ensures end { event.now ≡ End → (h : List Event) → PairStands (the_book book.now) h self.old
             → PairStands (the_book book.now) h self.new }
-        ensures visits { (h : List Event) → PairStands (the_book book.now) h self.old
-            → is_tick event.now ≡ true
-            → Visits self.old.one_up (tick_visits (the_book book.now) h) self.old.one self.new.one
-            × Visits self.old.two_up (tick_visits (the_book book.now) h) self.old.two
-            self.new.two }
-        ensures unvisited { is_tick event.now ≡ false → NoVisits self.old self.new }
+        ensures unvisited { NoVisits self.old self.new }
     {
         self.note_health(book, event);
         step(
@@ -176,20 +189,9 @@ impl Pair {
             self.one_up,
             self.two_up,
         );
-        show(
-            &mut self.face,
-            &mut self.changed,
-            &mut self.still,
-            event,
-            &self.one,
-            self.one_up,
-            &self.two,
-            self.two_up,
-        );
     }
 
     // Notes which computers are up after an event, and brings up one that comes up.
-    #[inline(always)]
     fn note_health(&mut self, book: &Book, event: &Event)
         requires { PairFits (the_book book.now) self.old }
         ensures fits { PairFits (the_book book.now) self.new }
@@ -197,7 +199,6 @@ impl Pair {
         ensures face { self.new.face ≡ self.old.face }
         ensures changed { self.new.changed ≡ self.old.changed }
         ensures still { self.new.still ≡ self.old.still }
-        ensures kept { changes_computers event.now ≡ false → self.new ≡ self.old }
         ensures stands { (h : List Event) → flags_of self.old ≡ flags_after h
             → UpStand (the_book book.now) (era h) self.old
             → UpStand (the_book book.now) (begun h event.now) self.new }

@@ -26,8 +26,10 @@ module _ (words later : ℕ → List BusWord) (k : ℕ) (same : (i : ℕ) → i 
   ParamsStand-below b p stands = record {
     fits = stands.fits;
     sources = λ q s is. SourceStands-below (parameter_with b.parameters q).stale s p.clock (received_by p q) (stands.sources q s is);
+    before = λ q s is. stands.before q s is
+        ∙ source_before-below words later k (λ i h. same i (omega arith)) (parameter_with b.parameters q).kind (parameter_with b.parameters q).stale s;
     due = stands.due;
     told = λ j on. differ_below (parameter_at b j) words later k same (stands.told j on);
-    unchanged = λ q s is off. stands.unchanged q s is off
+    unchanged = λ q s is asked off. stands.unchanged q s is asked off
         ∙ source_before-below words later k (λ i h. same i (omega arith)) (parameter_with b.parameters q).kind (parameter_with b.parameters q).stale s;
   }

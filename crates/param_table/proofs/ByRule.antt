@@ -1,7 +1,7 @@
 -- The rules of all places, and what a source holds by its rule.
-use Rattle.std.proofs.Common.{◌≡◌, ℕ, ◌*◌, ◌/◌, ◌<◌, ◌≤◌, List, length, get_or, slice_index, Option, Some, None, All, refl, sym, ap, ◌∙◌, subst, arith, inl, inr}
+use Rattle.std.proofs.Common.{◌≡◌, ℕ, zero, suc, ◌+◌, ◌*◌, ◌/◌, ◌<◌, ◌≤◌, ◌==◌, Bool, true, false, cond, List, [], ◌∷◌, length, map, get_or, slice_index, Option, Some, None, All, refl, sym, ap, ◌∙◌, subst, arith, inl, inr}
 use Rattle.std.specs.Option.{option_map_or}
-use Rattle.std.proofs.lemmas.Bool.{cases_lt}
+use Rattle.std.proofs.lemmas.Bool.{cases_lt, ne_eqb}
 use Rattle.std.proofs.lemmas.Option.{same_Some, none-some}
 use Rattle.std.proofs.lemmas.List.{get_or_default, get_or_past}
 use Rattle.ecam_spec.specs.Book.{Source, Parameter}
@@ -11,8 +11,8 @@ use Rattle.book_model.proofs.SourcePlaces.{no_source, sound_source}
 use Rattle.param_table.specs.declared.rules.Rule.{Rule}
 use Rattle.param_table.specs.declared.mailbox.Mailbox.{Mailbox}
 use Rattle.param_table.specs.declared.routing.Routing.{Routing}
-use Rattle.param_table.specs.HeldValues.{nothing, unused, held_for, received_at, mailbox_at, due_at}
-use Rattle.param_table.specs.Masks.{IsReadable, low_of}
+use Rattle.param_table.specs.HeldValues.{nothing, unused, at_start, held_for, received_at, mailbox_at, due_at}
+use Rattle.param_table.specs.Words.{IsReadable, low_of}
 use Rattle.param_table.specs.Rules.{IsRule, RuleIs, AreRules}
 use Rattle.param_table.proofs.Masks.{readable}
 
@@ -66,3 +66,30 @@ mailbox_by_rule rules q r is = ap (λ o. option_map_or (λ (t : Rule). t.mailbox
 
 pub due_by_rule : (rules : List (Option Rule)) (dues : List ℕ) (q : ℕ) (r : Rule) → get_or rules q None ≡ Some r → due_at rules dues q ≡ slice_index dues r.mailbox
 due_by_rule rules dues q r is = ap (slice_index dues) (mailbox_by_rule rules q r is)
+
+-- each mailbox as it was when the moment began
+pub get_or-at_start : (clock : ℕ) (mailboxes : List Mailbox) (m : ℕ) → get_or (map (at_start clock) mailboxes) m unused ≡ at_start clock (get_or mailboxes m unused)
+get_or-at_start clock [] m = by (0 == clock + 1) where
+  by : (b : Bool) → unused ≡ cond b (record unused { after = 0; bits = 0 }) unused
+  by true = refl
+  by false = refl
+get_or-at_start clock (x ∷ xs) zero = refl
+get_or-at_start clock (x ∷ xs) (suc m) = get_or-at_start clock xs m
+
+pub started_by_rule : (rules : List (Option Rule)) (mailboxes : List Mailbox) (clock q : ℕ) (r : Rule) → get_or rules q None ≡ Some r
+    → received_at rules (map (at_start clock) mailboxes) q ≡ held_for (at_start clock (get_or mailboxes r.mailbox unused)) r.stale
+started_by_rule rules mailboxes clock q r is =
+    by_rule rules (map (at_start clock) mailboxes) q r is ∙ ap (λ m. held_for m r.stale) (get_or-at_start clock mailboxes r.mailbox)
+
+-- where no word came in the moment that hasn't ended, each holds what it held when that began
+pub started_early : (rules : List (Option Rule)) (mailboxes : List Mailbox) (clock : ℕ) → ((m : ℕ) → (get_or mailboxes m unused).after ≤ clock) → (q : ℕ)
+    → received_at rules (map (at_start clock) mailboxes) q ≡ received_at rules mailboxes q
+started_early rules mailboxes clock early q = by (get_or rules q None) refl where
+  same : (m : ℕ) → at_start clock (get_or mailboxes m unused) ≡ get_or mailboxes m unused
+  same m =
+      let box = get_or mailboxes m unused in
+      ap (λ t. cond t (record box { after = box.earlier_after; bits = box.earlier_bits }) box) (ne_eqb box.after (clock + 1) (λ e. omega (arith, e, early m)))
+
+  by : (o : Option Rule) → get_or rules q None ≡ o → received_at rules (map (at_start clock) mailboxes) q ≡ received_at rules mailboxes q
+  by None is = by_none rules (map (at_start clock) mailboxes) q is ∙ sym (by_none rules mailboxes q is)
+  by (Some r) is = started_by_rule rules mailboxes clock q r is ∙ ap (λ m. held_for m r.stale) (same r.mailbox) ∙ sym (by_rule rules mailboxes q r is)

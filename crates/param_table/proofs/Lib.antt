@@ -1,4 +1,5 @@
 pub mod Masks
+pub mod AskedFor
 pub mod Moments
 pub mod Chains
 pub mod Sources

@@ -6,7 +6,7 @@ use Rattle.std.proofs.lemmas.List.Folds.{list_any_more, list_any_none}
 use Rattle.std.proofs.lemmas.Bool.Decides.{nat_tests}
 use Rattle.std.proofs.lemmas.Grind.{common_steps}
 use Rattle.param_table.specs.declared.mailbox.Mailbox.{Mailbox}
-use Rattle.param_table.specs.Masks.{may_say}
+use Rattle.param_table.specs.Words.{may_say}
 use Rattle.param_table.specs.declared.mailbox.Listener.{Listener}
 use Rattle.param_table.specs.HeldValues.{all_fresh, held_for, is_ending, keeps_saying, says_same}
 

@@ -10,7 +10,7 @@ use Rattle.ecam_spec.specs.KeepsLimits.{IsSoundSource}
 use Rattle.ecam_spec.specs.Value.{reading}
 use Rattle.ecam_spec.specs.Word.{sum_from, bit, ssm}
 use Rattle.ecam_spec.specs.Reading.{discrete, raw, binary, digit, has_digits, decimal}
-use Rattle.param_table.specs.Masks.{low_of, reads, IsReadable, mask_of, modes_of, may_say}
+use Rattle.param_table.specs.Words.{low_of, reads, IsReadable, mask_of, modes_of, may_say}
 
 -- each number below n passes
 abbrev below : (ℕ → Bool) → ℕ → Bool

@@ -5,7 +5,7 @@ use Rattle.std.specs.Option.{option_map_or}
 use Rattle.std.proofs.lemmas.Bool.{cases_Bool, cases_lt, cases_eq, and_parts, eq-eqb, eqb-true, false≢true}
 use Rattle.std.proofs.lemmas.Bool.Decides.{nat_tests}
 use Rattle.std.proofs.lemmas.List.{get_or_default}
-use Rattle.ecam_spec.specs.Book.{Source, Parameter}
+use Rattle.ecam_spec.specs.Book.{Source, Parameter, Book}
 use Rattle.ecam_spec.specs.Word.{label, is_odd, sdi}
 use Rattle.ecam_spec.specs.Value.{BusWord, takes, has_sdi}
 use Rattle.book_model.specs.SourcePlaces.{parameter_with, source_at, listens, last_below}
@@ -27,8 +27,11 @@ pub sdi-few : (bits : ℕ) → sdi bits < 4
 unfolding sdi
 sdi-few bits = omega arith
 
-module _ (params : List Parameter) (routing : Routing) (boxes : List Mailbox) (routed : AreRouted params routing boxes) (w : BusWord) (odd : is_odd w.bits ≡ true)
-    (l : ℕ) (last : Some l ≡ last_below (listens params w.bus (label w.bits)) (3 * length params)) where
+module _ (book : Book) (routing : Routing) (boxes : List Mailbox) (routed : AreRouted book routing boxes) (w : BusWord) (odd : is_odd w.bits ≡ true)
+    (l : ℕ) (last : Some l ≡ last_below (listens book.parameters w.bus (label w.bits)) (3 * length book.parameters)) where
+  abbrev params : List Parameter
+  params = book.parameters
+
   abbrev rules : List (Option Rule)
   rules = routing.rules.items.items
 

@@ -26,7 +26,7 @@ use Rattle.param_table.proofs.Numbers.{number-own, passes-own, one_number}
 abbrev pub has_place : ℕ → List Listener → Bool
 has_place q ls = list_any (λ (l : Listener). l.place == q) ls
 
-module _ (params : List Parameter) where
+module _ (is_asked : ℕ → Bool) (params : List Parameter) where
   -- the place is still to come
   pub record IsAhead (q : ℕ) (next : Option ℕ) : Type 0 where
     pub at : ℕ
@@ -42,11 +42,11 @@ module _ (params : List Parameter) where
   -- the listeners of the places behind the next one are found
   pub record Looks (rules : List (Option Rule)) (mailbox : ℕ) (next : Option ℕ) (ls : List Listener) : Type 0 where
     pub there : IfSome next (λ h. (h < 3 * length params) × ((s : Source) × (source_at params h ≡ Some s)))
-    pub each : All (IsListener rules mailbox) ls
-    pub all : (q : ℕ) (r : Rule) → get_or rules q None ≡ Some r → r.mailbox ≡ mailbox → (has_place q ls ≡ true) ⊎ IsAhead q next
+    pub each : All (IsListener is_asked rules mailbox) ls
+    pub all : (q : ℕ) (r : Rule) → get_or rules q None ≡ Some r → r.mailbox ≡ mailbox → is_asked q ≡ true → (has_place q ls ≡ true) ⊎ IsAhead q next
 
-  pub found_all : (rules : List (Option Rule)) (mailbox : ℕ) (next : Option ℕ) (ls : List Listener) → Looks rules mailbox next ls → next ≡ None → AreListeners rules mailbox ls
-  found_all rules mailbox next ls looks end = record { each = looks.each; all = λ q r is own. by q r (looks.all q r is own) } where
+  pub found_all : (rules : List (Option Rule)) (mailbox : ℕ) (next : Option ℕ) (ls : List Listener) → Looks rules mailbox next ls → next ≡ None → AreListeners is_asked rules mailbox ls
+  found_all rules mailbox next ls looks end = record { each = looks.each; all = λ q r is own asked. by q r (looks.all q r is own asked) } where
     by : (q : ℕ) (r : Rule) → (has_place q ls ≡ true) ⊎ IsAhead q next → has_place q ls ≡ true
     by q r (inl found) = found
     by q r (inr ahead) = absurd (none-some ahead.at (sym end ∙ ahead.is))
@@ -91,7 +91,7 @@ module _ (params : List Parameter) where
           absurd (none-some l (sym are.latest.none ∙ ap (λ i. get_or numbered.latest.items i None) zero_is ∙ is))
 
     pub look_start : (mailbox : ℕ) (next : Option ℕ) → next ≡ get_or numbered.latest.items mailbox None → Looks rules mailbox next []
-    look_start mailbox next is = record { there = first next is; each = All-nil (IsListener rules mailbox); all = λ q r rule own. inr (ahead q r rule own) } where
+    look_start mailbox next is = record { there = first next is; each = All-nil (IsListener is_asked rules mailbox); all = λ q r rule own asked. inr (ahead q r rule own) } where
       first : (o : Option ℕ) → o ≡ get_or numbered.latest.items mailbox None → IfSome o (λ h. (h < 3 * length params) × ((s : Source) × (source_at params h ≡ Some s)))
       first None is = tt
       first (Some l) is =
@@ -112,8 +112,8 @@ module _ (params : List Parameter) where
     -- ---- one place before
 
     pub look_next : (mailbox h : ℕ) (s : Source) (next : Option ℕ) (ls after : List Listener) → Looks rules mailbox (Some h) ls → source_at params h ≡ Some s → next ≡ last_below (listens params s.bus s.label) h
-        → All (IsListener rules mailbox) after → ((q : ℕ) → has_place q ls ≡ true → has_place q after ≡ true)
-        → ((r : Rule) → get_or rules h None ≡ Some r → r.mailbox ≡ mailbox → has_place h after ≡ true)
+        → All (IsListener is_asked rules mailbox) after → ((q : ℕ) → has_place q ls ≡ true → has_place q after ≡ true)
+        → ((r : Rule) → get_or rules h None ≡ Some r → r.mailbox ≡ mailbox → is_asked h ≡ true → has_place h after ≡ true)
         → Looks rules mailbox next after
     look_next mailbox h s next ls after looks there is each kept here = record { there = first next (subst (λ o. IfSome o (λ i. (i < h) × (p i ≡ true))) (sym is) (found_passes p h)); each = each; all = all } where
       p : ℕ → Bool
@@ -140,8 +140,8 @@ module _ (params : List Parameter) where
             record { at = i; is = at; behind = behind; source = t.0; there = t.1; own = own; owned = owned; bus = sym (eqb-true s.bus t.0.bus parts.0) ∙ bus; label = sym (eqb-true s.label t.0.label parts.1) ∙ label }
       ]
 
-      all : (q : ℕ) (r : Rule) → get_or rules q None ≡ Some r → r.mailbox ≡ mailbox → (has_place q after ≡ true) ⊎ IsAhead q next
-      all q r rule own = by (looks.all q r rule own) where
+      all : (q : ℕ) (r : Rule) → get_or rules q None ≡ Some r → r.mailbox ≡ mailbox → is_asked q ≡ true → (has_place q after ≡ true) ⊎ IsAhead q next
+      all q r rule own asked = by (looks.all q r rule own asked) where
         ahead : (a : IsAhead q (Some h)) → (has_place q after ≡ true) ⊎ IsAhead q next
         ahead a =
             let same : h ≡ a.at = same_Some h a.at a.is in
@@ -149,7 +149,7 @@ module _ (params : List Parameter) where
             let bus : s.bus ≡ a.own.bus = ap (λ (t : Source). t.bus) source ∙ a.bus in
             let label : s.label ≡ a.own.label = ap (λ (t : Source). t.label) source ∙ a.label in
             elim (cases_order q h) [
-              | inl at ↦ inl (subst (λ i. has_place i after ≡ true) (sym at) (here r (ap (λ i. get_or rules i None) (sym at) ∙ rule) own))
+              | inl at ↦ inl (subst (λ i. has_place i after ≡ true) (sym at) (here r (ap (λ i. get_or rules i None) (sym at) ∙ rule) own (ap is_asked (sym at) ∙ asked)))
               | inr (inl before) ↦
                   let so : p q ≡ true = ap (λ o. option_map_or (λ (t : Source). s.bus == t.bus && s.label == t.label) o false) a.owned
                   ∙ and_from (s.bus == a.own.bus) (s.label == a.own.label) (eq-eqb s.bus a.own.bus bus) (eq-eqb s.label a.own.label label) in
@@ -163,20 +163,20 @@ module _ (params : List Parameter) where
 
     -- its source listens to the mailbox
     pub look_found : (mailbox h : ℕ) (s : Source) (next : Option ℕ) (ls : List Listener) (r : Rule) → Looks rules mailbox (Some h) ls → source_at params h ≡ Some s → next ≡ last_below (listens params s.bus s.label) h
-        → get_or rules h None ≡ Some r → r.mailbox ≡ mailbox → Looks rules mailbox next (ls ++ listener_of h r ∷ [])
-    look_found mailbox h s next ls r looks there is rule own = look_next mailbox h s next ls (ls ++ listener_of h r ∷ []) looks there is
-        (All-append (IsListener rules mailbox) ls (listener_of h r ∷ []) looks.each one)
+        → get_or rules h None ≡ Some r → r.mailbox ≡ mailbox → is_asked h ≡ true → Looks rules mailbox next (ls ++ listener_of h r ∷ [])
+    look_found mailbox h s next ls r looks there is rule own asked = look_next mailbox h s next ls (ls ++ listener_of h r ∷ []) looks there is
+        (All-append (IsListener is_asked rules mailbox) ls (listener_of h r ∷ []) looks.each one)
         (λ q found. list_any-append (λ (l : Listener). l.place == q) ls (listener_of h r ∷ []) ∙ or_left (has_place q ls) (has_place q (listener_of h r ∷ [])) found)
-        (λ t other mine. list_any-append (λ (l : Listener). l.place == h) ls (listener_of h r ∷ []) ∙ or_right (has_place h ls) (has_place h (listener_of h r ∷ [])) (or_left (h == h) false (eq-eqb h h refl)))
+        (λ t other mine on. list_any-append (λ (l : Listener). l.place == h) ls (listener_of h r ∷ []) ∙ or_right (has_place h ls) (has_place h (listener_of h r ∷ [])) (or_left (h == h) false (eq-eqb h h refl)))
       where
-        one : All (IsListener rules mailbox) (listener_of h r ∷ [])
-        one zero d less = record { rule = r; there = rule; own = own; is = refl }
+        one : All (IsListener is_asked rules mailbox) (listener_of h r ∷ [])
+        one zero d less = record { rule = r; there = rule; own = own; is = refl; asked = asked }
         one (suc i) d less = absurd (omega (arith, less))
 
-    -- it doesn't
+    -- it doesn't, or isn't is_asked
     pub look_other : (mailbox h : ℕ) (s : Source) (next : Option ℕ) (ls : List Listener) → Looks rules mailbox (Some h) ls → source_at params h ≡ Some s → next ≡ last_below (listens params s.bus s.label) h
-        → ((r : Rule) → get_or rules h None ≡ Some r → r.mailbox ≡ mailbox → ⊥) → Looks rules mailbox next ls
-    look_other mailbox h s next ls looks there is not = look_next mailbox h s next ls ls looks there is looks.each (λ q found. found) (λ r rule own. absurd (not r rule own))
+        → ((r : Rule) → get_or rules h None ≡ Some r → r.mailbox ≡ mailbox → is_asked h ≡ true → ⊥) → Looks rules mailbox next ls
+    look_other mailbox h s next ls looks there is not = look_next mailbox h s next ls ls looks there is looks.each (λ q found. found) (λ r rule own asked. absurd (not r rule own asked))
 
 -- within a list any default gives the same
 pub any_default : {X : Type 0} → (xs : List X) (i : ℕ) (d e : X) → i < length xs → get_or xs i d ≡ get_or xs i e

@@ -1,5 +1,5 @@
 -- One more mailbox, whose listeners stand behind those of the mailboxes before.
-use Rattle.std.proofs.Common.{◌≡◌, ◌⊎◌, ℕ, ◌+◌, ◌-◌, ◌<◌, ◌≤◌, ◌++◌, List, [], ◌∷◌, length, get_or, Option, All, sym, ap, ◌∙◌, subst, arith, inl, inr}
+use Rattle.std.proofs.Common.{◌≡◌, ◌⊎◌, ℕ, ◌+◌, ◌-◌, ◌<◌, ◌≤◌, ◌++◌, Bool, List, [], ◌∷◌, length, get_or, Option, All, sym, ap, ◌∙◌, subst, arith, inl, inr}
 use Rattle.std.specs.Prelude.{take, drop, slice_range}
 use Rattle.std.proofs.lemmas.Bool.{cases_lt}
 use Rattle.std.proofs.lemmas.List.{length-append, length-drop, take-append-le, drop-append-le, take_all, get_or_past}
@@ -19,37 +19,37 @@ own_range : (ls hs : List Listener) → slice_range (ls ++ hs) (length ls) (leng
 own_range ls hs = ap (take (length ls + length hs - length ls)) (drop-append_seam ls hs) ∙ take_all (length ls + length hs - length ls) hs (omega arith)
 
 -- those before tell their listeners as they did
-tells_still : (rules : List (Option Rule)) (ls hs : List Listener) (n : ℕ) (m : Mailbox) → Tells rules ls n m → Tells rules (ls ++ hs) n m
-tells_still rules ls hs n m tells =
+tells_still : (is_asked : ℕ → Bool) (rules : List (Option Rule)) (ls hs : List Listener) (n : ℕ) (m : Mailbox) → Tells is_asked rules ls n m → Tells is_asked rules (ls ++ hs) n m
+tells_still is_asked rules ls hs n m tells =
     let same : hearers_of (ls ++ hs) m ≡ hearers_of ls m = same_range ls hs m.hearers.first m.hearers.end tells.order tells.within in
     record {
       order = tells.order;
       within = omega (arith, tells.within, length-append ls hs);
-      are = subst (AreListeners rules n) (sym same) tells.are;
+      are = subst (AreListeners is_asked rules n) (sym same) tells.are;
       soonest = subst (All (λ (l : Listener). m.hearers.soonest ≤ l.stale)) (sym same) tells.soonest;
     }
 
 abbrev pub one_behind : List Listener → List Listener → ℕ → Mailbox
 one_behind ls hs soonest = empty (record { soonest = soonest; first = length ls; end = length ls + length hs })
 
-tells_own : (rules : List (Option Rule)) (ls hs : List Listener) (n soonest : ℕ) → AreListeners rules n hs → All (λ (l : Listener). soonest ≤ l.stale) hs → Tells rules (ls ++ hs) n (one_behind ls hs soonest)
-tells_own rules ls hs n soonest are least = record {
+tells_own : (is_asked : ℕ → Bool) (rules : List (Option Rule)) (ls hs : List Listener) (n soonest : ℕ) → AreListeners is_asked rules n hs → All (λ (l : Listener). soonest ≤ l.stale) hs → Tells is_asked rules (ls ++ hs) n (one_behind ls hs soonest)
+tells_own is_asked rules ls hs n soonest are least = record {
   order = omega arith;
   within = omega (arith, length-append ls hs);
-  are = subst (AreListeners rules n) (sym (own_range ls hs)) are;
+  are = subst (AreListeners is_asked rules n) (sym (own_range ls hs)) are;
   soonest = subst (All (λ (l : Listener). soonest ≤ l.stale)) (sym (own_range ls hs)) least;
 }
 
-pub more_tells : (rules : List (Option Rule)) (n : ℕ) (boxes : List Mailbox) (ls hs : List Listener) (soonest : ℕ) → length boxes ≡ n
-    → ((m : ℕ) → m < n → Tells rules ls m (get_or boxes m unused)) → AreListeners rules n hs → All (λ (l : Listener). soonest ≤ l.stale) hs
-    → (m : ℕ) → m < n + 1 → Tells rules (ls ++ hs) m (get_or (boxes ++ one_behind ls hs soonest ∷ []) m unused)
-more_tells rules n boxes ls hs soonest many tells are least m less = by (cases_lt m n) where
-  by : (m < n) ⊎ (n ≤ m) → Tells rules (ls ++ hs) m (get_or (boxes ++ one_behind ls hs soonest ∷ []) m unused)
-  by (inl before) = subst (Tells rules (ls ++ hs) m) (sym (get_or-before boxes (one_behind ls hs soonest ∷ []) unused n m many before)) (tells_still rules ls hs m (get_or boxes m unused) (tells m before))
+pub more_tells : (is_asked : ℕ → Bool) (rules : List (Option Rule)) (n : ℕ) (boxes : List Mailbox) (ls hs : List Listener) (soonest : ℕ) → length boxes ≡ n
+    → ((m : ℕ) → m < n → Tells is_asked rules ls m (get_or boxes m unused)) → AreListeners is_asked rules n hs → All (λ (l : Listener). soonest ≤ l.stale) hs
+    → (m : ℕ) → m < n + 1 → Tells is_asked rules (ls ++ hs) m (get_or (boxes ++ one_behind ls hs soonest ∷ []) m unused)
+more_tells is_asked rules n boxes ls hs soonest many tells are least m less = by (cases_lt m n) where
+  by : (m < n) ⊎ (n ≤ m) → Tells is_asked rules (ls ++ hs) m (get_or (boxes ++ one_behind ls hs soonest ∷ []) m unused)
+  by (inl before) = subst (Tells is_asked rules (ls ++ hs) m) (sym (get_or-before boxes (one_behind ls hs soonest ∷ []) unused n m many before)) (tells_still is_asked rules ls hs m (get_or boxes m unused) (tells m before))
   by (inr past) =
       let at : n ≡ m = omega (arith, past, less) in
-      subst (λ i. Tells rules (ls ++ hs) i (get_or (boxes ++ one_behind ls hs soonest ∷ []) i unused)) at
-      (subst (Tells rules (ls ++ hs) n) (sym (get_or-last boxes (one_behind ls hs soonest) unused n many)) (tells_own rules ls hs n soonest are least))
+      subst (λ i. Tells is_asked rules (ls ++ hs) i (get_or (boxes ++ one_behind ls hs soonest ∷ []) i unused)) at
+      (subst (Tells is_asked rules (ls ++ hs) n) (sym (get_or-last boxes (one_behind ls hs soonest) unused n many)) (tells_own is_asked rules ls hs n soonest are least))
 
 -- nor did a word come to it
 pub more_empty : (n : ℕ) (boxes : List Mailbox) (h : Hearers) → length boxes ≡ n → ((m : ℕ) → (get_or boxes m unused).after ≡ 0) → (m : ℕ) → (get_or (boxes ++ empty h ∷ []) m unused).after ≡ 0

@@ -34,14 +34,16 @@ set_set [] i x y = refl
 set_set (a ∷ xs) zero x y = refl
 set_set (a ∷ xs) (suc i) x y = ap (λ l. a ∷ l) (set_set xs i x y)
 
-pub renews_none : (params : List Parameter) (rules : List (Option Rule)) (clock : ℕ) (h : Held) → Renews params rules clock h h
-renews_none params rules clock h = record { marks = λ q off. off; gives = λ q s there off. refl; due = λ due. due }
+pub renews_none : (is_asked : ℕ → Bool) (params : List Parameter) (rules : List (Option Rule)) (clock : ℕ) (h : Held) → Renews is_asked params rules clock h h
+renews_none is_asked params rules clock h = record { marks = λ q off. off; gives = λ q s there asked off. refl; due = λ due. due; before = λ q. refl }
 
-pub renews_both : (params : List Parameter) (rules : List (Option Rule)) (clock : ℕ) (a b c : Held) → Renews params rules clock a b → Renews params rules clock b c → Renews params rules clock a c
-renews_both params rules clock a b c first second = record {
+pub renews_both : (is_asked : ℕ → Bool) (params : List Parameter) (rules : List (Option Rule)) (clock : ℕ) (a b c : Held) → Renews is_asked params rules clock a b → Renews is_asked params rules clock b c
+    → Renews is_asked params rules clock a c
+renews_both is_asked params rules clock a b c first second = record {
   marks = λ q off. first.marks q (second.marks q off);
-  gives = λ q s there off. second.gives q s there off ∙ first.gives q s there (second.marks q off);
+  gives = λ q s there asked off. second.gives q s there asked off ∙ first.gives q s there asked (second.marks q off);
   due = λ due. second.due (first.due due);
+  before = λ q. second.before q ∙ first.before q;
 }
 
 -- the next look at a place comes after now, and in time

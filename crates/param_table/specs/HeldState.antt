@@ -1,9 +1,9 @@
 -- When each mailbox of a table is looked at, and what words leave.
-use Rattle.std.specs.Prelude.{◌≡◌, ◌≢◌, ℕ, ◌+◌, ◌/◌, ◌<◌, ◌≤◌, true, false, List, length, get_or, Option, Some, None, All}
+use Rattle.std.specs.Prelude.{◌≡◌, ◌≢◌, ℕ, ◌+◌, ◌/◌, ◌<◌, ◌≤◌, Bool, true, false, List, length, map, get_or, Option, Some, None, All}
 use Rattle.ecam_spec.specs.Book.{Source, Parameter}
 use Rattle.wakes.specs.Marks.{is_marked}
 use Rattle.book_model.specs.SourcePlaces.{parameter_with, source_at}
-use Rattle.param_table.specs.HeldValues.{unused, given, renewed, is_ending, held_for, received_at, due_at, hearers_of}
+use Rattle.param_table.specs.HeldValues.{unused, at_start, given, renewed, is_ending, held_for, received_at, due_at, hearers_of}
 use Rattle.param_table.specs.declared.received.Received.{Received}
 use Rattle.param_table.specs.declared.mailbox.Mailbox.{Mailbox}
 use Rattle.param_table.specs.declared.mailbox.Listener.{Listener}
@@ -25,29 +25,32 @@ pub record AreListed (listeners : List Listener) (param_count : ℕ) (m : Mailbo
 pub record CopiedWords (old others new : List Mailbox) : Type 0 where
   pub count : length new ≡ length old
   pub each : (m : ℕ) → m < length old → get_or new m unused
-      ≡ record { after = (get_or others m unused).after; bits = (get_or others m unused).bits; hearers = (get_or old m unused).hearers }
+      ≡ record (get_or others m unused) { hearers = (get_or old m unused).hearers }
 
 -- a fresh word is looked at by the time when it is no longer fresh
 abbrev pub IsDue : ℕ → Received → ℕ → Type 0
 IsDue clock r key = clock < r.end → key ≤ r.end
 
--- those that the places hold
-abbrev pub AreDue : ℕ → (ℕ → Received) → (ℕ → ℕ) → Type 0
-AreDue clock x dues = (q : ℕ) → IsDue clock (x q) (dues q)
+-- so is what the places hold that are asked for
+abbrev pub AreDue : (ℕ → Bool) → ℕ → (ℕ → Received) → (ℕ → ℕ) → Type 0
+AreDue is_asked clock x dues = (q : ℕ) → is_asked q ≡ true → IsDue clock (x q) (dues q)
 
 -- A mailbox is looked at next after now, and by the time when its word is no longer fresh for any listener for whom it is.
 pub record IsNextLook (clock : ℕ) (m : Mailbox) (hearers : List Listener) (due : ℕ) : Type 0 where
   pub later : clock < due
   pub each : All (λ (l : Listener). IsDue clock (held_for m l.stale) due) hearers
 
--- Words came in a moment: what isn't marked wasn't, and gives what it gave; and each is looked at in time, if each was.
-pub record Renews (params : List Parameter) (rules : List (Option Rule)) (clock : ℕ) (old new : Held) : Type 0 where
+-- Words came in a moment: what isn't marked wasn't, and a place that is asked for then gives what it gave; each such place
+-- is looked at in time, if each was. What each place held when the moment began is as it was.
+pub record Renews (is_asked : ℕ → Bool) (params : List Parameter) (rules : List (Option Rule)) (clock : ℕ) (old new : Held) : Type 0 where
   pub marks : (q : ℕ) → is_marked new.changed (q / 3) ≡ false → is_marked old.changed (q / 3) ≡ false
-  pub gives : (q : ℕ) (s : Source) → source_at params q ≡ Some s → is_marked new.changed (q / 3) ≡ false
+  pub gives : (q : ℕ) (s : Source) → source_at params q ≡ Some s → is_asked q ≡ true → is_marked new.changed (q / 3) ≡ false
       → given clock (parameter_with params q).kind s (received_at rules new.mailboxes.items.items q)
       ≡ given clock (parameter_with params q).kind s (received_at rules old.mailboxes.items.items q)
-  pub due : AreDue clock (received_at rules old.mailboxes.items.items) (due_at rules old.dues)
-      → AreDue clock (received_at rules new.mailboxes.items.items) (due_at rules new.dues)
+  pub due : AreDue is_asked clock (received_at rules old.mailboxes.items.items) (due_at rules old.dues)
+      → AreDue is_asked clock (received_at rules new.mailboxes.items.items) (due_at rules new.dues)
+  pub before : (q : ℕ) → received_at rules (map (at_start clock) new.mailboxes.items.items) q
+      ≡ received_at rules (map (at_start clock) old.mailboxes.items.items) q
 
 -- A word came to the sources of a mailbox: they hold it, the other places hold what they held, and a parameter none of whose sources has
 -- the mailbox is marked as it was.
@@ -57,7 +60,8 @@ pub record CameTo (rules : List (Option Rule)) (clock m bits : ℕ) (old new : H
   pub none : (q : ℕ) → get_or rules q None ≡ None → received_at rules new.mailboxes.items.items q ≡ received_at rules old.mailboxes.items.items q
   pub marks : (p : ℕ) → ((q : ℕ) (r : Rule) → q / 3 ≡ p → get_or rules q None ≡ Some r → r.mailbox ≢ m) → is_marked new.changed p ≡ is_marked old.changed p
 
--- A moment begins: each word whose freshness ends with it will be looked at, and the others in time.
-pub record WillLook (clock : ℕ) (x : ℕ → Received) (dues : ℕ → ℕ) : Type 0 where
-  pub due : AreDue clock x dues
-  pub ending : (q : ℕ) → is_ending clock (x q) ≡ true → dues q ≤ clock
+-- A moment begins: of the places that are asked for each word whose freshness ends with it will be looked at, and the others
+-- in time.
+pub record WillLook (is_asked : ℕ → Bool) (clock : ℕ) (x : ℕ → Received) (dues : ℕ → ℕ) : Type 0 where
+  pub due : AreDue is_asked clock x dues
+  pub ending : (q : ℕ) → is_asked q ≡ true → is_ending clock (x q) ≡ true → dues q ≤ clock

@@ -5,7 +5,7 @@ use Rattle.ecam_spec.specs.declared.kinds.Kind.{Kind}
 use Rattle.ecam_spec.specs.Book.{Source}
 use Rattle.ecam_spec.specs.Value.{reading}
 use Rattle.wakes.specs.Due.{never}
-use Rattle.param_table.specs.Masks.{may_say, reads}
+use Rattle.param_table.specs.Words.{may_say, reads}
 use Rattle.param_table.specs.declared.received.Received.{Received}
 use Rattle.param_table.specs.declared.mailbox.Mailbox.{Mailbox}
 use Rattle.param_table.specs.declared.mailbox.Hearers.{Hearers}
@@ -49,7 +49,7 @@ next_look clock r = if nat_lt clock r.end then r.end else never
 
 -- before any word
 abbrev pub empty : Hearers → Mailbox
-empty hearers = record { after = 0; bits = 0; hearers = hearers }
+empty hearers = record { after = 0; bits = 0; earlier_after = 0; earlier_bits = 0; hearers = hearers }
 
 -- what stands where no mailbox is
 abbrev pub unused : Mailbox
@@ -80,9 +80,18 @@ all_fresh clock m = nat_lt clock (held_for m m.hearers.soonest).end
 abbrev pub hearers_of : List Listener → Mailbox → List Listener
 hearers_of listeners m = slice_range listeners m.hearers.first m.hearers.end
 
+-- what it held when the moment began that hasn't ended
+abbrev pub at_start : ℕ → Mailbox → Mailbox
+at_start clock m = if m.after == clock + 1 then record m { after = m.earlier_after; bits = m.earlier_bits } else m
+
 -- a word came to it
 abbrev pub delivered : ℕ → ℕ → Mailbox → Mailbox
-delivered clock bits m = record m { bits = bits; after = clock + 1 }
+delivered clock bits m = record m {
+  bits = bits;
+  after = clock + 1;
+  earlier_after = (at_start clock m).after;
+  earlier_bits = (at_start clock m).bits;
+}
 
 -- its word is not fresh
 abbrev pub emptied : Mailbox → Mailbox

@@ -1,5 +1,6 @@
 pub mod Taking
-pub mod Masks
+pub mod Asked
+pub mod Words
 pub mod HeldValues
 pub mod HeldState
 pub mod Rules

@@ -4,7 +4,7 @@ use Rattle.std.specs.Option.{option_map_or}
 use Rattle.ecam_spec.specs.Book.{Source, Parameter}
 use Rattle.book_model.specs.SourcePlaces.{parameter_with, source_at, passes}
 use Rattle.param_table.specs.HeldValues.{mailbox_at}
-use Rattle.param_table.specs.Masks.{low_of}
+use Rattle.param_table.specs.Words.{low_of}
 use Rattle.param_table.specs.declared.rules.Rule.{Rule}
 use Rattle.param_table.specs.declared.rules.Numbered.{Numbered}
 

@@ -1,5 +1,5 @@
 -- What a table of parameters says of the words so far.
-use Rattle.std.specs.Prelude.{◌≡◌, ℕ, zero, suc, ◌+◌, ◌-◌, ◌*◌, ◌/◌, ◌^◌, ◌<◌, ◌≤◌, false, ℤ, pos, neg_ℤ, ◌≤ℤ◌, ◌⊎◌, List, length, slice_index, Option, Some, None, All, true}
+use Rattle.std.specs.Prelude.{◌≡◌, ℕ, zero, suc, ◌+◌, ◌-◌, ◌*◌, ◌/◌, ◌^◌, ◌<◌, ◌≤◌, false, ℤ, pos, neg_ℤ, ◌≤ℤ◌, ◌⊎◌, List, length, map, slice_index, Option, Some, None, All, true}
 use Rattle.ecam_spec.specs.declared.limits.TheConstants.{NUMBER}
 use Rattle.ecam_spec.specs.declared.kinds.Kind.{Kind}
 use Rattle.ecam_spec.specs.declared.kinds.Kind.TheVariants.{Disc, Bnr, Bcd}
@@ -13,7 +13,8 @@ use Rattle.ecam_spec.specs.Value.{BusWord, arrives, word_of, is_fresh, source_va
 use Rattle.wakes.specs.Marks.{is_marked, room}
 use Rattle.book_model.specs.SourcePlaces.{parameter_with, source_at}
 use Rattle.param_table.specs.Routes.{AreRouted}
-use Rattle.param_table.specs.HeldValues.{given, received_at, due_at}
+use Rattle.param_table.specs.Asked.{is_asked_at}
+use Rattle.param_table.specs.HeldValues.{given, received_at, due_at, at_start}
 use Rattle.param_table.specs.HeldState.{AreDue, AreEarly}
 use Rattle.param_table.specs.declared.received.Received.{Received}
 use Rattle.param_table.specs.declared.held.Held.{Held}
@@ -59,19 +60,29 @@ pub record HeldFits (params : List Parameter) (clock : ℕ) (h : Held) : Type 0 
 abbrev pub received_by : Params → ℕ → Received
 received_by p = received_at p.routing.rules.items.items p.held.mailboxes.items.items
 
+-- what that source held when the moment began that hasn't ended
+abbrev pub received_before : Params → ℕ → Received
+received_before p = received_at p.routing.rules.items.items (map (at_start p.clock) p.held.mailboxes.items.items)
+
 -- the table was made for the book: it has a mailbox for the sources of each bus, label and SDI, and how each reads its words
 pub record ParamsFit (b : Book) (p : Params) : Type 0 where
   pub sound : All IsSoundParameter b.parameters
-  pub routed : AreRouted b.parameters p.routing p.held.mailboxes.items.items
+  pub routed : AreRouted b p.routing p.held.mailboxes.items.items
   pub held : HeldFits b.parameters p.clock p.held
 
--- the table stands for the words of the moments up to k, which hasn't ended
+-- The table stands for the words of the moments up to k, which hasn't ended: it has what each source took last, and what
+-- each gave in the moment before. Each source of a parameter that is asked for is looked at in time, and gives what it
+-- gave where the parameter isn't marked. One that is marked may differ.
 pub record ParamsStand (b : Book) (words : ℕ → List BusWord) (k : ℕ) (p : Params) : Type 0 where
   pub fits : ParamsFit b p
   pub sources : (q : ℕ) (s : Source) → source_at b.parameters q ≡ Some s
       → SourceStands (parameter_with b.parameters q).stale s words k p.clock (received_by p q)
-  pub due : AreDue p.clock (received_by p) (due_at p.routing.rules.items.items p.held.dues)
-  pub unchanged : (q : ℕ) (s : Source) → source_at b.parameters q ≡ Some s → is_marked p.held.changed (q / 3) ≡ false
+  pub before : (q : ℕ) (s : Source) → source_at b.parameters q ≡ Some s
+      → given (p.clock - 1) (parameter_with b.parameters q).kind s (received_before p q)
+      ≡ source_before (parameter_with b.parameters q).kind (parameter_with b.parameters q).stale s words k
+  pub due : AreDue (is_asked_at b) p.clock (received_by p) (due_at p.routing.rules.items.items p.held.dues)
+  pub unchanged : (q : ℕ) (s : Source) → source_at b.parameters q ≡ Some s → is_asked_at b q ≡ true
+      → is_marked p.held.changed (q / 3) ≡ false
       → given p.clock (parameter_with b.parameters q).kind s (received_by p q)
       ≡ source_before (parameter_with b.parameters q).kind (parameter_with b.parameters q).stale s words k
   pub told : (j : ℕ) → is_marked p.held.changed j ≡ true → MayDiffer (parameter_at b j) words k

@@ -1,14 +1,15 @@
 // What the mailboxes of a book hold, and which parameters may have another value by it.
-ghost use Rattle.std.specs.Prelude.{◌≡◌, ℕ, ◌/◌, ◌<◌, ◌≤◌, ◌==◌, ◌&&◌, ◌||◌, ◌+◌, ◌^◌, not, false, length, map, slice_index, slice_index_or, slice_set, All, if◌then◌else◌};
+ghost use Rattle.std.specs.Prelude.{◌≡◌, ℕ, ◌/◌, ◌<◌, ◌≤◌, ◌==◌, ◌&&◌, ◌||◌, ◌+◌, ◌^◌, not, true, false, length, map, slice_index, slice_index_or, slice_set, All, if◌then◌else◌};
 ghost use Rattle.std.specs.List.{list_any};
 ghost use Rattle.book_model.specs.Sealed.{the_book};
 ghost use Rattle.wakes.specs.Marks.{is_marked, room};
+ghost use Rattle.param_table.specs.Asked.{is_asked_at};
 ghost use Rattle.param_table.specs.HeldValues.{all_fresh, delivered, due_at, emptied, held_for, hearers_of, is_ending, keeps_saying, received_at, says_same, unused};
 ghost use Rattle.param_table.specs.HeldState.{AreDue, AreEarly, AreListed, CopiedWords, IsNextLook, WillLook};
 ghost use Rattle.param_table.specs.Routes.{AreRouted};
 ghost use Rattle.param_table.specs.TableState.{HeldFits};
 
-use crate::mailbox::{Listener, Mailbox, all_fresh, end_for, held_for, says_same};
+use crate::mailbox::{Listener, Mailbox, all_fresh, empty, end_for, held_for, says_same};
 use crate::received::{NEVER, Received, is_ending, is_fresh, next_look};
 use crate::routing::Routing;
 use crate::rules::Rule;
@@ -21,18 +22,18 @@ use wakes::{Marked, Wakes, mark_in};
 pub struct Held {
     /// The first has no listener.
     pub mailboxes: BoxedSlice<Mailbox>,
-    /// The parameters of which a source gave something else since the moment before.
+    /// The parameters of which a listener's source gave something else since the moment before.
     pub changed: Marked,
     /// By mailbox when it is looked at: no later than when its word is no longer fresh for one for whom it is.
     pub dues: Wakes,
 }
 
 impl Held {
-    /// A word comes to a mailbox. The parameters of its listeners are marked for which the word before isn't fresh or said
-    /// something else. Its cost is a look and two writes where the word before is fresh for all and has the same bits, and
-    /// also a look and a mark a listener where it has others. Where it isn't fresh for all, the mailbox is looked at when this
-    /// one ends to be.
-    // (What the mailbox holds is taken field by field, since a copy of it costs more than all else.)
+    /// A word comes to a mailbox, which keeps what it held when the moment began. The parameters of its listeners are marked
+    /// for which the word before isn't fresh or said something else. Its cost is a look and two writes where the word before
+    /// is fresh for all and has the same bits, two writes more with the first word of a moment, and also a look and a mark a
+    /// listener where it has others. Where it isn't fresh for all, the mailbox is looked at when this one ends to be.
+    // (What the mailbox holds is taken field by field, since a copy of it costs some ten instructions more.)
     #[inline(always)]
     pub fn deliver(&mut self, listeners: &[Listener], clock: u32, mailbox: usize, bits: u32)
         requires mailbox { mailbox < length self.old.mailboxes.items.items }
@@ -60,13 +61,17 @@ impl Held {
         let was = now.bits;
         let after = now.after;
         let hearers = now.hearers;
+        if after != u64::from(clock) + 1 {
+            now.earlier_after = after;
+            now.earlier_bits = was;
+        }
         now.bits = bits;
         now.after = u64::from(clock) + 1;
         if u64::from(clock) >= end_for(after, hearers.soonest) {
             let before = Mailbox {
                 after,
                 bits: was,
-                hearers,
+                ..empty(hearers)
             };
             let listening = &listeners[hearers.first..hearers.end];
             mark_begun(self.changed.words_mut(), listening, before, clock, bits);
@@ -90,7 +95,7 @@ impl Held {
         }
     }
 
-    /// Takes over the words of other mailboxes, of which there are as many. Its cost is two writes a mailbox.
+    /// Takes over the words of other mailboxes, of which there are as many. Its cost is four writes a mailbox.
     pub fn copy_words(&mut self, others: &[Mailbox])
         requires { length self.old.mailboxes.items.items ≡ length others.now }
         ensures mailboxes { CopiedWords self.old.mailboxes.items.items others.now
@@ -101,7 +106,9 @@ impl Held {
         for i in 0..others.len() {
             let mailbox = &mut self.mailboxes[i];
             mailbox.after = others[i].after;
+            mailbox.earlier_after = others[i].earlier_after;
             mailbox.bits = others[i].bits;
+            mailbox.earlier_bits = others[i].earlier_bits;
         }
     }
 
@@ -121,22 +128,23 @@ impl Held {
     #[inline(always)]
     pub fn look_at_due(&mut self, _book: &Book, routing: &Routing, clock: u32)
         requires later { 0 < clock }
-        requires routed { AreRouted (the_book _book.now).parameters routing.now
+        requires routed { AreRouted (the_book _book.now) routing.now
             self.old.mailboxes.items.items }
         requires fits { HeldFits (the_book _book.now).parameters clock self.old }
         ensures mailboxes { self.new.mailboxes ≡ self.old.mailboxes }
         ensures room { room self.new.changed ≡ room self.old.changed }
         ensures dues { length self.new.dues ≡ length self.old.dues }
-        ensures due { WillLook clock
+        ensures due { WillLook (is_asked_at (the_book _book.now)) clock
             (received_at routing.now.rules.items.items self.old.mailboxes.items.items)
             (due_at routing.now.rules.items.items self.old.dues)
-            → AreDue clock
+            → AreDue (is_asked_at (the_book _book.now)) clock
             (received_at routing.now.rules.items.items self.old.mailboxes.items.items)
             (due_at routing.now.rules.items.items self.new.dues) }
-        ensures marks { WillLook clock
+        ensures marks { WillLook (is_asked_at (the_book _book.now)) clock
             (received_at routing.now.rules.items.items self.old.mailboxes.items.items)
             (due_at routing.now.rules.items.items self.old.dues)
-            → (q : ℕ) → is_marked self.new.changed (q / 3) ≡ false
+            → (q : ℕ) → is_asked_at (the_book _book.now) q ≡ true
+            → is_marked self.new.changed (q / 3) ≡ false
             → is_ending clock (received_at routing.now.rules.items.items
             self.old.mailboxes.items.items q) ≡ false }
         ensures others { (p : ℕ) → is_marked self.old.changed p ≡ false → ((q : ℕ) → q / 3 ≡ p

@@ -1,7 +1,7 @@
 // The mailboxes of words, and who listens to them.
-ghost use Rattle.std.specs.Prelude.{◌≡◌, ◌≤◌, ◌+◌, ◌^◌, ◌==◌, if◌then◌else◌};
-ghost use Rattle.param_table.specs.Masks.{may_say};
-ghost use Rattle.param_table.specs.HeldValues.{all_fresh, empty, held_for, says_same, set_back};
+ghost use Rattle.std.specs.Prelude.{◌≡◌, ◌≤◌, ◌+◌, ◌^◌, ◌==◌, nat_lt, if◌then◌else◌};
+ghost use Rattle.param_table.specs.Words.{may_say};
+ghost use Rattle.param_table.specs.HeldValues.{all_fresh, at_start, empty, held_for, says_same, set_back};
 
 use crate::received::{HALF, Received};
 use arinc_words::Word;
@@ -11,7 +11,11 @@ use arinc_words::Word;
 pub struct Mailbox {
     /// The time by the clock after that at which the word came, and 0 where none came.
     pub after: u64,
+    /// The same of the last word before the moment that hasn't ended, where a word came in that moment; else it says nothing,
+    /// nor do that word's bits.
+    pub earlier_after: u64,
     pub bits: u32,
+    pub earlier_bits: u32,
     pub hearers: Hearers,
 }
 
@@ -24,9 +28,9 @@ pub struct Hearers {
     pub end: usize,
 }
 
-/// A source that listens to a mailbox, of which nothing ever changes: the bits that decide what a word says to it, in which of
-/// the four modes a word says something (bit m for an SSM of m), for how many moments a word stays fresh, and its place and
-/// its parameter.
+/// A source of a parameter that the book asks for, as a listener of its mailbox. Nothing of it ever changes: the bits that
+/// decide what a word says to it, in which of the four modes a word says something (bit m for an SSM of m), for how many
+/// moments a word stays fresh, and its place and its parameter.
 #[derive(Clone, Copy)]
 pub struct Listener {
     pub mask: u32,
@@ -42,7 +46,9 @@ pub fn empty(hearers: Hearers) -> Mailbox
 {
     Mailbox {
         after: 0,
+        earlier_after: 0,
         bits: 0,
+        earlier_bits: 0,
         hearers,
     }
 }
@@ -71,6 +77,29 @@ pub fn held_for(mailbox: Mailbox, stale: u32) -> Received
         bits: mailbox.bits,
         end: end_for(mailbox.after, stale),
     }
+}
+
+/// What a mailbox held when the moment began that hasn't ended.
+pub fn at_start(mailbox: Mailbox, clock: u32) -> Mailbox
+    ensures { result ≡ at_start clock mailbox }
+{
+    if mailbox.after == u64::from(clock) + 1 {
+        Mailbox {
+            after: mailbox.earlier_after,
+            bits: mailbox.earlier_bits,
+            ..mailbox
+        }
+    } else {
+        mailbox
+    }
+}
+
+/// Whether the last word is fresh for a source that takes words as fresh for so many moments.
+// (The time of an earlier word may be any number, since it isn't set back, so the sum ends at what it can show.)
+pub fn is_fresh_for(mailbox: Mailbox, clock: u32, stale: u32) -> bool
+    ensures { result ≡ nat_lt clock (held_for mailbox stale).end }
+{
+    mailbox.after != 0 && u64::from(clock) < mailbox.after.saturating_add(u64::from(stale))
 }
 
 /// Whether the last word is fresh for each listener.

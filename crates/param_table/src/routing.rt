@@ -1,9 +1,10 @@
 // Which mailboxes a word comes to, and who listens to them.
-ghost use Rattle.std.specs.Prelude.{◌≡◌, ◌*◌, ◌+◌, ◌<◌, ◌≤◌, ◌++◌, [], ◌∷◌, ℕ, length, slice_index_or, vec_len, All, IfOk};
+ghost use Rattle.std.specs.Prelude.{◌≡◌, ◌*◌, ◌+◌, ◌<◌, ◌≤◌, ◌++◌, [], ◌∷◌, ℕ, false, length, slice_index_or, vec_len, All, IfOk};
 ghost use Rattle.std.specs.Box.{boxed_slice_items};
 ghost use Rattle.book_model.specs.Sealed.{the_book};
+ghost use Rattle.param_table.specs.Asked.{is_asked_at, is_asked_for};
 ghost use Rattle.param_table.specs.HeldValues.{empty, unused};
-ghost use Rattle.param_table.specs.Masks.{IsReadable};
+ghost use Rattle.param_table.specs.Words.{IsReadable};
 ghost use Rattle.param_table.specs.Rules.{AreNumbered};
 ghost use Rattle.param_table.specs.Routes.{AreListeners, AreRouted, listener_of};
 
@@ -66,14 +67,21 @@ pub struct Routing {
     pub rules: BoxedSlice<Option<Rule>>,
     /// By place, five for each: the mailboxes that the sources of its bus and label have up to it, by what they name as SDI.
     pub routes: BoxedSlice<u16>,
-    /// Those of a mailbox one behind another.
+    /// Those of a mailbox one behind another: its sources whose parameters the book asks for.
     pub listeners: BoxedSlice<Listener>,
 }
 
-/// A book's routing, and its mailboxes before any word. Its cost is a few looks and writes a source, and for each mailbox a
-/// look at the sources of its bus and label. An error is want of memory.
-pub fn routing_of(alloc: Global, book: &Book) -> Result<(Routing, BoxedSlice<Mailbox>), AllocError>
-    ensures routed { IfOk result (λ r. AreRouted (the_book book.now).parameters r.0
+/// A book's routing, and its mailboxes before any word, by the parameters that are asked for. Its cost is a few looks and
+/// writes a source, and for each mailbox a look at the sources of its bus and label. An error is want of memory.
+pub fn routing_of(
+    alloc: Global,
+    book: &Book,
+    asked: &[bool],
+) -> Result<(Routing, BoxedSlice<Mailbox>), AllocError>
+    requires count { length asked.now ≡ length (the_book book.now).parameters }
+    requires asked { (p : ℕ) → p < length (the_book book.now).parameters
+        → slice_index_or asked.now p false ≡ is_asked_for (the_book book.now) p }
+    ensures routed { IfOk result (λ r. AreRouted (the_book book.now) r.0
         (boxed_slice_items r.1)) }
     ensures none { IfOk result (λ r. (m : ℕ)
         → (slice_index_or (boxed_slice_items r.1) m unused).after ≡ 0) }
@@ -82,7 +90,7 @@ pub fn routing_of(alloc: Global, book: &Book) -> Result<(Routing, BoxedSlice<Mai
     let mut mailboxes = Vec::new(alloc);
     let mut listeners = Vec::new(alloc);
     for mailbox in 0..numbered.latest.len() {
-        let hearers = listeners_of(alloc, book, &numbered, mailbox)?;
+        let hearers = listeners_of(alloc, book, &numbered, asked, mailbox)?;
         add_mailbox(&mut mailboxes, &mut listeners, &hearers)?;
     }
     let routing = Routing {
@@ -119,24 +127,31 @@ fn add_mailbox(
     }))?)
 }
 
-// The listeners of a mailbox: it is looked for them from the last down among those that listen to its bus and label.
+// The listeners of a mailbox, of parameters that are asked for: it is looked for them from the last down among those that
+// listen to its bus and label.
 fn listeners_of(
     alloc: Global,
     book: &Book,
     numbered: &Numbered,
+    asked: &[bool],
     mailbox: usize,
 ) -> Result<Vec<Listener>, AllocError>
     requires numbered { AreNumbered (the_book book.now).parameters
         (3 * length (the_book book.now).parameters) numbered.now }
+    requires count { length asked.now ≡ length (the_book book.now).parameters }
+    requires asked { (p : ℕ) → p < length (the_book book.now).parameters
+        → slice_index_or asked.now p false ≡ is_asked_for (the_book book.now) p }
     requires mailbox { mailbox < vec_len numbered.now.latest }
-    ensures { IfOk result (λ v. AreListeners numbered.now.rules.items mailbox v.items) }
+    ensures { IfOk result (λ v. AreListeners (is_asked_at (the_book book.now))
+        numbered.now.rules.items mailbox v.items) }
 {
     let mut listeners = Vec::new(alloc);
     let mut next = numbered.latest[mailbox];
     while let Some(place) = next {
         next = book.listener_before(usize::from(place));
         if let Some(rule) = numbered.rules[usize::from(place)] {
-            if usize::from(rule.mailbox) == mailbox {
+            let is_asked = asked[usize::from(place) / 3];
+            if is_asked & (usize::from(rule.mailbox) == mailbox) {
                 listeners.push(listener_of(place, &rule))?;
             }
         }

@@ -8,13 +8,16 @@ ghost use Rattle.ecam_spec.specs.Situation.{parameter_at};
 ghost use Rattle.ecam_spec.specs.History.{OneMore};
 ghost use Rattle.book_model.specs.Sealed.{the_book};
 ghost use Rattle.book_model.specs.SourcePlaces.{parameter_with};
-ghost use Rattle.param_table.specs.TableState.{ParamsFit, ParamsStand, IsValueOf, MayDiffer, IsStill, received_by, value_before};
+ghost use Rattle.watch_lists.specs.Watching.{IsWatch};
+ghost use Rattle.param_table.specs.Asked.{is_asked_for};
+ghost use Rattle.param_table.specs.TableState.{ParamsFit, ParamsStand, IsValueOf, MayDiffer, IsStill, received_before, received_by, value_before};
 ghost use Rattle.param_table.specs.HeldState.{AreEarly};
 ghost use Rattle.param_table.specs.Routes.{AreRouted};
 ghost use Rattle.param_table.specs.HeldValues.{first_given, given_by, set_back};
 
+use crate::asked::asked_for;
 use crate::held::{Held, held_by, look_soon};
-use crate::mailbox::{Mailbox, set_back};
+use crate::mailbox::{Mailbox, at_start, is_fresh_for, set_back};
 use crate::received::{HALF, is_fresh};
 use crate::routing::{SharedRouting, routing_of};
 use crate::taking::receive;
@@ -24,10 +27,12 @@ use book_model::Book;
 use std::alloc::{AllocError, Global};
 use std::boxed::BoxedSlice;
 use wakes::{Marked, Wakes};
+use watch_lists::Watch;
 
-/// What the words say that the sources of a book's parameters took last, how long they are fresh, and which parameters
-/// may have another value than in the moment before. Memory is taken in `new` and `beside` alone, and nothing grows
-/// with the history.
+/// What the words say that the sources of a book's parameters took last, now and in the last whole moment, how long they are
+/// fresh, and which parameters that the book asks for may have another value than in the moment before: those that a
+/// condition names or a page shows. Memory is taken in `new`, `watching` and `beside` alone, and nothing grows with the
+/// history.
 #[derive(Drop)]
 pub struct Params {
     // Counts Ticks. At its end it is set back.
@@ -37,13 +42,26 @@ pub struct Params {
 }
 
 impl Params {
-    /// The table of a book before any word. An error is want of memory.
+    /// The table of a book before any word. It makes a watch of the book for itself alone; where there is one, `watching` is
+    /// cheaper. An error is want of memory.
     pub fn new(alloc: Global, book: &Book) -> Result<Params, AllocError>
         ensures fits { IfOk result (ParamsFit (the_book book.now)) }
         ensures stands { IfOk result (λ p. (words : ℕ → List BusWord) → words 0 ≡ []
             → ParamsStand (the_book book.now) words 0 p) }
     {
-        let (routing, mailboxes) = routing_of(alloc, book)?;
+        let watch = Watch::new(alloc, book)?;
+        Params::watching(alloc, book, &watch)
+    }
+
+    /// The same, by a watch of the book that is there already. An error is want of memory.
+    pub fn watching(alloc: Global, book: &Book, watch: &Watch) -> Result<Params, AllocError>
+        requires { IsWatch book.now watch.now }
+        ensures fits { IfOk result (ParamsFit (the_book book.now)) }
+        ensures stands { IfOk result (λ p. (words : ℕ → List BusWord) → words 0 ≡ []
+            → ParamsStand (the_book book.now) words 0 p) }
+    {
+        let asked = asked_for(alloc, book, watch)?;
+        let (routing, mailboxes) = routing_of(alloc, book, &asked)?;
         let routing = SharedRouting::new(alloc, routing)?;
         Params::blank(alloc, book, 0, routing, mailboxes)
     }
@@ -76,7 +94,7 @@ impl Params {
         routing: SharedRouting,
         mailboxes: BoxedSlice<Mailbox>,
     ) -> Result<Params, AllocError>
-        requires routed { AreRouted (the_book book.now).parameters routing
+        requires routed { AreRouted (the_book book.now) routing
             (boxed_slice_items mailboxes) }
         requires early { AreEarly clock (boxed_slice_items mailboxes) }
         ensures fits { IfOk result (ParamsFit (the_book book.now)) }
@@ -129,10 +147,11 @@ impl Params {
     }
 
     /// A word comes on a bus in the moment that hasn't ended. Its cost is one look-up by bus and label, and, where the
-    /// parity is odd, a look and two writes at each of at most two mailboxes: that of the sources which name no SDI, and that of
-    /// those which name the word's, where there are such. Where the bits are those of the last word, and words come often enough
-    /// to keep it fresh, that is all, however many sources listen; where they are others, also a look and a mark at each source
-    /// that takes it.
+    /// parity is odd, a look and two writes at each of at most two mailboxes: that of the sources which name no SDI, and
+    /// that of those which name the word's, where there are such; with the first word of a moment also two writes more.
+    /// Where the bits are those of the last word, and words come often enough to keep it fresh, that is all, however many
+    /// sources take it; where they are others, also a look and a mark at each of these whose parameter the book asks for.
+    /// Where it asks for none, no source is looked at, however the bits change.
     // (It stands in its caller, so that a word that no source listens to costs no call. The look-up comes before the
     // parity, since which words a book listens to is easier to foresee.)
     #[inline(always)]
@@ -193,9 +212,10 @@ impl Params {
             .look_at_due(_book, self.routing.table(), self.clock);
     }
 
-    /// Whether it is known that the end of the moment changes nothing but the clock: no parameter may have another value than
-    /// in the moment before, and the freshness of no word may end with this one. Its cost is three looks, and at most one
-    /// more for each 64 parameters; where mailboxes wait for the moment, also one for each 64 and one at each that waits.
+    /// Whether it is known that the end of the moment changes nothing but the clock: no parameter that the book asks for may
+    /// have another value than in the moment before, and no word of a source of one may end to be fresh with this one. Its
+    /// cost is three looks, and at most one more for each 64 parameters; where mailboxes wait for the moment, also one for
+    /// each 64 and one at each that waits.
     #[inline(always)]
     pub fn is_still(&self, _book: &Book) -> bool
         requires { ParamsFit (the_book _book.now) self.now }
@@ -203,6 +223,7 @@ impl Params {
         ensures same { result ≡ true → (words : ℕ → List BusWord) (k : ℕ)
             → ParamsStand (the_book _book.now) words k self.now
             → (p : ℕ) → p < length (the_book _book.now).parameters
+            → is_asked_for (the_book _book.now) p ≡ true
             → value (parameter_at (the_book _book.now) p) words k
             ≡ value_before (parameter_at (the_book _book.now) p) words k }
     {
@@ -239,21 +260,36 @@ impl Params {
         self.first_value(book, 3 * param)
     }
 
-    /// Whether it is known that no parameter has another value than in the moment before. Its cost is at most one look for each
-    /// 64 parameters.
+    /// The value of a parameter in the last whole moment, by the words up to it: `None` where no source was fresh with a
+    /// value, and before the first moment. Its cost is a look at each of its sources.
+    pub fn value_before(&self, book: &Book, param: usize) -> Option<i64>
+        requires fits { ParamsFit (the_book book.now) self.now }
+        requires param { param < length book.now.params.items }
+        ensures value { (words : ℕ → List BusWord) (k : ℕ)
+            → ParamsStand (the_book book.now) words k self.now
+            → result ≡ value_before (parameter_at (the_book book.now) param) words k }
+        ensures bound { IfSome result (IsValueOf (parameter_at (the_book book.now) param).kind) }
+    {
+        self.first_value_before(book, 3 * param)
+    }
+
+    /// Whether it is known that no parameter that the book asks for has another value than in the moment before. Its cost is
+    /// at most one look for each 64 parameters.
     pub fn none_changed(&self, _book: &Book) -> bool
         requires { ParamsFit (the_book _book.now) self.now }
         ensures { result ≡ true → (words : ℕ → List BusWord) (k : ℕ)
             → ParamsStand (the_book _book.now) words k self.now
             → (p : ℕ) → p < length (the_book _book.now).parameters
+            → is_asked_for (the_book _book.now) p ≡ true
             → value (parameter_at (the_book _book.now) p) words k
             ≡ value_before (parameter_at (the_book _book.now) p) words k }
     {
         self.held.changed.first_from(0).is_none()
     }
 
-    /// The 64 parameters from 64 · `place` on, one bit each, which is set where the parameter may have another value than in
-    /// the moment before: a source of it took a word that says something else, or its freshness ended. Its cost is one look.
+    /// The 64 parameters from 64 · `place` on, one bit each. It is set of each that the book asks for and may have another
+    /// value than in the moment before; where it is set, a source took a word, or the freshness of its last one ended. Of
+    /// what the book doesn't ask for it tells no change; compare `value` and `value_before` there. Its cost is one look.
     #[inline(always)]
     pub fn changed_word(&self, _book: &Book, place: usize) -> u64
         requires fits { ParamsFit (the_book _book.now) self.now }
@@ -264,6 +300,7 @@ impl Params {
             → ParamsStand (the_book _book.now) words k self.now
             → (i : ℕ) → i < 64 → bit_at result i ≡ 0
             → 64 * place + i < length _book.now.params.items
+            → is_asked_for (the_book _book.now) (64 * place + i) ≡ true
             → value (parameter_at (the_book _book.now) (64 * place + i)) words k
             ≡ value_before (parameter_at (the_book _book.now) (64 * place + i)) words k }
         ensures told { (words : ℕ → List BusWord) (k : ℕ)
@@ -310,6 +347,46 @@ impl Params {
             return None;
         }
         reading(rule.kind, rule.low, rule.range, &Word::new(received.bits))
+    }
+
+    // What the first of the sources from this place on gave in the last whole moment that gave something.
+    fn first_value_before(&self, _book: &Book, place: usize) -> Option<i64>
+        requires fits { ParamsFit (the_book _book.now) self.now }
+        requires place { place + 3 ≤ length self.now.routing.rules.items.items }
+        ensures value { result
+            ≡ first_given (self.now.clock - 1) self.now.routing.rules.items.items
+            (received_before self.now) place }
+        ensures bound { IfSome result (λ v. (q : ℕ) × (place ≤ q) × (q ≤ place + 2)
+            × IsValueOf (parameter_with (the_book _book.now).parameters q).kind v) }
+    {
+        let first = self.given_before(_book, place);
+        if first.is_some() {
+            return first;
+        }
+        let second = self.given_before(_book, place + 1);
+        if second.is_some() {
+            return second;
+        }
+        self.given_before(_book, place + 2)
+    }
+
+    // What the source at a place gave in the last whole moment.
+    fn given_before(&self, _book: &Book, place: usize) -> Option<i64>
+        requires fits { ParamsFit (the_book _book.now) self.now }
+        requires place { place < length self.now.routing.rules.items.items }
+        ensures value { result ≡ given_by (self.now.clock - 1)
+            (slice_index_or self.now.routing.rules.items.items place None)
+            (received_before self.now place) }
+        ensures bound { IfSome result
+            (IsValueOf (parameter_with (the_book _book.now).parameters place).kind) }
+    {
+        let rule = self.routing.table().rules[place]?;
+        let now = self.held.mailboxes[usize::from(rule.mailbox)];
+        let mailbox = at_start(now, self.clock);
+        if !is_fresh_for(mailbox, self.clock.saturating_sub(1), rule.stale) {
+            return None;
+        }
+        reading(rule.kind, rule.low, rule.range, &Word::new(mailbox.bits))
     }
 
     // Sets the clock back by half of what it can show, with the times of the words. Each mailbox is looked at soon.

@@ -6,6 +6,7 @@ ghost use Rattle.book_model.specs.Sealed.{the_book};
 ghost use Rattle.book_model.specs.SourcePlaces.{listens, last_below, parameter_with};
 ghost use Rattle.wakes.specs.Marks.{is_marked};
 ghost use Rattle.param_table.specs.Taking.{takes_at};
+ghost use Rattle.param_table.specs.Asked.{is_asked_at};
 ghost use Rattle.param_table.specs.HeldValues.{received_at, renewed};
 ghost use Rattle.param_table.specs.HeldState.{CameTo, Renews};
 ghost use Rattle.param_table.specs.Routes.{AreRouted};
@@ -34,10 +35,10 @@ pub fn receive(
         (3 * length (the_book _book.now).parameters) }
     requires odd { IsTrue (is_odd bits) }
     requires sound { All IsSoundParameter (the_book _book.now).parameters }
-    requires routed { AreRouted (the_book _book.now).parameters routing.now
+    requires routed { AreRouted (the_book _book.now) routing.now
         held.old.mailboxes.items.items }
     requires fits { HeldFits (the_book _book.now).parameters clock held.old }
-    ensures routed { AreRouted (the_book _book.now).parameters routing.now
+    ensures routed { AreRouted (the_book _book.now) routing.now
         held.new.mailboxes.items.items }
     ensures fits { HeldFits (the_book _book.now).parameters clock held.new }
     ensures received { (q : ℕ)
@@ -45,8 +46,8 @@ pub fn receive(
         ≡ (if takes_at (the_book _book.now).parameters (record { bus = _bus; bits = bits }) q
         then renewed clock (parameter_with (the_book _book.now).parameters q).stale bits
         else received_at routing.now.rules.items.items held.old.mailboxes.items.items q) }
-    ensures renews { Renews (the_book _book.now).parameters routing.now.rules.items.items clock
-        held.old held.new }
+    ensures renews { Renews (is_asked_at (the_book _book.now)) (the_book _book.now).parameters
+        routing.now.rules.items.items clock held.old held.new }
     ensures others { (p : ℕ) → ((q : ℕ) → q / 3 ≡ p → takes_at (the_book _book.now).parameters
         (record { bus = _bus; bits = bits }) q ≡ false)
         → is_marked held.new.changed p ≡ is_marked held.old.changed p }
@@ -63,15 +64,15 @@ pub fn receive(
 fn bring(held: &mut Held, routing: &Routing, _book: &Book, clock: u32, mailbox: usize, bits: u32)
     requires mailbox { mailbox < length held.old.mailboxes.items.items }
     requires sound { All IsSoundParameter (the_book _book.now).parameters }
-    requires routed { AreRouted (the_book _book.now).parameters routing.now
+    requires routed { AreRouted (the_book _book.now) routing.now
         held.old.mailboxes.items.items }
     requires fits { HeldFits (the_book _book.now).parameters clock held.old }
-    ensures routed { AreRouted (the_book _book.now).parameters routing.now
+    ensures routed { AreRouted (the_book _book.now) routing.now
         held.new.mailboxes.items.items }
     ensures fits { HeldFits (the_book _book.now).parameters clock held.new }
     ensures came { CameTo routing.now.rules.items.items clock mailbox bits held.old held.new }
-    ensures renews { Renews (the_book _book.now).parameters routing.now.rules.items.items clock
-        held.old held.new }
+    ensures renews { Renews (is_asked_at (the_book _book.now)) (the_book _book.now).parameters
+        routing.now.rules.items.items clock held.old held.new }
 {
     if mailbox != 0 {
         held.deliver(&routing.listeners, clock, mailbox, bits);

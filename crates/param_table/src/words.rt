@@ -1,7 +1,7 @@
 // What words say to sources, and which of their bits decide it.
 ghost use Rattle.std.specs.Prelude.{◌≡◌, ◌≤◌, IfSome};
 ghost use Rattle.book_model.specs.View.{source_of};
-ghost use Rattle.param_table.specs.Masks.{IsReadable, highest_low, low_of, mask_of, modes_of, reads};
+ghost use Rattle.param_table.specs.Words.{IsReadable, highest_low, low_of, mask_of, modes_of, reads};
 ghost use Rattle.param_table.specs.TableState.{IsValueOf};
 
 use arinc_words::Word;

@@ -1,4 +1,4 @@
-use Rattle.std.proofs.Common.{◌≡◌, suc, true, false, ◌&&◌, ◌∙◌, sym, ap}
+use Rattle.std.proofs.Common.{suc, ◌&&◌, ◌∙◌, sym, ap}
 use Rattle.ecam_spec.specs.Screen.{panel}
 use Rattle.ecam_spec.specs.Selection.{choice}
 use Rattle.view_spec.specs.Advisories.{is_automatic, is_free}

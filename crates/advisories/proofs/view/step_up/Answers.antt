@@ -1,16 +1,16 @@
-use Rattle.std.proofs.Common.{◌≡◌, ℕ, suc, ◌<◌, ℤ, Option, None, List, map, length, get_or, refl, sym, ◌∙◌, ap, subst}
+use Rattle.std.proofs.Common.{ℕ, suc, refl, sym, ◌∙◌, ap, subst}
 use Rattle.ecam_spec.specs.Book.{Book}
 use Rattle.ecam_spec.specs.History.{Moment}
 use Rattle.ecam_spec.specs.Situation.{value_in, phase_in, flight}
-use Rattle.param_table.specs.TableState.{value_before}
-use Rattle.view_spec.specs.Advisories.{Fit, rows_in}
+use Rattle.view_spec.specs.Advisories.{rows_in}
 use Rattle.book_model.specs.Sealed.{the_book}
+use Rattle.book_model.proofs.BookLists.{many-parameters}
 use Rattle.fwc_lane.specs.LaneStands.{WholeStands}
 use Rattle.fwc_lane.specs.declared.lane.Lane.{Lane}
-use Rattle.advisories.specs.declared.watches.Watch.{Watch}
-use Rattle.advisories.specs.Watches.{all_watched, stepped, AreWatched}
+use Rattle.advisories.specs.Watches.{AreWatched, AreWithin}
+use Rattle.advisories.proofs.Ended.{whole-ended}
 use Rattle.advisories.proofs.PhaseBounds.{IsOneOfTen, phase-within}
-use Rattle.advisories.proofs.Told.{step-watched, step-all, rows-told}
+use Rattle.advisories.proofs.Told.{fit-within, step-all, rows-told}
 use Rattle.advisories.proofs.view.step_up.Goals as goal
 
 -- the phase that a computer tells is one of ten
@@ -18,38 +18,36 @@ bounds : (b : Book) (m : ℕ → Moment) (k : ℕ) (l : Lane) → WholeStands b 
 unfolding phase_in
 bounds b m k l stands = subst IsOneOfTen (sym (stands.phase k refl)) (phase-within (flight b m) k)
 
--- and the values are those of the moment
-values-told : (b : Book) (m : ℕ → Moment) (k : ℕ) (l : Lane) → WholeStands b m (suc k) l → (p : ℕ) → p < length b.parameters → get_or l.values.items p None ≡ value_in b m p k
-unfolding value_before value_in
-values-told b m k l stands p within = stands.values p within
+pub step-requires-clause-fits : goal.step-requires-clause-fits
+step-requires-clause-fits c = c.requires.ended.2.stands.fits
 
-after : (b : Book) (m : ℕ → Moment) (k : ℕ) (l : Lane) → WholeStands b m (suc k) l → (ws : List Watch) → Fit b (all_watched ws) → AreWatched (value_in b m) k ws
-    → AreWatched (value_in b m) (suc k) (map (stepped l.values.items) ws)
-after b m k l stands ws fit stand =
-    step-all (value_in b m) k (length b.parameters) l.values.items (values-told b m k l stands) ws (λ i d within. (fit i d within).param) stand
+pub step-requires-clause-within : goal.step-requires-clause-within
+step-requires-clause-within c = subst (λ n. AreWithin n c.args.watches.now) (many-parameters c.args.book.now) (fit-within (the_book c.args.book.now) c.args.watches.now c.requires.fit)
 
 pub panel_of-requires-clause-first : goal.panel_of-requires-clause-first
-panel_of-requires-clause-first c = (bounds (the_book c.args.book.now) c.requires.0 c.requires.1.0 c.args.lane.now c.requires.1.1).0
+panel_of-requires-clause-first c =
+    let b = the_book c.args.book.now in
+    let (m, k, ended) = c.requires.ended in
+    (bounds b m k c.args.lane.now (whole-ended b m k c.args.lane.now ended)).0
 
 pub panel_of-requires-clause-last : goal.panel_of-requires-clause-last
-panel_of-requires-clause-last c = (bounds (the_book c.args.book.now) c.requires.0 c.requires.1.0 c.args.lane.now c.requires.1.1).1
-
-stepped-are : (values given : List (Option ℤ)) → given ≡ values → (ws new : List Watch) → new ≡ map (stepped given) ws → new ≡ map (stepped values) ws
-stepped-are values given same ws new is = is ∙ ap (λ v. map (stepped v) ws) same
+panel_of-requires-clause-last c =
+    let b = the_book c.args.book.now in
+    let (m, k, ended) = c.requires.ended in
+    (bounds b m k c.args.lane.now (whole-ended b m k c.args.lane.now ended)).1
 
 pub returns-clause-settings : goal.returns-clause-settings
-returns-clause-settings c = ap all_watched c.step.ensures ∙ step-watched _ c.args.watches.now
+returns-clause-settings c = c.step.ensures.watched
 
 pub returns-clause-stands : goal.returns-clause-stands
-returns-clause-stands c m k stands fit stand =
+returns-clause-stands c m k ended stand =
     let b = the_book c.args.book.now in
-    subst (AreWatched (value_in b m) (suc k)) (sym (stepped-are c.args.lane.now.values.items _ c.deref.ensures.value c.args.watches.now c.step.new.watches c.step.ensures))
-    (after b m k c.args.lane.now stands c.args.watches.now fit stand)
+    subst (AreWatched (value_in b m) (suc k)) (sym (c.step.ensures.stepped m k ended)) (step-all (value_in b m) k c.args.watches.now stand)
 
 pub returns-clause-rows : goal.returns-clause-rows
-returns-clause-rows c m k stands fit stand =
+returns-clause-rows c m k ended stand =
     let b = the_book c.args.book.now in
-    let phase = c.args.lane.now.phase.number in
+    let whole = whole-ended b m k c.args.lane.now ended in
     c.panel_of.ensures
-    ∙ rows-told b m k phase (stands.phase k refl) c.is_free.result (c.is_free.ensures b m k stands) c.step.new.watches (returns-clause-stands c m k stands fit stand)
-    ∙ ap (λ limits. rows_in b m limits k) (returns-clause-settings c)
+    ∙ rows-told b m k c.args.lane.now.phase.number (whole.phase k refl) c.is_free.result (c.is_free.ensures b m k whole) c.step.new.watches (returns-clause-stands c m k ended stand)
+    ∙ ap (λ limits. rows_in b m limits k) c.step.ensures.watched

@@ -1,10 +1,8 @@
-use Rattle.std.proofs.Common.{None, ◌∙◌}
-use Rattle.std.proofs.lemmas.List.{get_or_default}
-use Rattle.callouts.proofs.LastMoments.{value-told}
+use Rattle.std.proofs.Common.{[], ◌∷◌, ◌++◌, length}
+use Rattle.ecam_spec.specs.declared.kinds.Event.TheVariants.{Tick}
+use Rattle.ecam_spec.specs.History.{era}
+use Rattle.callouts.proofs.LastMoments.{ended-count}
 use Rattle.callouts.proofs.view.value_in.Goals as goal
 
 pub returns : goal.returns
-returns c b h stands m goes =
-    c.index.ensures
-    ∙ get_or_default c.args.lane.now.values.items c.args.param c.index.result.now None c.requires
-    ∙ value-told h b c.args.lane.now c.args.param stands c.requires m goes
+returns c h stands m goes = c.value.ensures.value (era (h ++ Tick ∷ [])) stands m goes (length (era h).moments) (ended-count h)

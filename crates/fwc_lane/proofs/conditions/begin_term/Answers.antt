@@ -68,5 +68,5 @@ returns-clause-steps c b p fits here names =
     (begun.within p.tree p.at ready) (begun.before p.tree p.at ready) (begun.behind p.tree p.at ready) begun.len begun.visits c.note.ensures.truths c.note.ensures.dues)
     (λ w hit shows tells left.
     noted-run c.args.number start p c.begin-turn.result.holds c.begin-turn.result.due c.args.terms.now c.note.new.terms c.begin-turn.new.states c.begin-turn.new.self c.note.ensures.rest w 0
-    (begun.truth p.tree p.at ready w shows left.stands) (begun.due p.tree p.at ready w shows left.stands) (begun.wake p.tree p.at ready)
-    (begun.stands p.tree p.at ready w shows left.stands) (begun.nodes p.tree p.at ready w shows left.stands)))
+    (begun.truth p.tree p.at ready w (shows refl) left.stands) (begun.due p.tree p.at ready w (shows refl) left.stands) (begun.wake p.tree p.at ready)
+    (begun.stands p.tree p.at ready w (shows refl) left.stands) (begun.nodes p.tree p.at ready w (shows refl) left.stands)))

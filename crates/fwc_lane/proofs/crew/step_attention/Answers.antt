@@ -1,4 +1,4 @@
-use Rattle.std.proofs.Common.{suc, ◌+◌, ◌*◌, ◌/◌, false, length, sym, ap, ◌∙◌}
+use Rattle.std.proofs.Common.{suc, ◌+◌, ◌*◌, ◌/◌, length, sym, ap, ◌∙◌}
 use Rattle.ecam_spec.specs.Situation.{condition_in, phase_in}
 use Rattle.ecam_spec.specs.Screen.{attention}
 use Rattle.book_model.specs.Sealed.{the_book}

@@ -1,7 +1,7 @@
-use Rattle.std.proofs.Common.{◌<◌, suc, false, length, get_or, IfSome, sym, ap, subst, ◌∙◌, arith}
+use Rattle.std.proofs.Common.{◌<◌, suc, false, length, get_or, Some, IfSome, sym, ap, subst, ◌∙◌, arith}
 use Rattle.ecam_spec.specs.Past.{previous}
 use Rattle.ecam_spec.specs.Situation.{condition_in, phase_in, active_in}
-use Rattle.ecam_spec.specs.Screen.{panel, display, cancelled_in}
+use Rattle.ecam_spec.specs.Screen.{panel, cancelled_in}
 use Rattle.book_model.specs.Sealed.{the_book}
 use Rattle.book_model.proofs.BookLists.{many-alerts, many-pages, many-parameters}
 use Rattle.wakes.specs.Marks.{is_marked}
@@ -9,7 +9,8 @@ use Rattle.system_display.specs.Selecting.{IsChoiceOf}
 use Rattle.fwc_lane.proofs.Showing.{active-is}
 use Rattle.fwc_lane.proofs.CrewMoments.{cancelled-told, first-told}
 use Rattle.fwc_lane.proofs.PageRest.{auto-stood, chosen-stood}
-use Rattle.fwc_lane.proofs.ZoneSteps.{displays, auto-drawn, page-drawn, status-page-drawn}
+use Rattle.fwc_lane.proofs.PagesAlike.{display_with, displays-with}
+use Rattle.fwc_lane.proofs.ZoneSteps.{drawn-alike, auto-drawn, page-drawn, status-page-drawn}
 use Rattle.fwc_lane.proofs.display.fill_display.Goals as goal
 
 pub called_page-page-requires-clause-alert : goal.called_page-page-requires-clause-alert
@@ -49,20 +50,26 @@ fill_status_among-requires-clause-near c = λ a on.
 pub returns-in-Auto-clause-rows : goal.returns-in-Auto-clause-rows
 returns-in-Auto-clause-rows c = λ m k scene stays.
     let b = the_book c.args.book.now in
-    auto-drawn b m k _ _ c.first.result c.called_page-page.result (sym c.in-Auto.is ∙ c.choice.ensures.choice (panel b m) (suc k) scene.selector)
-    (c.first.ensures.value ∙ first-told b m k _ scene.marks)
-    (λ d pages phase page. c.called_page-page.ensures.page d pages (phase ∙ sym scene.phase) page)
-    (c.draw_page.ensures.rows (display b m k) (displays b m k _ scene.values)
-    (λ on. auto-stood b m k _ scene.turned _ (stays on) c.first.result c.called_page-page.result (sym c.in-Auto.is ∙ c.choice.ensures.choice (panel b m) (suc k) scene.selector)
-    (c.first.ensures.value ∙ first-told b m k _ scene.marks)
-    (λ d pages phase page. c.called_page-page.ensures.page d pages (phase ∙ sym scene.phase) page)))
+    let these = c.args.scene.now.values.now in
+    let page = c.called_page-page.result in
+    let is = sym c.in-Auto.is ∙ c.choice.ensures.choice (panel b m) (suc k) scene.selector in
+    let first = c.first.ensures.value ∙ first-told b m k _ scene.marks in
+    auto-drawn b m k _ _ c.first.result page is first
+    (λ d pages phase own. c.called_page-page.ensures.page d pages (phase ∙ sym scene.phase) own)
+    (drawn-alike b m k these page _ _
+    (c.draw_page.ensures.rows (display_with b m k these) (displays-with b m k these scene.values)
+    (λ on. auto-stood b m k these _ scene.turned _ (stays on) c.first.result page is first
+    (λ d pages phase own. c.called_page-page.ensures.page d pages (phase ∙ sym scene.phase) own))))
 
 pub returns-in-Page-clause-rows : goal.returns-in-Page-clause-rows
 returns-in-Page-clause-rows c = λ m k scene stays.
     let b = the_book c.args.book.now in
-    page-drawn b m k _ _ c.in-Page.page (sym c.in-Page.is ∙ c.choice.ensures.choice (panel b m) (suc k) scene.selector)
-    (c.draw_page-in-Page.ensures.rows (display b m k) (displays b m k _ scene.values)
-    (λ on. chosen-stood b m k _ scene.turned _ (stays on) c.in-Page.page (sym c.in-Page.is ∙ c.choice.ensures.choice (panel b m) (suc k) scene.selector)))
+    let these = c.args.scene.now.values.now in
+    let is = sym c.in-Page.is ∙ c.choice.ensures.choice (panel b m) (suc k) scene.selector in
+    page-drawn b m k _ _ c.in-Page.page is
+    (drawn-alike b m k these (Some c.in-Page.page) _ _
+    (c.draw_page-in-Page.ensures.rows (display_with b m k these) (displays-with b m k these scene.values)
+    (λ on. chosen-stood b m k these _ scene.turned _ (stays on) c.in-Page.page is)))
 
 pub returns-in-Status-clause-rows : goal.returns-in-Status-clause-rows
 unfolding previous

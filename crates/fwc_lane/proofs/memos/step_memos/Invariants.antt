@@ -3,8 +3,8 @@ use Rattle.ecam_spec.specs.History.{Moment}
 use Rattle.ecam_spec.specs.Situation.{world}
 use Rattle.book_model.specs.Sealed.{the_book}
 use Rattle.book_model.specs.Conditions.{memos_from}
-use Rattle.term_eval.specs.Shown.{Shows}
 use Rattle.fwc_lane.specs.Conditions.{BookHalf, MemosHalf, MemosWere}
+use Rattle.fwc_lane.specs.Given.{ShowsFirst}
 use Rattle.fwc_lane.specs.TermsFit.{TermsFit}
 use Rattle.fwc_lane.proofs.memos.step_memos.Given as goal
 
@@ -13,7 +13,7 @@ invariant-loop-memo l = record {
   most : l.next ≤ length l.book.memos.items;
   fits : TermsFit (the_book l.book) l.terms;
   flags : length l.flags.items ≡ length l.fn.flags.items;
-  stands : (m : ℕ → Moment) (visits : ℕ) → Shows l.env (world (the_book l.book) m) l.now
+  stands : (m : ℕ → Moment) (visits : ℕ) → ShowsFirst l.env (world (the_book l.book) m) l.now
       → MemosWere (the_book l.book) m l.now l.fn.flags.items
       → BookHalf (the_book l.book) m l.now (memos_from (the_book l.book)) (suc (length (the_book l.book).alerts)) visits l.fn.terms
       → MemosHalf (the_book l.book) m l.now l.next visits l.terms l.flags.items;

@@ -27,6 +27,6 @@ loop-place-preserved c =
     }
 
 pub returns-clause-values : goal.returns-clause-values
-returns-clause-values c = λ words k stands before p within.
+returns-clause-values c = λ words k stands before p within on.
     c.loop-place.invariant.read.read words k stands before p
-    (omega (arith, within, c.loop-place-test.false, c.div_ceil-place-end.ensures, ap length c.params.ensures.value, many-parameters c.args.book.now)) within
+    (omega (arith, within, c.loop-place-test.false, c.div_ceil-place-end.ensures, ap length c.params.ensures.value, many-parameters c.args.book.now)) within on

@@ -32,7 +32,7 @@ module _ (c : After-lowest-low) where
       → AreReadTo (the_book c.args.book.now) c.args.params.now was first (from + low) c.loop-rest.values.items c.loop-rest.turned.items c.loop-rest.terms
   over was first read =
       over-unset c.changed_word-rest.result c.args.place from c.loop-rest.rest c.loop-rest.invariant.low c.loop-rest.invariant.rest (the_book c.args.book.now) c.args.params.now
-      (λ words k stands i small unset within. c.changed_word-rest.ensures.same words k stands i small unset (omega (arith, within, many-parameters c.args.book.now)))
+      (λ words k stands i small unset within on. c.changed_word-rest.ensures.same words k stands i small unset (omega (arith, within, many-parameters c.args.book.now)) on)
       was first c.loop-rest.values.items c.loop-rest.turned.items c.loop-rest.terms (c.loop-rest.invariant.read was first read)
       (from + low) (omega arith) (omega (arith, here)) (λ i lt. c.lowest-low.ensures.lowest i (omega (arith, lt)))
 
@@ -67,6 +67,6 @@ loop-rest-preserved c =
 pub returns-clause-read : goal.returns-clause-read
 returns-clause-read c = λ was first read.
     over-unset c.changed_word-rest.result c.args.place c.loop-rest.from c.loop-rest.rest c.loop-rest.invariant.low c.loop-rest.invariant.rest (the_book c.args.book.now) c.args.params.now
-    (λ words k stands i small unset within. c.changed_word-rest.ensures.same words k stands i small unset (omega (arith, within, many-parameters c.args.book.now)))
+    (λ words k stands i small unset within on. c.changed_word-rest.ensures.same words k stands i small unset (omega (arith, within, many-parameters c.args.book.now)) on)
     was first c.loop-rest.values.items c.loop-rest.turned.items c.loop-rest.terms (c.loop-rest.invariant.read was first read)
     (64 * c.args.place + 64) c.loop-rest.invariant.high (omega arith) (λ i lt. ap (λ r. bit_at r i) c.loop-rest-test.false ∙ bit_at-zero i)

@@ -1,6 +1,6 @@
-use Rattle.std.proofs.Common.{◌≡◌, ℕ, ◌==◌, ◌&&◌, ◌||◌, not, get_or, List, sym, subst, arith}
+use Rattle.std.proofs.Common.{◌≡◌, ℕ, ◌==◌, ◌&&◌, ◌||◌, not, get_or, sym, subst, arith}
 use Rattle.std.specs.List.{list_any}
-use Rattle.ecam_spec.specs.Book.{Parameter}
+use Rattle.ecam_spec.specs.Book.{Book}
 use Rattle.wakes.specs.Marks.{is_marked, room}
 use Rattle.book_model.specs.Sealed.{the_book}
 use Rattle.param_table.specs.declared.mailbox.Mailbox.{Mailbox}
@@ -16,14 +16,14 @@ pub deliver-requires-clause-listed : goal.deliver-requires-clause-listed
 deliver-requires-clause-listed c =
     let boxes = c.args.held.now.mailboxes.items.items in
     subst (λ ls. AreListed ls (room c.args.held.now.changed) (get_or boxes c.args.mailbox unused)) (sym c.deref.ensures.value)
-    (are_listed (the_book c.args._book.now).parameters c.args.routing.now boxes c.args.mailbox c.requires.routed c.requires.mailbox (room c.args.held.now.changed) (omega (arith, c.requires.fits.room)))
+    (are_listed (the_book c.args._book.now) c.args.routing.now boxes c.args.mailbox c.requires.routed c.requires.mailbox (room c.args.held.now.changed) (omega (arith, c.requires.fits.room)))
 
 pub deliver-requires-clause-dues : goal.deliver-requires-clause-dues
 deliver-requires-clause-dues c = omega (arith, c.requires.mailbox, c.requires.fits.dues)
 
 module _ (c : After-deliver) where
-  abbrev params : List Parameter
-  params = (the_book c.args._book.now).parameters
+  abbrev book : Book
+  book = the_book c.args._book.now
 
   abbrev before : Mailbox
   before = get_or c.args.held.now.mailboxes.items.items c.args.mailbox unused
@@ -36,19 +36,19 @@ module _ (c : After-deliver) where
 
 pub returns-then-mailbox-ne0-clause-fits : goal.returns-then-mailbox-ne0-clause-fits
 returns-then-mailbox-ne0-clause-fits c =
-    delivered_fits (params c) c.args.routing.now c.args.clock c.args.mailbox c.args.bits c.args.held.now c.deliver.new.self c.requires.sound c.requires.routed c.requires.fits c.requires.mailbox
+    delivered_fits (book c) c.args.routing.now c.args.clock c.args.mailbox c.args.bits c.args.held.now c.deliver.new.self c.requires.sound c.requires.routed c.requires.fits c.requires.mailbox
     c.deliver.ensures.mailboxes c.deliver.ensures.room (marks c) c.deliver.ensures.dues
 
 pub returns-then-mailbox-ne0-clause-renews : goal.returns-then-mailbox-ne0-clause-renews
 returns-then-mailbox-ne0-clause-renews c =
-    delivered_renews (params c) c.args.routing.now c.args.clock c.args.mailbox c.args.bits c.args.held.now c.deliver.new.self c.requires.sound c.requires.routed c.requires.fits c.requires.mailbox
+    delivered_renews (book c) c.args.routing.now c.args.clock c.args.mailbox c.args.bits c.args.held.now c.deliver.new.self c.requires.sound c.requires.routed c.requires.fits c.requires.mailbox
     c.deliver.ensures.mailboxes c.deliver.ensures.room (marks c) c.deliver.ensures.dues
 
 pub returns-then-mailbox-ne0-clause-came : goal.returns-then-mailbox-ne0-clause-came
 returns-then-mailbox-ne0-clause-came c =
-    delivered_came (params c) c.args.routing.now c.args.clock c.args.mailbox c.args.bits c.args.held.now c.deliver.new.self c.requires.sound c.requires.routed c.requires.fits c.requires.mailbox
+    delivered_came (book c) c.args.routing.now c.args.clock c.args.mailbox c.args.bits c.args.held.now c.deliver.new.self c.requires.sound c.requires.routed c.requires.fits c.requires.mailbox
     c.deliver.ensures.mailboxes c.deliver.ensures.room (marks c) c.deliver.ensures.dues
 
 pub returns-else-mailbox-ne0-clause-came : goal.returns-else-mailbox-ne0-clause-came
 returns-else-mailbox-ne0-clause-came c =
-    came_none (the_book c.args._book.now).parameters c.args.routing.now c.args.held.now.mailboxes.items.items c.requires.routed c.args.clock c.args.mailbox c.args.bits c.args.held.now c.if-mailbox-ne0.false
+    came_none (the_book c.args._book.now) c.args.routing.now c.args.held.now.mailboxes.items.items c.requires.routed c.args.clock c.args.mailbox c.args.bits c.args.held.now c.if-mailbox-ne0.false

@@ -1,4 +1,4 @@
-use Rattle.std.proofs.Common.{[], length, refl, sym, ◌∙◌, ap, subst}
+use Rattle.std.proofs.Common.{length, refl, sym, ◌∙◌, ap, subst}
 use Rattle.ecam_spec.specs.History.{Era}
 use Rattle.ecam_spec.specs.Situation.{value_in}
 use Rattle.ecam_spec.proofs.HistoryLaws.{era_nil}

@@ -63,18 +63,20 @@ stand-kept b h e quiet old new same panel ticks stand watches = record {
   watches = stand-quiet h e b new.watches.items quiet watches;
 }
 
+pub tick-requires-clause-fit : goal.tick-requires-clause-fit
+tick-requires-clause-fit c = subst (plain.Fit (the_book c.args.book.now)) (sym c.begin.ensures.settings) c.requires.3
+
 pub returns-then-is_tick-clause-stands : goal.returns-then-is_tick-clause-stands
 returns-then-is_tick-clause-stands c h stand next fit =
     let b = the_book c.args.book.now in
     let e = c.args.event.now in
     let is : is_tick e ≡ true = sym c.is_tick.ensures ∙ c.if-is_tick.true in
-    let fits : plain.Fit b (settings_of c.begin.new.self) = subst (plain.Fit b) (sym c.begin.ensures.settings) fit in
     let pair = pair-ticks b h e is c.args.pair.now next.pair in
     let before = stand-before b h e is c.begin.new.self.watches.items (λ up. c.begin.ensures.stands b h e next.fresh_is up stand.watches) in
     stand-ended b h e is c.tick.new.self c.args.self.now.ticks (c.tick.ensures.ticks ∙ ap (λ n. n + 1) c.begin.ensures.ticks) stand.ticks
     (settings_of c.args.self.now) (c.tick.ensures.settings ∙ c.begin.ensures.settings)
-    (c.tick.ensures.panel h pair fits before ∙ ap (λ l. plain.rows_at b l (h ++ Tick ∷ [])) c.begin.ensures.settings)
-    (c.tick.ensures.stands h pair fits before)
+    (c.tick.ensures.panel h pair before ∙ ap (λ l. plain.rows_at b l (h ++ Tick ∷ [])) c.begin.ensures.settings)
+    (c.tick.ensures.stands h pair before)
 
 pub returns-then-is_tick-clause-text : goal.returns-then-is_tick-clause-text
 returns-then-is_tick-clause-text c h stand next fit =
@@ -82,7 +84,6 @@ returns-then-is_tick-clause-text c h stand next fit =
     let e = c.args.event.now in
     let limits = settings_of c.args.self.now in
     let is : is_tick e ≡ true = sym c.is_tick.ensures ∙ c.if-is_tick.true in
-    let fits : plain.Fit b (settings_of c.begin.new.self) = subst (plain.Fit b) (sym c.begin.ensures.settings) fit in
     let pair = pair-ticks b h e is c.args.pair.now next.pair in
     let before = stand-before b h e is c.begin.new.self.watches.items (λ up. c.begin.ensures.stands b h e next.fresh_is up stand.watches) in
     let new = rows_of c.tick.new.self.panel in
@@ -90,7 +91,7 @@ returns-then-is_tick-clause-text c h stand next fit =
     c.tick.ensures.block ∙ ap (λ t. plain.block t (rows_of c.begin.new.self.panel) new) c.begin.ensures.ticks
     ∙ ap (λ p. plain.block c.args.self.now.ticks (rows_of p) new) c.begin.ensures.panel in
     text-ended b h e is limits c.args.self.now.ticks (rows_of c.args.self.now.panel) new stand.ticks stand.panel
-    (c.tick.ensures.panel h pair fits before ∙ ap (λ l. plain.rows_at b l (h ++ Tick ∷ [])) c.begin.ensures.settings)
+    (c.tick.ensures.panel h pair before ∙ ap (λ l. plain.rows_at b l (h ++ Tick ∷ [])) c.begin.ensures.settings)
     ∙ ap (λ t. plain.text b limits h ++ t) (sym written)
 
 pub returns-else-is_tick-clause-stands : goal.returns-else-is_tick-clause-stands

@@ -14,11 +14,11 @@ use Rattle.advisories.proofs.view.Advisories.tick.Goals as goal
 
 -- what is so of the list of the view is so of the part that is lent
 module _ (b : Book) (h : List Event) (lent ws : List Watch) (same : lent ≡ ws) where
-  fits : Fit b (all_watched ws) → Fit b (all_watched lent)
-  fits fit = subst (λ l. Fit b (all_watched l)) (sym same) fit
-
   stood : (is_up h ≡ true → StandInEra b (era h) ws) → is_up h ≡ true → StandInEra b (era h) lent
   stood stand up = subst (StandInEra b (era h)) (sym same) (stand up)
+
+pub step_by-panel-requires-clause-fit : goal.step_by-panel-requires-clause-fit
+step_by-panel-requires-clause-fit c = subst (λ l. Fit (the_book c.args.book.now) (all_watched l)) (sym c.deref_mut.ensures.value) c.requires.fit
 
 pub returns-clause-settings : goal.returns-clause-settings
 returns-clause-settings c =
@@ -26,18 +26,18 @@ returns-clause-settings c =
     ∙ c.step_by-panel.ensures.settings ∙ ap all_watched c.deref_mut.ensures.value
 
 pub returns-clause-panel : goal.returns-clause-panel
-returns-clause-panel c h pair fit stand =
+returns-clause-panel c h pair stand =
     let b = the_book c.args.book.now in
     let lent = c.deref_mut.result.now in
     let ws = c.args.self.now.watches.items in
-    c.step_by-panel.ensures.rows h pair (fits b h lent ws c.deref_mut.ensures.value fit) (stood b h lent ws c.deref_mut.ensures.value stand)
+    c.step_by-panel.ensures.rows h pair (stood b h lent ws c.deref_mut.ensures.value stand)
     ∙ ap (λ l. rows_at b (all_watched l) (h ++ Tick ∷ [])) c.deref_mut.ensures.value
 
 pub returns-clause-stands : goal.returns-clause-stands
-returns-clause-stands c h pair fit stand up =
+returns-clause-stands c h pair stand up =
     let b = the_book c.args.book.now in
     let lent = c.deref_mut.result.now in
     let ws = c.args.self.now.watches.items in
     subst (StandInEra b (era (h ++ Tick ∷ [])))
     (sym (same-watched c.args.self.now.watches c.step_by-panel.new.watches lent c.deref_mut.ensures.value c.step_by-panel.ensures.settings))
-    (c.step_by-panel.ensures.stands h pair (fits b h lent ws c.deref_mut.ensures.value fit) (stood b h lent ws c.deref_mut.ensures.value stand) up)
+    (c.step_by-panel.ensures.stands h pair (stood b h lent ws c.deref_mut.ensures.value stand) up)

@@ -1,16 +1,12 @@
 use Rattle.book_model.specs.Sealed.{the_book}
-use Rattle.fwc_lane.proofs.Lanes.{word-lane, press-lane, release-lane, fail-lane, up-lane, end-lane, tick-lane, tick-visits}
+use Rattle.fwc_lane.proofs.Lanes.{press-lane, release-lane, fail-lane, up-lane, end-lane}
 use Rattle.fwc_lane.proofs.lane.Lane.event.Goals as goal
 
 pub returns-in-Word-clause-stands : goal.returns-in-Word-clause-stands
-returns-in-Word-clause-stands c = λ e up stands.
-    rw c.in-Word.is (word-lane (the_book c.args.book.now) e c.in-Word.bus c.in-Word.bits c.args.self.now c.take.new.self stands c.take.ensures.fits c.take.ensures.stands)
+returns-in-Word-clause-stands c = λ e up stands. rw c.in-Word.is (c.word.ensures.stands e stands)
 
 pub returns-in-Tick-clause-stands : goal.returns-in-Tick-clause-stands
-returns-in-Tick-clause-stands c = λ e up stands.
-    rw c.in-Tick.is
-    (tick-lane (the_book c.args.book.now) e c.args.one_up c.args.two_up (rw c.in-Tick.is at up) c.args.self.now c.tick.new.self stands
-    (record { params = c.tick.ensures.params; keys = c.tick.ensures.keys; whole = c.tick.ensures.whole }) c.tick.ensures.fits)
+returns-in-Tick-clause-stands c = λ e up stands. rw c.in-Tick.is (c.tick.ensures.stands e (rw c.in-Tick.is at up) stands)
 
 pub returns-in-Press-clause-stands : goal.returns-in-Press-clause-stands
 returns-in-Press-clause-stands c = λ e up stands.
@@ -30,7 +26,4 @@ pub returns-in-End-clause-stands : goal.returns-in-End-clause-stands
 returns-in-End-clause-stands c = λ e up stands. rw c.in-End.is (end-lane (the_book c.args.book.now) e c.args.self.now stands)
 
 pub returns-in-Tick-clause-visits : goal.returns-in-Tick-clause-visits
-returns-in-Tick-clause-visits c = λ e tick up stands.
-    rw c.in-Tick.is
-    (tick-visits (the_book c.args.book.now) e c.args.one_up c.args.two_up (rw c.in-Tick.is at up) c.args.self.now c.tick.new.self stands
-    (record { params = c.tick.ensures.params; keys = c.tick.ensures.keys; whole = c.tick.ensures.whole }) c.tick.ensures.visits)
+returns-in-Tick-clause-visits c = λ e tick up stands. rw c.in-Tick.is (c.tick.ensures.visits e (rw c.in-Tick.is at up) stands)

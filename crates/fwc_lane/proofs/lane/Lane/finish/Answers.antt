@@ -57,9 +57,8 @@ returns-clause-whole c = λ m visited begun.
     let b = the_book c.args.book.now in
     let k = c.args.self.now.moments in
     let all = c.requires.fits.values in
-    let values = begun.values in
-    let told : (i : ℕ) → i < length c.deref.result.now → get_or c.deref.result.now i None ≡ value_in b m i k =
-    λ i lt. ap (λ vs. get_or vs i None) c.deref.ensures.value ∙ values i (omega (arith, ap length c.deref.ensures.value, all)) in
+    let told : k ≡ 0 → (i : ℕ) → i < length c.deref.result.now → get_or c.deref.result.now i None ≡ value_in b m i k =
+    λ e i lt. ap (λ vs. get_or vs i None) c.deref.ensures.value ∙ begun.all e i (omega (arith, ap length c.deref.ensures.value, all)) in
     let stepped = c.step_conditions-stepped.ensures.stands m visited (lends-from b m k _ _ _ _ _ _ c.args.self.now.params c.args.self.now.keys c.keys.ensures begun.came told) (record { terms = begun.terms; phases = begun.phases; truths = begun.truths; was = begun.phase; lines = begun.lines; memos = begun.memos }) in
     let phase = c.step_conditions-stepped.ensures.phase m visited (lends-from b m k _ _ _ _ _ _ c.args.self.now.params c.args.self.now.keys c.keys.ensures begun.came told) (record { terms = begun.terms; phases = begun.phases; truths = begun.truths; was = begun.phase; lines = begun.lines; memos = begun.memos }) in
     let lines = c.step_conditions-stepped.ensures.line_flags m visited (lends-from b m k _ _ _ _ _ _ c.args.self.now.params c.args.self.now.keys c.keys.ensures begun.came told) (record { terms = begun.terms; phases = begun.phases; truths = begun.truths; was = begun.phase; lines = begun.lines; memos = begun.memos }) in
@@ -93,15 +92,15 @@ returns-clause-whole c = λ m visited begun.
       attention = crew.lights;
       selector = crew.selection;
       phase = of-last (λ j. c.step_conditions-stepped.result.phase.number ≡ phase_in b m j) k phase;
-      values = values-before b m k c.args.self.now.values.items values;
+      values = values-before b m k c.args.self.now.values.items begun.values;
       lines = of-last (λ j. TellsOf c.step_conditions-stepped.new.lines.items (lines_of b.alerts) (line_stands b m j)) k lines;
       memos = of-last (λ j. TellsOf c.step_conditions-stepped.new.memos.items b.memos (λ x. holds (world b m) x.when j)) k memos;
       drawn = c.draw-self.ensures.drawn m k (record {
         phase = phase;
-        values = λ p lt. ap (λ vs. get_or vs p None) c.deref-2.ensures.value ∙ values p lt;
+        values = λ p lt on. ap (λ vs. get_or vs p None) c.deref-2.ensures.value ∙ begun.values p lt on;
         lines = λ i l is. ap (λ fs. get_or fs i false) c.deref-3.ensures.value ∙ lines i l is;
         memos = λ i x is. ap (λ fs. get_or fs i false) c.deref-4.ensures.value ∙ memos i x is;
-        turned = λ j e p lt off. begun.flags j e p lt (sym (ap (λ fs. get_or fs p false) c.deref-5.ensures.value) ∙ off);
+        turned = λ j e p lt on off. begun.flags j e p lt on (sym (ap (λ fs. get_or fs p false) c.deref-5.ensures.value) ∙ off);
         truths = stepped.truths;
         marks = crew.marks;
         attention = crew.lights;
@@ -109,10 +108,10 @@ returns-clause-whole c = λ m visited begun.
       }) turned begun.drawn;
       changed = c.draw-self.ensures.changed m k (record {
         phase = phase;
-        values = λ p lt. ap (λ vs. get_or vs p None) c.deref-2.ensures.value ∙ values p lt;
+        values = λ p lt on. ap (λ vs. get_or vs p None) c.deref-2.ensures.value ∙ begun.values p lt on;
         lines = λ i l is. ap (λ fs. get_or fs i false) c.deref-3.ensures.value ∙ lines i l is;
         memos = λ i x is. ap (λ fs. get_or fs i false) c.deref-4.ensures.value ∙ memos i x is;
-        turned = λ j e p lt off. begun.flags j e p lt (sym (ap (λ fs. get_or fs p false) c.deref-5.ensures.value) ∙ off);
+        turned = λ j e p lt on off. begun.flags j e p lt on (sym (ap (λ fs. get_or fs p false) c.deref-5.ensures.value) ∙ off);
         truths = stepped.truths;
         marks = crew.marks;
         attention = crew.lights;
@@ -125,7 +124,7 @@ returns-clause-visits c = λ m visited begun.
     let b = the_book c.args.book.now in
     let k = c.args.self.now.moments in
     let all = c.requires.fits.values in
-    let told : (i : ℕ) → i < length c.deref.result.now → get_or c.deref.result.now i None ≡ value_in b m i k =
-    λ i lt. ap (λ vs. get_or vs i None) c.deref.ensures.value ∙ begun.values i (omega (arith, ap length c.deref.ensures.value, all)) in
+    let told : k ≡ 0 → (i : ℕ) → i < length c.deref.result.now → get_or c.deref.result.now i None ≡ value_in b m i k =
+    λ e i lt. ap (λ vs. get_or vs i None) c.deref.ensures.value ∙ begun.all e i (omega (arith, ap length c.deref.ensures.value, all)) in
     let stepped = c.step_conditions-stepped.ensures.stands m visited (lends-from b m k _ _ _ _ _ _ c.args.self.now.params c.args.self.now.keys c.keys.ensures begun.came told) (record { terms = begun.terms; phases = begun.phases; truths = begun.truths; was = begun.phase; lines = begun.lines; memos = begun.memos }) in
     stepped.terms.counted

@@ -1,7 +1,7 @@
 use Rattle.std.proofs.Common.{false, ◌∙◌}
 use Rattle.ecam_spec.specs.Situation.{words_in}
 use Rattle.book_model.specs.Sealed.{the_book}
-use Rattle.fwc_lane.proofs.Ticks.{has-begun, values-told}
+use Rattle.fwc_lane.proofs.Ticks.{has-begun, all-told, values-told}
 use Rattle.fwc_lane.proofs.lane.Lane.step.Goals as goal
 
 pub finish-requires-clause-fits : goal.finish-requires-clause-fits
@@ -40,6 +40,7 @@ returns-clause-whole c = λ m came was.
     c.finish.ensures.whole m visited
     (has-begun b m k visited c.args.one_up c.args.two_up c.begin_moment-values.result c.args.self.now c.begin_moment-values.new.terms c.begin_moment-values.new.values c.begin_moment-values.new.turned was came
     (begin.begins m came was.terms was.values)
+    (λ e. all-told b m k c.begin_moment-values.new.values.items (begin.first e (words_in b m) k came.words))
     (values-told b m k c.begin_moment-values.new.values.items (begin.values (words_in b m) k came.words was.values)) begin.kept begin.turned false)
 
 pub returns-clause-visits : goal.returns-clause-visits
@@ -51,4 +52,5 @@ returns-clause-visits c = λ m came was.
     c.finish.ensures.visits m visited
     (has-begun b m k visited c.args.one_up c.args.two_up c.begin_moment-values.result c.args.self.now c.begin_moment-values.new.terms c.begin_moment-values.new.values c.begin_moment-values.new.turned was came
     (begin.begins m came was.terms was.values)
+    (λ e. all-told b m k c.begin_moment-values.new.values.items (begin.first e (words_in b m) k came.words))
     (values-told b m k c.begin_moment-values.new.values.items (begin.values (words_in b m) k came.words was.values)) begin.kept begin.turned false)

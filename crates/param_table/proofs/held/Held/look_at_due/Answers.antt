@@ -2,13 +2,14 @@ use Rattle.std.proofs.Common.{◌≡◌, ℕ, ◌<◌, ◌≤◌, ◌==◌, ◌&
 use Rattle.std.specs.List.{list_any}
 use Rattle.std.proofs.lemmas.List.{length-set}
 use Rattle.std.proofs.lemmas.Bool.{cases_Bool}
-use Rattle.ecam_spec.specs.Book.{Parameter}
+use Rattle.ecam_spec.specs.Book.{Book}
 use Rattle.book_model.specs.Sealed.{the_book}
 use Rattle.wakes.specs.Due.{never}
 use Rattle.wakes.specs.Marks.{is_marked, room}
 use Rattle.param_table.specs.declared.mailbox.Listener.{Listener}
 use Rattle.param_table.specs.declared.mailbox.Mailbox.{Mailbox}
 use Rattle.param_table.specs.declared.rules.Rule.{Rule}
+use Rattle.param_table.specs.Asked.{is_asked_at}
 use Rattle.param_table.specs.HeldValues.{unused, due_at, hearers_of, held_for, is_ending, mailbox_at, received_at}
 use Rattle.param_table.specs.HeldState.{AreDue, AreListed, IsNextLook}
 use Rattle.param_table.proofs.Hearers.{are_listed}
@@ -18,8 +19,8 @@ use Rattle.param_table.proofs.Tables.{mailbox_within}
 use Rattle.param_table.proofs.held.Held.look_at_due.Goals as goal
 use Rattle.param_table.proofs.held.Held.look_at_due.Goals.{After-deref, After-look}
 
-abbrev params : After-deref → List Parameter
-params c = (the_book c.args._book.now).parameters
+abbrev book : After-deref → Book
+book c = the_book c.args._book.now
 
 abbrev boxes : After-deref → List Mailbox
 boxes c = c.args.self.now.mailboxes.items.items
@@ -41,7 +42,7 @@ look-requires-clause-listed c =
     let many = room c.loop-mailbox.self.changed in
     subst (λ ls. AreListed ls many (get_or c.loop-mailbox.self.mailboxes.items.items c.in-Some.mailbox unused)) (sym c.deref.ensures.value)
     (subst (AreListed c.args.routing.now.listeners.items.items many) (sym (same c))
-    (are_listed (params c) c.args.routing.now (boxes c) c.in-Some.mailbox c.requires.routed (within c) many (omega (arith, c.loop-mailbox.invariant.room, c.requires.fits.room))))
+    (are_listed (book c) c.args.routing.now (boxes c) c.in-Some.mailbox c.requires.routed (within c) many (omega (arith, c.loop-mailbox.invariant.room, c.requires.fits.room))))
 
 module _ (c : After-look) where
   abbrev d : After-deref
@@ -97,22 +98,22 @@ loop-mailbox-preserved c =
       mailboxes = c.look.ensures.mailboxes ∙ inv.mailboxes;
       room = c.look.ensures.room ∙ inv.room;
       count = ap length (put c) ∙ length-set (dues c) (m c) (due c) ∙ inv.count;
-      due = λ will. subst (λ ds. AreDue c.args.clock x (due_at (rules c) ds)) (sym (put c))
-          (looked_due (params (d c)) c.args.routing.now (boxes (d c)) (m c) c.requires.routed (within (d c)) c.args.clock c.requires.later (dues c) there (due c) (next c) (inv.due will));
-      ending = λ will q off ends. subst (λ ds. due_at (rules c) ds q ≤ c.args.clock) (sym (put c))
-          (looked_ending (params (d c)) c.args.routing.now (boxes (d c)) (m c) c.requires.routed (within (d c)) c.args.clock c.requires.later (dues c) there (due c) (next c) old new (marks c) (inv.ending will) q off ends);
+      due = λ will. subst (λ ds. AreDue (is_asked_at (book (d c))) c.args.clock x (due_at (rules c) ds)) (sym (put c))
+          (looked_due (book (d c)) c.args.routing.now (boxes (d c)) (m c) c.requires.routed (within (d c)) c.args.clock c.requires.later (dues c) there (due c) (next c) (inv.due will));
+      ending = λ will q asked off ends. subst (λ ds. due_at (rules c) ds q ≤ c.args.clock) (sym (put c))
+          (looked_ending (book (d c)) c.args.routing.now (boxes (d c)) (m c) c.requires.routed (within (d c)) c.args.clock c.requires.later (dues c) there (due c) (next c) old new (marks c) (inv.ending will) q asked off ends);
       others = λ p off none.
-          looked_others (params (d c)) c.args.routing.now (boxes (d c)) (m c) c.requires.routed (within (d c)) c.args.clock c.requires.later (dues c) there (due c) (next c) old new (marks c) p (inv.others p off none) none;
+          looked_others (book (d c)) c.args.routing.now (boxes (d c)) (m c) c.requires.routed (within (d c)) c.args.clock c.requires.later (dues c) there (due c) (next c) old new (marks c) p (inv.others p off none) none;
     }
 
 pub returns-clause-marks : goal.returns-clause-marks
-returns-clause-marks c = λ will q off.
+returns-clause-marks c = λ will q asked off.
     let rules = c.args.routing.now.rules.items.items in
     let boxes = c.args.self.now.mailboxes.items.items in
     elim (cases_Bool (is_ending c.args.clock (received_at rules boxes q))) [
       | inl on ↦
-          let there = mailbox_within (the_book c.args._book.now).parameters c.args.routing.now boxes c.requires.routed q in
+          let there = mailbox_within (the_book c.args._book.now) c.args.routing.now boxes c.requires.routed q in
           let late = c.in_default.ensures.first (mailbox_at rules q) (omega (arith, there, c.loop-mailbox.invariant.count, c.requires.fits.dues)) in
-          absurd (let w : ⊥ = omega (arith, late, c.from.ensures, c.loop-mailbox.invariant.ending will q off on) in w)
+          absurd (let w : ⊥ = omega (arith, late, c.from.ensures, c.loop-mailbox.invariant.ending will q asked off on) in w)
       | inr off_now ↦ off_now
     ]

@@ -24,9 +24,9 @@ returns-clause-within c = λ i low on.
     ]
 
 pub returns-clause-same : goal.returns-clause-same
-returns-clause-same c = λ words k stands i low off within.
+returns-clause-same c = λ words k stands i low off within asked.
     let b = the_book c.args._book.now in
     let p = 64 * c.args.place + i in
     let changed = c.args.self.now.held.changed in
     let unmarked : is_marked changed p ≡ false = word-bit changed c.args.place i low ∙ ap (λ w. bit_at w i == 1) (sym c.word.ensures.bits) ∙ ap (λ n. n == 1) off in
-    unchanged_is b words k c.args.self.now p stands (few_sources b p c.requires.fits.sound (omega (arith, within, many-parameters c.args._book.now))) unmarked
+    unchanged_is b words k c.args.self.now p stands (few_sources b p c.requires.fits.sound (omega (arith, within, many-parameters c.args._book.now))) asked unmarked

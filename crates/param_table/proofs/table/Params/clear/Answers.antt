@@ -27,7 +27,7 @@ many c = ap length c.forget_words.ensures.mailboxes ∙ length-map c.args.self.n
 kept : (c : After-clear-2) (b : Book) → ParamsFit b c.args.self.now → ParamsFit b (cleared c)
 kept c b fits = record {
   sound = fits.sound;
-  routed = routed_same b.parameters c.args.self.now.routing c.args.self.now.held.mailboxes.items.items (cleared c).held.mailboxes.items.items
+  routed = routed_same b c.args.self.now.routing c.args.self.now.held.mailboxes.items.items (cleared c).held.mailboxes.items.items
       (many c) (λ m less. ap (λ (x : Mailbox). x.hearers) (empty c m)) fits.routed;
   held = record {
     room = c.clear.ensures.room ∙ ap room c.forget_words.ensures.changed ∙ fits.held.room;

@@ -11,7 +11,7 @@ held_by-received-requires-clause-mailbox c =
     let there = rule_there p.routing c.table.result.now c.args.place c.index.result.now c.in_ok-rule.rule c.table.ensures c.requires.place c.index.ensures c.in_ok-rule.was in
     subst (λ bs. c.in_ok-rule.rule.mailbox < length bs) (sym c.deref.ensures.value)
     (subst (λ m. m < length p.held.mailboxes.items.items) (mailbox_by_rule rules c.args.place c.in_ok-rule.rule there)
-    (mailbox_within (the_book c.args._book.now).parameters p.routing p.held.mailboxes.items.items c.requires.fits.routed c.args.place))
+    (mailbox_within (the_book c.args._book.now) p.routing p.held.mailboxes.items.items c.requires.fits.routed c.args.place))
 
 pub reading-requires : goal.reading-requires
 reading-requires c =

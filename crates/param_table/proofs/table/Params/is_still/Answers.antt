@@ -3,7 +3,7 @@ use Rattle.param_table.proofs.Values.{unchanged_is, few_sources, none-found}
 use Rattle.param_table.proofs.table.Params.is_still.Goals as goal
 
 pub returns-then-is_none-clause-same : goal.returns-then-is_none-clause-same
-returns-then-is_none-clause-same c = λ on words k stands p within.
+returns-then-is_none-clause-same c = λ on words k stands p within asked.
     let b = the_book c.args._book.now in
     let none = none-found c.args.self.now.held.changed c.first_from.result c.is_none-then-is_none.result c.first_from.ensures c.is_none-then-is_none.ensures on in
-    unchanged_is b words k c.args.self.now p stands (few_sources b p c.requires.sound within) (none p)
+    unchanged_is b words k c.args.self.now p stands (few_sources b p c.requires.sound within) asked (none p)

@@ -8,10 +8,11 @@ use Rattle.param_table.specs.declared.routing.Routing.{Routing}
 use Rattle.param_table.specs.declared.table.Params.{Params}
 use Rattle.param_table.specs.HeldValues.{due_at, is_ending, received_at, unused}
 use Rattle.param_table.specs.HeldState.{IsDue, WillLook}
+use Rattle.param_table.specs.Asked.{is_asked_at}
 use Rattle.param_table.specs.Routes.{AreRouted}
 use Rattle.param_table.specs.TableState.{HeldFits, ParamsFit, ParamsStand, received_by}
 use Rattle.param_table.proofs.ByRule.{by_none, no_rule_past}
-use Rattle.param_table.proofs.Tables.{moment, clock_back, back_fits, will_look}
+use Rattle.param_table.proofs.Tables.{WordsStand, moment, clock_back, back_fits, will_look, words_stand}
 use Rattle.param_table.proofs.table.Params.tick.Goals as goal
 use Rattle.param_table.proofs.table.Params.tick.Goals.{After-forget_changes, After-look_at_due, then-self, else-self}
 
@@ -42,8 +43,8 @@ later_fits params clock old new fits same marks dues within = record {
 
 pub look_at_due-requires-clause-routed : goal.look_at_due-requires-clause-routed
 look_at_due-requires-clause-routed c =
-    subst (λ r. AreRouted (the_book c.args._book.now).parameters r c.forget_changes.new.self.mailboxes.items.items) (sym c.table.ensures)
-    (subst (λ v. AreRouted (the_book c.args._book.now).parameters c.if-self.self.routing v.items.items) (sym c.forget_changes.ensures.mailboxes) (mid_fits c.before.before.before).routed)
+    subst (λ r. AreRouted (the_book c.args._book.now) r c.forget_changes.new.self.mailboxes.items.items) (sym c.table.ensures)
+    (subst (λ v. AreRouted (the_book c.args._book.now) c.if-self.self.routing v.items.items) (sym c.forget_changes.ensures.mailboxes) (mid_fits c.before.before.before).routed)
 
 pub look_at_due-requires-clause-fits : goal.look_at_due-requires-clause-fits
 look_at_due-requires-clause-fits c =
@@ -57,7 +58,7 @@ fits_after c =
     let same = c.look_at_due.ensures.mailboxes ∙ c.forget_changes.ensures.mailboxes in
     record {
       sound = fits.sound;
-      routed = subst (λ v. AreRouted (the_book c.args._book.now).parameters c.if-self.self.routing v.items.items) (sym same) fits.routed;
+      routed = subst (λ v. AreRouted (the_book c.args._book.now) c.if-self.self.routing v.items.items) (sym same) fits.routed;
       held = later_fits (the_book c.args._book.now).parameters c.if-self.self.clock c.if-self.self.held c.look_at_due.new.self fits.held same
           (c.look_at_due.ensures.room ∙ c.forget_changes.ensures.room) (c.look_at_due.ensures.dues ∙ ap length c.forget_changes.ensures.dues)
           (λ p past. c.look_at_due.ensures.others p (c.forget_changes.ensures.none p) (λ q row.
@@ -73,32 +74,33 @@ pub returns-clause-stands : goal.returns-clause-stands
 returns-clause-stands c = λ words k none stands.
     let b = the_book c.args._book.now in
     let now = c.if-self.self in
-    let before : ParamsStand b words k now = elim c.if-self.branch [
+    let is_asked = is_asked_at b in
+    let before : WordsStand b words k now = elim c.if-self.branch [
       | then-self w ↦
           let set = w.set_clock_back.new.self in
           let was = w.set_clock_back.ensures in
-          subst (ParamsStand b words k) (sym w.self-is)
+          subst (WordsStand b words k) (sym w.self-is)
           (clock_back b words k c.args.self.now set (back_fits b c.args.self.now set w.if-self.true was.clock was.routing was.mailboxes was.changed was.count c.requires)
-          w.if-self.true was.clock was.routing was.mailboxes was.changed was.soon stands)
-      | else-self w ↦ subst (ParamsStand b words k) (sym w.self-is) stands
+          w.if-self.true was.clock was.routing was.mailboxes was.soon stands)
+      | else-self w ↦ subst (WordsStand b words k) (sym w.self-is) (words_stand b words k c.args.self.now stands)
     ] in
     let mid = holding now.clock now.held c.table.result.now in
-    let stood : ParamsStand b words k mid = subst (λ r. ParamsStand b words k (holding now.clock now.held r)) (sym c.table.ensures) before in
+    let stood : WordsStand b words k mid = subst (λ r. WordsStand b words k (holding now.clock now.held r)) (sym c.table.ensures) before in
     let x = received_by mid in
     let rules = mid.routing.rules.items.items in
     let kept : (q : ℕ) → received_at rules c.forget_changes.new.self.mailboxes.items.items q ≡ x q = λ q.
     ap (λ v. received_at rules v.items.items q) c.forget_changes.ensures.mailboxes in
     let dues = due_at rules c.forget_changes.new.self.dues in
-    let will : WillLook (mid.clock + 1) x dues =
-    subst (λ t. WillLook t x dues) (sym (add-one mid.clock)) (will_look mid.clock x dues (λ q. subst (λ ds. IsDue mid.clock (x q) (due_at rules ds q)) (sym c.forget_changes.ensures.dues) (stood.due q))) in
-    let looks : WillLook (mid.clock + 1) (received_at rules c.forget_changes.new.self.mailboxes.items.items) dues = record {
-      due = λ q. subst (λ r. IsDue (mid.clock + 1) r (dues q)) (sym (kept q)) (will.due q);
-      ending = λ q ends. will.ending q (ap (is_ending (mid.clock + 1)) (sym (kept q)) ∙ ends);
+    let will : WillLook is_asked (mid.clock + 1) x dues =
+    subst (λ t. WillLook is_asked t x dues) (sym (add-one mid.clock)) (will_look is_asked mid.clock x dues (λ q asked. subst (λ ds. IsDue mid.clock (x q) (due_at rules ds q)) (sym c.forget_changes.ensures.dues) (stood.due q asked))) in
+    let looks : WillLook is_asked (mid.clock + 1) (received_at rules c.forget_changes.new.self.mailboxes.items.items) dues = record {
+      due = λ q asked. subst (λ r. IsDue (mid.clock + 1) r (dues q)) (sym (kept q)) (will.due q asked);
+      ending = λ q asked ends. will.ending q asked (ap (is_ending (mid.clock + 1)) (sym (kept q)) ∙ ends);
     } in
     let later = holding (now.clock + 1) c.look_at_due.new.self in
     subst (λ r. ParamsStand b words (suc k) (later r)) c.table.ensures
     (moment b words k mid (later c.table.result.now) (subst (λ r. ParamsFit b (later r)) (sym c.table.ensures) (fits_after c)) none (add-one mid.clock) refl
     (c.look_at_due.ensures.mailboxes ∙ c.forget_changes.ensures.mailboxes)
-    (λ q. subst (λ r. IsDue (mid.clock + 1) r (due_at rules c.look_at_due.new.self.dues q)) (kept q) (c.look_at_due.ensures.due looks q))
-    (λ q off. ap (is_ending (mid.clock + 1)) (sym (kept q)) ∙ c.look_at_due.ensures.marks looks q off)
+    (λ q asked. subst (λ r. IsDue (mid.clock + 1) r (due_at rules c.look_at_due.new.self.dues q)) (kept q) (c.look_at_due.ensures.due looks q asked))
+    (λ q asked off. ap (is_ending (mid.clock + 1)) (sym (kept q)) ∙ c.look_at_due.ensures.marks looks q asked off)
     (λ p calm. c.look_at_due.ensures.others p (c.forget_changes.ensures.none p) (λ q row. ap (is_ending (mid.clock + 1)) (kept q) ∙ calm q row)) stood)

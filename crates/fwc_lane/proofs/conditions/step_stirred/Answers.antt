@@ -1,15 +1,20 @@
 use Rattle.std.proofs.Common.{◌≡◌, subst, arith}
 use Rattle.book_model.specs.Conditions.{places}
 use Rattle.fwc_lane.specs.Conditions.{StepsTerm}
-use Rattle.fwc_lane.proofs.conditions.step_numbered.Goals as goal
+use Rattle.fwc_lane.proofs.conditions.step_stirred.Goals as goal
 
-pub step_later-requires-clause-place : goal.step_later-requires-clause-place
-step_later-requires-clause-place c =
+pub run_term-requires-clause-place : goal.run_term-requires-clause-place
+run_term-requires-clause-place c =
     let (b, p, fits, here, names) = c.requires.place in
     (b, p, fits, here)
 
+pub run_term-requires-clause-woken : goal.run_term-requires-clause-woken
+run_term-requires-clause-woken c =
+    let (b, p, fits, here, names) = c.requires.place in
+    fits.stirs c.args.number c.requires.stirred
+
 pub returns-then-now-gt0-clause-steps : goal.returns-then-now-gt0-clause-steps
-returns-then-now-gt0-clause-steps c = λ b p fits here names. c.step_later.ensures.steps b p c.args.env.now fits here
+returns-then-now-gt0-clause-steps c = λ b p fits here names. c.run_term.ensures.steps b p c.args.env.now fits here
 
 pub returns-clause-steps : goal.returns-clause-steps
 returns-clause-steps c = λ b p fits here names.
