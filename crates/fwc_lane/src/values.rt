@@ -129,9 +129,12 @@ fn read_values(
     ensures kept { result ≡ false → values.new.items ≡ values.old.items }
 {
     turned.fill(false);
+    let words = book.params().len().div_ceil(64);
     let mut any = false;
-    for place in 0..book.params().len().div_ceil(64) {
+    let mut place = params.next_changed_word(book, 0);
+    while place < words {
         any = is_either(any, read_word(values, turned, terms, params, book, place));
+        place = params.next_changed_word(book, place + 1);
     }
     any
 }

@@ -311,6 +311,29 @@ impl Params {
         self.held.changed.word(place)
     }
 
+    /// The place of the first word of `changed_word` from `from` on that has a bit set, or, where none has, the number of words
+    /// or `from`, whichever is more. Of the parameters that are passed over none that the book asks for has another value than
+    /// in the moment before. Its cost is one look for each word up to it.
+    #[inline(always)]
+    pub fn next_changed_word(&self, book: &Book, from: usize) -> usize
+        requires fits { ParamsFit (the_book book.now) self.now }
+        ensures from { from ≤ result }
+        ensures same { (words : ℕ → List BusWord) (k : ℕ)
+            → ParamsStand (the_book book.now) words k self.now
+            → (p : ℕ) → 64 * from ≤ p → p < 64 * result
+            → p < length (the_book book.now).parameters
+            → is_asked_for (the_book book.now) p ≡ true
+            → value (parameter_at (the_book book.now) p) words k
+            ≡ value_before (parameter_at (the_book book.now) p) words k }
+    {
+        let words = book.params().len().div_ceil(64);
+        let mut place = from;
+        while place < words && self.held.changed.word(place) == 0 {
+            place += 1;
+        }
+        place
+    }
+
     // What the first of the sources from this place on gives that gives something.
     fn first_value(&self, _book: &Book, place: usize) -> Option<i64>
         requires fits { ParamsFit (the_book _book.now) self.now }
