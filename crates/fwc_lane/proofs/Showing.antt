@@ -3,6 +3,7 @@ use Rattle.std.proofs.Common.{Bor, ◌≡◌, ℕ, suc, ◌<◌, Bool, false, Li
 use Rattle.std.proofs.lemmas.List.{get_or-take}
 use Rattle.ecam_spec.specs.Past.{Signal, previous}
 use Rattle.ecam_spec.specs.Book.{Book}
+use Rattle.ecam_spec.specs.Term.{World}
 use Rattle.ecam_spec.specs.History.{Moment}
 use Rattle.ecam_spec.specs.Situation as situation
 use Rattle.ecam_spec.specs.Situation.{phase_in, condition_in, present_in, active_in, waiting_in, starred_in, up_in, world_where, flight_world, alert_world, known_below, world}
@@ -81,3 +82,14 @@ module _ (b : Book) (m : ℕ → Moment) where
       one_up = lends.one_up;
       two_up = lends.two_up;
     }
+
+-- of the alerts the list is shown, wherever it lies
+pub shows-list : (env : Env) (p : Phase) (w : World) (k : ℕ) (xs ys : Bor (List Bool)) → xs.now ≡ ys.now → ShowsFirst (record env { phase = p; active = xs }) w k → ShowsFirst (record env { phase = p; active = ys }) w k
+shows-list env p w k xs ys same shows = λ first. record {
+  values = (shows first).values;
+  phase = (shows first).phase;
+  active = λ a lt. ap (λ zs. get_or zs a false) (sym same) ∙ (shows first).active a (omega (arith, ap length same));
+  pressed = (shows first).pressed;
+  one_up = (shows first).one_up;
+  two_up = (shows first).two_up;
+}

@@ -140,12 +140,13 @@ pub record HasWoken (b : Book) (f : ℕ → Bool) (reads : ℕ → Reading) (old
 abbrev pub NoneMarked : List ℕ → ℕ → ℕ → Type 0
 NoneMarked marks from to = (j : ℕ) → from ≤ j → j < to → is_marked marks j ≡ false
 
--- of `count` items, whose conditions have the numbers from `start` of the item up to that of the next, this is the first from
--- one on that has a marked condition, or none has
+-- of `count` items of one condition each, whose number is `start` of the item, this is the first from one on whose condition is
+-- marked, or none is
 abbrev pub FindsNext : List ℕ → (ℕ → ℕ) → ℕ → ℕ → Option ℕ → Type 0
 FindsNext marks start from count found =
     MatchOption found (NoneMarked marks (start from) (start count))
-    (λ i. (from ≤ i) × (i < count) × NoneMarked marks (start from) (start i))
+    (λ i. (from ≤ i) × (i < count) × NoneMarked marks (start from) (start i)
+    × (is_marked marks (start i) ≡ true))
 
 -- the number of a memo's condition
 abbrev pub memo_number : Book → ℕ → ℕ

@@ -12,6 +12,7 @@ ghost use Rattle.fwc_lane.specs.TermsFit.{TermsFit};
 
 use crate::terms::Terms;
 use book_model::Term;
+use ecam_kinds::Phase;
 use term_eval::{Env, Turn};
 
 /// Steps a condition by moment `now`, which has this number, and answers whether it holds in it. One that isn't stirred holds
@@ -37,27 +38,67 @@ pub fn step_term(terms: &mut Terms, number: usize, _term: &Term, env: &Env<'_>, 
     begin_term(terms, number, env)
 }
 
-/// The same of a condition that is known to be stirred, by its number, so that nothing looks whether it is.
+/// The same of a condition that is known to be stirred, by its number, so that nothing looks whether it is. The environment is
+/// lent without phase and alerts, which come beside it: it is put together in the first moment alone.
 #[inline(always)]
-pub fn step_stirred(terms: &mut Terms, number: usize, env: &Env<'_>, now: u64) -> bool
+pub fn step_stirred(
+    terms: &mut Terms,
+    number: usize,
+    env: &Env<'_>,
+    phase: Phase,
+    active: &[bool],
+    now: u64,
+) -> bool
     requires place { (b : plain.Book) × (p : Placed) × TermsFit b terms.old
         × (slice_get (places b) number ≡ Some p)
-        × IsWithin (length env.now.values.now) (length env.now.active.now) p.tree }
+        × IsWithin (length env.now.values.now) (length active.now) p.tree }
     requires stirred { is_marked terms.old.stirred number ≡ true }
-    requires first { 1 ≤ env.now.phase.number }
-    requires last { env.now.phase.number ≤ 10 }
+    requires first { 1 ≤ phase.number }
+    requires last { phase.number ≤ 10 }
     requires now { now < 2 ^ 63 }
     ensures fits { (b : plain.Book) → TermsFit b terms.old → TermsFit b terms.new }
     ensures steps { (b : plain.Book) (p : Placed) → TermsFit b terms.old
         → slice_get (places b) number ≡ Some p
-        → IsWithin (length env.now.values.now) (length env.now.active.now) p.tree
-        → StepsTerm (places b) env.now now number p terms.old terms.new result }
+        → IsWithin (length env.now.values.now) (length active.now) p.tree
+        → StepsTerm (places b) (record env.now { phase = phase; active = active.entry }) now number
+        p terms.old terms.new result }
     ensures truths { terms.new.truths.items ≡ slice_set terms.old.truths.items number result }
 {
     if now > 0 {
         return run_term(terms, number, now);
     }
-    begin_term(terms, number, env)
+    begin_whole(terms, number, env, phase, active)
+}
+
+// Puts the environment together and steps one in the first moment. (It stands by itself, since what the condition sees is
+// gathered there, and nothing of it is looked at in a later moment.)
+#[inline(never)]
+fn begin_whole(
+    terms: &mut Terms,
+    number: usize,
+    env: &Env<'_>,
+    phase: Phase,
+    active: &[bool],
+) -> bool
+    requires place { (b : plain.Book) × (p : Placed) × TermsFit b terms.old
+        × (slice_get (places b) number ≡ Some p)
+        × IsWithin (length env.now.values.now) (length active.now) p.tree }
+    requires first { 1 ≤ phase.number }
+    requires last { phase.number ≤ 10 }
+    ensures fits { (b : plain.Book) → TermsFit b terms.old → TermsFit b terms.new }
+    ensures steps { (b : plain.Book) (p : Placed) → TermsFit b terms.old
+        → slice_get (places b) number ≡ Some p
+        → IsWithin (length env.now.values.now) (length active.now) p.tree
+        → StepsTerm (places b) (record env.now { phase = phase; active = active.entry }) 0 number
+        p terms.old terms.new result }
+    ensures truths { terms.new.truths.items ≡ slice_set terms.old.truths.items number result }
+{
+    let whole = Env {
+        phase,
+        active,
+        ..*env
+    };
+    begin_term(terms, number, &whole)
 }
 
 /// The same in a moment that isn't the first. What the condition names was told to it where it turned, so that nothing of the

@@ -18,6 +18,7 @@ use crate::numbers::{first_memo, line_number};
 use crate::shown_lines::note_line;
 use crate::terms::Terms;
 use book_model::Book;
+use ecam_kinds::Phase;
 use term_eval::Env;
 
 // Whether a line of which the first condition has this number stands by what is kept of both.
@@ -33,34 +34,39 @@ fn stands_as_kept(terms: &Terms, number: usize) -> bool
 /// Steps all lines by moment `now`: `flags` has, per line, whether it stands, and before it of the moment before. Answers
 /// whether the flag of any line turned whose alert is shown, even where it turned back. A line of which no condition is
 /// stirred stands where it stood, and isn't looked at. The cost is a look for each 64 conditions, and for each that is
-/// stirred what it costs and a look at its line.
+/// stirred what it costs and a look at its line. The environment is lent without phase and alerts, which come beside it: it is
+/// put together in the first moment alone.
 pub fn step_lines(
     terms: &mut Terms,
     flags: &mut Vec<bool>,
     book: &Book,
     shown: &[bool],
     env: &Env<'_>,
+    phase: Phase,
+    active: &[bool],
     now: u64,
 ) -> bool
     requires fits { TermsFit (the_book book.now) terms.old }
     requires shown { length shown.now ≡ length book.now.alerts.items }
     requires flags { length flags.old.items ≡ length (lines_of (the_book book.now).alerts) }
     requires values { length env.now.values.now ≡ length book.now.params.items }
-    requires active { length env.now.active.now ≡ length book.now.alerts.items }
-    requires first { 1 ≤ env.now.phase.number }
-    requires last { env.now.phase.number ≤ 10 }
+    requires active { length active.now ≡ length book.now.alerts.items }
+    requires first { 1 ≤ phase.number }
+    requires last { phase.number ≤ 10 }
     requires now { now < 2 ^ 63 }
     ensures fits { TermsFit (the_book book.now) terms.new }
     ensures flags { length flags.new.items ≡ length flags.old.items }
     ensures told { (m : ℕ → Moment) (visits : ℕ)
-        → ShowsFirst env.now (world (the_book book.now) m) now
+        → ShowsFirst (record env.now { phase = phase; active = active.entry })
+        (world (the_book book.now) m) now
         → LinesWere (the_book book.now) m now flags.old.items
         → BookHalf (the_book book.now) m now (lines_from (the_book book.now))
         (suc (length (the_book book.now).alerts)) visits terms.old
         → TellsOf flags.new.items (lines_of (the_book book.now).alerts)
         (line_stands (the_book book.now) m now) }
     ensures stands { (m : ℕ → Moment) (visits : ℕ)
-        → ShowsFirst env.now (world (the_book book.now) m) now
+        → ShowsFirst (record env.now { phase = phase; active = active.entry })
+        (world (the_book book.now) m) now
         → LinesWere (the_book book.now) m now flags.old.items
         → BookHalf (the_book book.now) m now (lines_from (the_book book.now))
         (suc (length (the_book book.now).alerts)) visits terms.old
@@ -75,7 +81,7 @@ pub fn step_lines(
     let mut turned = false;
     let mut number = terms.stirred.next_or(first, end);
     while number < end {
-        step_stirred(terms, number, env, now);
+        step_stirred(terms, number, env, phase, active, now);
         let line = (number - first) / 2;
         let stands = stands_as_kept(terms, first + 2 * line);
         let other = note_line(flags, &terms.line_alerts, shown, line, stands);

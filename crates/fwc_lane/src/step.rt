@@ -89,14 +89,9 @@ pub fn step_conditions(
     ensures memos_kept { result.memos ≡ false → memos.new.items ≡ memos.old.items }
 {
     let phase = step_phase(terms, state, book, env, was, now);
-    step_alerts(terms, truths, book, &Env { phase, ..*env }, was, now);
-    let whole = Env {
-        phase,
-        active: truths.active(),
-        ..*env
-    };
-    let lines = step_lines(terms, lines, book, shown, &whole, now);
-    let memos = step_memos(terms, memos, book, &whole, now);
+    step_alerts(terms, truths, book, env, phase, was, now);
+    let lines = step_lines(terms, lines, book, shown, env, phase, truths.active(), now);
+    let memos = step_memos(terms, memos, book, env, phase, truths.active(), now);
     Stepped {
         phase,
         lines,

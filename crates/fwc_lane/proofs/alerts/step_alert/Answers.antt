@@ -37,6 +37,9 @@ step_own-holds-requires-clause-names c =
     let some : length (take c.args.alert c.active-2.result.now) ≡ c.args.alert = omega (arith, length-take c.args.alert c.active-2.result.now, ap length c.active-2.ensures.value, c.requires.fits.active, many-alerts d, c.requires.alert) in
     rw (c.requires.values, some) (own-names d c.alerts.ensures.sealed xs c.args.alert (get_or xs c.args.alert c.index-alerts-alert.result) c.alerts.ensures.value lt (ap (get_or xs c.args.alert) c.index-alerts-alert.is))
 
+pub wake_alert-requires-clause-fits : goal.wake_alert-requires-clause-fits
+wake_alert-requires-clause-fits c = c.step_own-holds.ensures.fits (the_book c.args.book.now) c.requires.terms
+
 pub wake_alert-requires-clause-alert : goal.wake_alert-requires-clause-alert
 wake_alert-requires-clause-alert c = omega (arith, c.requires.alert, many-alerts c.args.book.now)
 

@@ -28,11 +28,11 @@ loop-next-init c =
     let d = c.args.book.now in
     let b = the_book d in
     let k = c.args.now in
-    let others : (m : ℕ → Moment) → c.args.env.now.phase.number ≡ phase_in b m k → WasPhase b m k c.args.was
+    let others : (m : ℕ → Moment) → c.args.phase.number ≡ phase_in b m k → WasPhase b m k c.args.was
     → TruthsStand b (condition_in b m) (phase_in b m) k c.args.truths.now → OthersStay b (condition_in b m) (phase_in b m) k c.gather_due.new.self.due =
     λ m phase was stands.
     c.gather_due.ensures.others b (condition_in b m) (phase_in b m) k stands
-    (λ same h e. sym phase ∙ eqb-true c.args.env.now.phase.number c.args.was.number (not-false (c.args.env.now.phase.number == c.args.was.number) (sym c.is_other_phase.ensures ∙ same)) ∙ was h e) in
+    (λ same h e. sym phase ∙ eqb-true c.args.phase.number c.args.was.number (not-false (c.args.phase.number == c.args.was.number) (sym c.is_other_phase.ensures ∙ same)) ∙ was h e) in
     record {
       most = c.next_alert-next.ensures.within;
       end = c.next_due-due.ensures.within;
@@ -75,7 +75,7 @@ loop-next-preserved c =
       | else-due-next w ↦ subst (NoneMarked c.step_alert.new.truths.due (c.loop-next.next + 1)) (sym w.due-is)
           (subst (λ s. NoneMarked s (c.loop-next.next + 1) c.loop-next.due) (sym kept) (λ j low high. c.loop-next.invariant.none j (omega (arith, low)) high))
     ] in
-    let others : (m : ℕ → Moment) → c.args.env.now.phase.number ≡ phase_in b m k → WasPhase b m k c.args.was
+    let others : (m : ℕ → Moment) → c.args.phase.number ≡ phase_in b m k → WasPhase b m k c.args.was
     → TruthsStand b (condition_in b m) (phase_in b m) k c.args.truths.now → OthersStay b (condition_in b m) (phase_in b m) k c.step_alert.new.truths.due =
     λ m phase was stands. subst (OthersStay b (condition_in b m) (phase_in b m) k) (sym kept) (c.loop-next.invariant.others m phase was stands) in
     record {

@@ -18,10 +18,10 @@ invariant-loop-next l = record {
   fits : TruthsFit (the_book l.book) l.truths;
   moments : l.truths.moments ≡ l.fn.truths.moments;
   none : NoneMarked l.truths.due l.next l.due;
-  others : (m : ℕ → Moment) → l.env.phase.number ≡ phase_in (the_book l.book) m l.now → WasPhase (the_book l.book) m l.now l.fn.was
+  others : (m : ℕ → Moment) → l.phase.number ≡ phase_in (the_book l.book) m l.now → WasPhase (the_book l.book) m l.now l.fn.was
       → TruthsStand (the_book l.book) (condition_in (the_book l.book) m) (phase_in (the_book l.book) m) l.now l.fn.truths
       → OthersStay (the_book l.book) (condition_in (the_book l.book) m) (phase_in (the_book l.book) m) l.now l.truths.due;
-  stands : (m : ℕ → Moment) (visits : ℕ) → Lends (the_book l.book) m l.now l.env → l.env.phase.number ≡ phase_in (the_book l.book) m l.now
+  stands : (m : ℕ → Moment) (visits : ℕ) → Lends (the_book l.book) m l.now l.env → l.phase.number ≡ phase_in (the_book l.book) m l.now
       → WasPhase (the_book l.book) m l.now l.fn.was → BookHalf (the_book l.book) m l.now alerts_from 1 visits l.fn.terms
       → TruthsStand (the_book l.book) (condition_in (the_book l.book) m) (phase_in (the_book l.book) m) l.now l.fn.truths
       → AlertsHalf (the_book l.book) m l.now l.next visits l.terms l.truths;

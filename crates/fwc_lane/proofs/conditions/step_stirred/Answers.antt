@@ -14,10 +14,10 @@ run_term-requires-clause-woken c =
     fits.stirs c.args.number c.requires.stirred
 
 pub returns-then-now-gt0-clause-steps : goal.returns-then-now-gt0-clause-steps
-returns-then-now-gt0-clause-steps c = λ b p fits here names. c.run_term.ensures.steps b p c.args.env.now fits here
+returns-then-now-gt0-clause-steps c = λ b p fits here names. c.run_term.ensures.steps b p (record c.args.env.now { phase = c.args.phase; active = c.args.active }) fits here
 
 pub returns-clause-steps : goal.returns-clause-steps
 returns-clause-steps c = λ b p fits here names.
     let first : 0 ≡ c.args.now = omega (arith, c.if-now-gt0.false) in
-    subst (λ k. StepsTerm (places b) c.args.env.now k c.args.number p c.args.terms.now c.begin_term.new.terms c.begin_term.result) first
-    (c.begin_term.ensures.steps b p fits here names)
+    subst (λ k. StepsTerm (places b) (record c.args.env.now { phase = c.args.phase; active = c.args.active }) k c.args.number p c.args.terms.now c.begin_whole.new.terms c.begin_whole.result) first
+    (c.begin_whole.ensures.steps b p fits here names)

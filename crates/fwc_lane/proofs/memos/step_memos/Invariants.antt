@@ -1,4 +1,4 @@
-use Rattle.std.proofs.Common.{◌≡◌, ◌≤◌, ◌-◌, ℕ, suc, false, length}
+use Rattle.std.proofs.Common.{◌≡◌, ◌≤◌, ◌-◌, ℕ, Bool, List, Bor, suc, false, length}
 use Rattle.ecam_spec.specs.History.{Moment}
 use Rattle.ecam_spec.specs.Situation.{world}
 use Rattle.book_model.specs.Sealed.{the_book}
@@ -13,7 +13,8 @@ invariant-loop-memo l = record {
   most : l.next ≤ length l.book.memos.items;
   fits : TermsFit (the_book l.book) l.terms;
   flags : length l.flags.items ≡ length l.fn.flags.items;
-  stands : (m : ℕ → Moment) (visits : ℕ) → ShowsFirst l.env (world (the_book l.book) m) l.now
+  stands : (active : Bor (List Bool)) → active.now ≡ l.active → (m : ℕ → Moment) (visits : ℕ)
+      → ShowsFirst (record l.env { phase = l.phase; active = active }) (world (the_book l.book) m) l.now
       → MemosWere (the_book l.book) m l.now l.fn.flags.items
       → BookHalf (the_book l.book) m l.now (memos_from (the_book l.book)) (suc (length (the_book l.book).alerts)) visits l.fn.terms
       → MemosHalf (the_book l.book) m l.now l.next visits l.terms l.flags.items;

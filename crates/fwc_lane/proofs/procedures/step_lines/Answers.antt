@@ -5,6 +5,7 @@ use Rattle.book_model.proofs.BookLists.{many-alerts}
 use Rattle.book_model.proofs.ConditionPlaces.{all-places}
 use Rattle.fwc_lane.specs.Conditions.{LinesHalf}
 use Rattle.fwc_lane.specs.LineFlags.{AreLineAlerts, stands_by}
+use Rattle.fwc_lane.proofs.Showing.{shows-list}
 use Rattle.fwc_lane.proofs.FlagSteps.{set-length, left-false, right-false}
 use Rattle.fwc_lane.proofs.ProcedureSteps.{condition-place, line-on, lines-begin, lines-past, lines-told}
 use Rattle.fwc_lane.proofs.procedures.step_lines.Goals as goal
@@ -23,7 +24,7 @@ loop-number-init c =
       marked = λ lt. found.marked (omega (arith, lt, c.first_memo-end.ensures));
       fits = c.requires.fits;
       flags = refl;
-      stands = λ m visits shows were half.
+      stands = λ active same m visits shows were half.
           lines-past d c.sealed.ensures m c.args.now visits _ _ c.requires.now (lines_from (the_book d)) c.next_or-number.result (omega arith) (omega (arith, found.from, first)) (omega (arith, found.end, c.first_memo-end.ensures))
           (λ j low high. found.none j (omega (arith, low, first)) high) (lines-begin d c.sealed.ensures m c.args.now visits _ _ were half);
       kept = λ e a n on has. refl;
@@ -82,15 +83,15 @@ loop-number-preserved c =
       marked = λ lt. next.marked (omega (arith, lt, c.first_memo-end.ensures));
       fits = fits;
       flags = set-length _ _ _ _ false c.note_line-other.ensures.items ∙ c.loop-number.invariant.flags;
-      stands = λ m visits shows were half.
+      stands = λ active same m visits shows were half.
           let (p, here, names) = condition-place d c.sealed.ensures i less in
           lines-past d c.sealed.ensures m c.args.now visits c.step_stirred.new.terms c.note_line-other.new.flags.items c.requires.now (i + 1) c.next_or-number-in-loop-number.result
           (omega (arith, c.loop-number.invariant.from)) next.from end next.none
           (subst (λ j. LinesHalf b m c.args.now j visits c.step_stirred.new.terms c.note_line-other.new.flags.items) (sym (add-one i))
           (line-on d c.sealed.ensures m c.args.now visits n i p c.loop-number.invariant.from (omega (arith, first, c.loop-number.invariant.from)) (omega (arith, first, c.loop-number.invariant.from)) here
-          c.args.env.now shows c.loop-number.terms c.step_stirred.new.terms c.step_stirred.result
+          (record c.args.env.now { phase = c.args.phase; active = c.args.active }) (shows-list c.args.env.now c.args.phase _ c.args.now active c.args.active same shows) c.loop-number.terms c.step_stirred.new.terms c.step_stirred.result
           (c.step_stirred.ensures.steps b p c.loop-number.invariant.fits here (rw (c.requires.values, c.requires.active) names)) c.step_stirred.ensures.truths
-          c.loop-number.flags.items c.note_line-other.new.flags.items is room (c.loop-number.invariant.stands m visits shows were half)));
+          c.loop-number.flags.items c.note_line-other.new.flags.items is room (c.loop-number.invariant.stands active same m visits shows were half)));
       kept = λ off.
           let none = sym c.is_either-turned.ensures ∙ off in
           let alerts = subst (AreLineAlerts b) (sym c.deref.ensures.value) fits.line_alerts in
@@ -102,11 +103,11 @@ returns-clause-told c = λ m visits shows were half.
     let d = c.args.book.now in
     let all : c.loop-number.number ≡ memos_from (the_book d) = omega (arith, c.loop-number-test.false, c.loop-number.invariant.most, c.first_memo-end.ensures) in
     lines-told d c.sealed.ensures m c.args.now visits c.loop-number.terms c.loop-number.flags.items
-    (subst (λ i. LinesHalf (the_book d) m c.args.now i visits c.loop-number.terms c.loop-number.flags.items) all (c.loop-number.invariant.stands m visits shows were half))
+    (subst (λ i. LinesHalf (the_book d) m c.args.now i visits c.loop-number.terms c.loop-number.flags.items) all (c.loop-number.invariant.stands c.args.active refl m visits shows were half))
 
 pub returns-clause-stands : goal.returns-clause-stands
 returns-clause-stands c = λ m visits shows were half.
     let d = c.args.book.now in
     let all : c.loop-number.number ≡ memos_from (the_book d) = omega (arith, c.loop-number-test.false, c.loop-number.invariant.most, c.first_memo-end.ensures) in
-    let last = subst (λ i. LinesHalf (the_book d) m c.args.now i visits c.loop-number.terms c.loop-number.flags.items) all (c.loop-number.invariant.stands m visits shows were half) in
+    let last = subst (λ i. LinesHalf (the_book d) m c.args.now i visits c.loop-number.terms c.loop-number.flags.items) all (c.loop-number.invariant.stands c.args.active refl m visits shows were half) in
     last.terms

@@ -1,4 +1,4 @@
-use Rattle.std.proofs.Common.{◌≡◌, ◌<◌, ◌≤◌, ◌-◌, ℕ, suc, true, false, length}
+use Rattle.std.proofs.Common.{◌≡◌, ◌<◌, ◌≤◌, ◌-◌, ℕ, Bool, List, Bor, suc, true, false, length}
 use Rattle.ecam_spec.specs.History.{Moment}
 use Rattle.ecam_spec.specs.Situation.{world}
 use Rattle.book_model.specs.Sealed.{the_book}
@@ -17,7 +17,8 @@ invariant-loop-number l = record {
   marked : l.number < memos_from (the_book l.book) → is_marked l.terms.stirred l.number ≡ true;
   fits : TermsFit (the_book l.book) l.terms;
   flags : length l.flags.items ≡ length l.fn.flags.items;
-  stands : (m : ℕ → Moment) (visits : ℕ) → ShowsFirst l.env (world (the_book l.book) m) l.now
+  stands : (active : Bor (List Bool)) → active.now ≡ l.active → (m : ℕ → Moment) (visits : ℕ)
+      → ShowsFirst (record l.env { phase = l.phase; active = active }) (world (the_book l.book) m) l.now
       → LinesWere (the_book l.book) m l.now l.fn.flags.items
       → BookHalf (the_book l.book) m l.now (lines_from (the_book l.book)) (suc (length (the_book l.book).alerts)) visits l.fn.terms
       → LinesHalf (the_book l.book) m l.now l.number visits l.terms l.flags.items;

@@ -8,18 +8,19 @@ pub step_lines-lines-requires-clause-active : goal.step_lines-lines-requires-cla
 step_lines-lines-requires-clause-active c = omega (arith, ap length c.active.ensures.value, c.step_alerts.ensures.fits.active, many-alerts c.args.book.now)
 
 pub step_memos-memos-requires-clause-active : goal.step_memos-memos-requires-clause-active
-step_memos-memos-requires-clause-active c = omega (arith, ap length c.active.ensures.value, c.step_alerts.ensures.fits.active, many-alerts c.args.book.now)
+step_memos-memos-requires-clause-active c = omega (arith, ap length c.active-2.ensures.value, c.step_alerts.ensures.fits.active, many-alerts c.args.book.now)
 
 pub returns-clause-stands : goal.returns-clause-stands
 returns-clause-stands c = λ m visits lends was.
     let b = the_book c.args.book.now in
     let phase = c.step_phase-phase.ensures.phase m visits lends was.terms was.phases in
     let alerts = c.step_phase-phase.ensures.stands m visits lends was.terms was.phases was.was in
-    let truths = c.step_alerts.ensures.truths m visits (record { values = lends.values; pressed = lends.pressed; one_up = lends.one_up; two_up = lends.two_up }) phase was.was alerts was.truths in
-    let lines = c.step_alerts.ensures.stands m visits (record { values = lends.values; pressed = lends.pressed; one_up = lends.one_up; two_up = lends.two_up }) phase was.was alerts was.truths in
+    let truths = c.step_alerts.ensures.truths m visits lends phase was.was alerts was.truths in
+    let lines = c.step_alerts.ensures.stands m visits lends phase was.was alerts was.truths in
     let shows = shows-whole b m c.args.now c.args.env.now lends _ c.step_phase-phase.result c.active.result phase c.active.ensures.value truths in
+    let later = shows-whole b m c.args.now c.args.env.now lends _ c.step_phase-phase.result c.active-2.result phase c.active-2.ensures.value truths in
     record {
-      terms = c.step_memos-memos.ensures.stands m visits shows was.memos (c.step_lines-lines.ensures.stands m visits shows was.lines lines);
+      terms = c.step_memos-memos.ensures.stands m visits later was.memos (c.step_lines-lines.ensures.stands m visits shows was.lines lines);
       phases = c.step_phase-phase.ensures.state m visits lends was.terms was.phases;
       truths = truths;
     }
@@ -32,8 +33,8 @@ returns-clause-line_flags c = λ m visits lends was.
     let b = the_book c.args.book.now in
     let phase = c.step_phase-phase.ensures.phase m visits lends was.terms was.phases in
     let alerts = c.step_phase-phase.ensures.stands m visits lends was.terms was.phases was.was in
-    let truths = c.step_alerts.ensures.truths m visits (record { values = lends.values; pressed = lends.pressed; one_up = lends.one_up; two_up = lends.two_up }) phase was.was alerts was.truths in
-    let lines = c.step_alerts.ensures.stands m visits (record { values = lends.values; pressed = lends.pressed; one_up = lends.one_up; two_up = lends.two_up }) phase was.was alerts was.truths in
+    let truths = c.step_alerts.ensures.truths m visits lends phase was.was alerts was.truths in
+    let lines = c.step_alerts.ensures.stands m visits lends phase was.was alerts was.truths in
     let shows = shows-whole b m c.args.now c.args.env.now lends _ c.step_phase-phase.result c.active.result phase c.active.ensures.value truths in
     c.step_lines-lines.ensures.told m visits shows was.lines lines
 
@@ -42,7 +43,8 @@ returns-clause-memo_flags c = λ m visits lends was.
     let b = the_book c.args.book.now in
     let phase = c.step_phase-phase.ensures.phase m visits lends was.terms was.phases in
     let alerts = c.step_phase-phase.ensures.stands m visits lends was.terms was.phases was.was in
-    let truths = c.step_alerts.ensures.truths m visits (record { values = lends.values; pressed = lends.pressed; one_up = lends.one_up; two_up = lends.two_up }) phase was.was alerts was.truths in
-    let lines = c.step_alerts.ensures.stands m visits (record { values = lends.values; pressed = lends.pressed; one_up = lends.one_up; two_up = lends.two_up }) phase was.was alerts was.truths in
+    let truths = c.step_alerts.ensures.truths m visits lends phase was.was alerts was.truths in
+    let lines = c.step_alerts.ensures.stands m visits lends phase was.was alerts was.truths in
     let shows = shows-whole b m c.args.now c.args.env.now lends _ c.step_phase-phase.result c.active.result phase c.active.ensures.value truths in
-    c.step_memos-memos.ensures.told m visits shows was.memos (c.step_lines-lines.ensures.stands m visits shows was.lines lines)
+    let later = shows-whole b m c.args.now c.args.env.now lends _ c.step_phase-phase.result c.active-2.result phase c.active-2.ensures.value truths in
+    c.step_memos-memos.ensures.told m visits later was.memos (c.step_lines-lines.ensures.stands m visits shows was.lines lines)
