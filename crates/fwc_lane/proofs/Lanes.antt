@@ -120,7 +120,6 @@ fits-with b old p q i fits own idle = record {
   selector = fits.selector;
   values = fits.values;
   short = fits.short;
-  turned = fits.turned;
   terms = fits.terms;
   lines = fits.lines;
   memos = fits.memos;

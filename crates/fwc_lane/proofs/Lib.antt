@@ -37,7 +37,6 @@ pub mod Lanes
 pub mod FreshLanes
 pub mod ValueSteps
 pub mod ValueWords
-pub mod TurnedFlags
 pub mod PageRest
 pub mod ZoneSteps
 pub mod TermsKept

@@ -1,5 +1,5 @@
 -- A page that stays from the moment before: it stood with the values of that moment.
-use Rattle.std.proofs.Common.{◌≡◌, ◌↔◌, ℕ, zero, suc, ◌<◌, Bool, true, false, List, length, get_or, slice_get, Option, Some, refl, sym, ap, subst, ◌∙◌}
+use Rattle.std.proofs.Common.{◌≡◌, ◌↔◌, ℕ, zero, suc, ◌<◌, Bool, true, false, List, length, slice_get, Option, Some, refl, sym, ap, subst, ◌∙◌}
 use Rattle.std.specs.Prelude.{ℤ}
 use Rattle.std.specs.Option.{option_and_then}
 use Rattle.ecam_spec.specs.declared.kinds.Choice.{Choice}
@@ -12,6 +12,7 @@ use Rattle.ecam_spec.specs.Selection.{choice}
 use Rattle.ecam_spec.specs.Situation.{alert_at, phase_in, value_in}
 use Rattle.ecam_spec.specs.Screen.{panel, display, shown_in}
 use Rattle.ecam_spec.specs.SystemDisplay.{Display, called_page, page_rows, display_rows}
+use Rattle.wakes.specs.Marks.{is_marked}
 use Rattle.param_table.specs.Asked.{is_asked_for}
 use Rattle.system_display.specs.Pages.{DifferBy}
 use Rattle.system_display.specs.Selecting.{IsKept}
@@ -36,11 +37,11 @@ module _ (b : Book) (m : ℕ → Moment) where
     stand = was j refl;
   }
 
-  module _ (k : ℕ) (these : List (Option ℤ)) (flags : List Bool)
-      (stays : (j : ℕ) → k ≡ suc j → (p : ℕ) → p < length b.parameters → is_asked_for b p ≡ true → get_or flags p false ≡ false → value_in b m p k ≡ value_in b m p j)
+  module _ (k : ℕ) (these : List (Option ℤ)) (marks : List ℕ)
+      (stays : (j : ℕ) → k ≡ suc j → (p : ℕ) → p < length b.parameters → is_asked_for b p ≡ true → is_marked marks p ≡ false → value_in b m p k ≡ value_in b m p j)
       (rows : List Row) (there : PageStands b m k rows) where
-    differ : DifferBy b flags (display_with b m there.before these) (display_with b m k these)
-    differ = differ-with b m there.before k these flags (stays there.before there.next)
+    differ : DifferBy b marks (display_with b m there.before these) (display_with b m k these)
+    differ = differ-with b m there.before k these marks (stays there.before there.next)
 
     -- it shows a page of the book as the display of that moment
     stood : (o : Option ℕ) → StandAt 15 (page_rows (display b m there.before) (option_and_then (slice_get b.pages) o)) rows
@@ -54,7 +55,7 @@ module _ (b : Book) (m : ℕ → Moment) where
     -- the page that the situation calls for
     pub auto-stood : (first page : Option ℕ) → Auto ≡ choice (panel b m) k → first ≡ target (shown_in b m) (suc k)
         → ((d : Display) → d.pages ≡ b.pages → d.phase ≡ phase_in b m k → d.alert_page ≡ option_and_then (λ a. (alert_at b a).page) first → option_and_then (slice_get b.pages) page ≡ called_page d)
-        → HasStood b flags (display_with b m k these) (option_and_then (slice_get b.pages) page) rows
+        → HasStood b marks (display_with b m k these) (option_and_then (slice_get b.pages) page) rows
     unfolding display_rows display target
     auto-stood first page is begins called =
         let same : option_and_then (slice_get b.pages) page ≡ called_page (display b m there.before) =
@@ -68,7 +69,7 @@ module _ (b : Book) (m : ℕ → Moment) where
         }
 
     -- a page that is chosen
-    pub chosen-stood : (i : ℕ) → Page i ≡ choice (panel b m) k → HasStood b flags (display_with b m k these) (option_and_then (slice_get b.pages) (Some i)) rows
+    pub chosen-stood : (i : ℕ) → Page i ≡ choice (panel b m) k → HasStood b marks (display_with b m k these) (option_and_then (slice_get b.pages) (Some i)) rows
     unfolding display_rows display
     chosen-stood i is = record {
       was = display_with b m there.before these;

@@ -11,6 +11,7 @@ use Rattle.ecam_spec.specs.History.{Moment}
 use Rattle.ecam_spec.specs.SystemDisplay.{Display, page_rows, page_row, shown_value, value_row, value_text, called_page}
 use Rattle.ecam_spec.specs.Situation.{value_in}
 use Rattle.ecam_spec.specs.Screen.{display}
+use Rattle.wakes.specs.Marks.{is_marked}
 use Rattle.param_table.specs.Asked.{is_asked_for}
 use Rattle.param_table.proofs.AskedFor.{shown_asked}
 use Rattle.system_display.specs.Pages.{Displays, DifferBy}
@@ -101,13 +102,13 @@ module _ (b : Book) (m : ℕ → Moment) where
     unfolding display
     page-with o own = page-alike b (display_with k these) (display b m k) (λ p. refl) (λ p on. asked-value p on) o own
 
-  -- the displays of two moments, with other values only where a flag is set
-  pub differ-with : (j k : ℕ) (these : List (Option ℤ)) (flags : List Bool)
-      → ((p : ℕ) → p < length b.parameters → is_asked_for b p ≡ true → get_or flags p false ≡ false → value_in b m p k ≡ value_in b m p j)
-      → DifferBy b flags (display_with j these) (display_with k these)
+  -- the displays of two moments, with other values only of the parameters that are marked
+  pub differ-with : (j k : ℕ) (these : List (Option ℤ)) (marks : List ℕ)
+      → ((p : ℕ) → p < length b.parameters → is_asked_for b p ≡ true → is_marked marks p ≡ false → value_in b m p k ≡ value_in b m p j)
+      → DifferBy b marks (display_with j these) (display_with k these)
   unfolding display
-  differ-with j k these flags stays = record { kinds = λ p lt. refl; values = λ p lt off. by p lt off (is_asked_for b p) refl } where
-    by : (p : ℕ) → p < length b.parameters → get_or flags p false ≡ false → (asked : Bool) → is_asked_for b p ≡ asked
+  differ-with j k these marks stays = record { kinds = λ p lt. refl; values = λ p lt off. by p lt off (is_asked_for b p) refl } where
+    by : (p : ℕ) → p < length b.parameters → is_marked marks p ≡ false → (asked : Bool) → is_asked_for b p ≡ asked
         → (display_with j these).values p ≡ (display_with k these).values p
     by p lt off true on = asked-value j these p on ∙ sym (stays p lt on off) ∙ sym (asked-value k these p on)
     by p lt off false none = other-value j these p none ∙ sym (other-value k these p none)

@@ -103,5 +103,5 @@ module _ (d : Draft) (sealed : IsSealed d) (m : ℕ → Moment) (old : Lane) (fi
 
   pub begun : HasBegun b m k old.terms.cells.visits old.terms.one_up old.terms.two_up false (record old { terms = unmarked })
   begun =
-      has-begun b m k old.terms.cells.visits old.terms.one_up old.terms.two_up false old unmarked old.values old.turned was came begun-terms
-      (λ e. absurd (let w : ⊥ = (let clash : true ≡ false = sym rest.calm.ticked ∙ was.ticked ∙ ap (ltb 0) e in cc) in w)) still (λ off. refl) (λ p off. refl) old.idle
+      has-begun b m k old.terms.cells.visits old.terms.one_up old.terms.two_up false old unmarked old.values was came begun-terms
+      (λ e. absurd (let w : ⊥ = (let clash : true ≡ false = sym rest.calm.ticked ∙ was.ticked ∙ ap (ltb 0) e in cc) in w)) still (λ off. refl) old.idle

@@ -70,6 +70,12 @@ pub value-before : (b : Book) (m : ℕ → Moment) (k : ℕ) (values : List (Opt
 unfolding value_before value_in
 value-before b m k values before j e p lt on = before p lt on ∙ ap (value_before (parameter_at b p) (words_in b m)) e
 
+-- a value that is that of the moment before, by the words so far
+pub value-kept : (b : Book) (m : ℕ → Moment) (k j : ℕ) → k ≡ suc j → (p : ℕ) → value (parameter_at b p) (words_in b m) k ≡ value_before (parameter_at b p) (words_in b m) k
+    → value_in b m p k ≡ value_in b m p j
+unfolding value_before value_in
+value-kept b m k j e p same = same ∙ ap (value_before (parameter_at b p) (words_in b m)) e
+
 pub are-turned : (b : Book) (m : ℕ → Moment) (k visited : ℕ) (one two : Bool) (old : Lane) (t : Turned) (phase : Phase) (values : Bool) (lines memos : List Bool) (marks : CrewMarks) (was calm : Bool)
     → HasBegun b m k visited one two values old → TurnedFrom b m k old t phase values lines memos marks was calm → AreTurned b m k t
 unfolding previous
@@ -146,17 +152,15 @@ terms-after b m k visited t params keys kept one two same all came =
     }
 
 -- a moment has begun in a lane that stood for those before it
-pub has-begun : (b : Book) (m : ℕ → Moment) (k visited : ℕ) (one two turned : Bool) (old : Lane) (t : Terms) (values : Vec (Option ℤ) Global) (flags : Vec Bool Global) → WholeStands b m k old → Came b m k old.params old.keys one two
+pub has-begun : (b : Book) (m : ℕ → Moment) (k visited : ℕ) (one two turned : Bool) (old : Lane) (t : Terms) (values : Vec (Option ℤ) Global) → WholeStands b m k old → Came b m k old.params old.keys one two
     → BookHalf b m k 0 0 visited t → (k ≡ 0 → (p : ℕ) → p < length b.parameters → get_or values.items p None ≡ value_in b m p k)
     → ((p : ℕ) → p < length b.parameters → is_asked_for b p ≡ true → get_or values.items p None ≡ value_in b m p k) → (turned ≡ false → values.items ≡ old.values.items)
-    → ((p : ℕ) → get_or flags.items p false ≡ false → get_or values.items p None ≡ get_or old.values.items p None)
-    → (idle : Bool) → HasBegun b m k visited one two turned (record old { terms = t; values = values; turned = flags; idle = idle })
-has-begun b m k visited one two turned old t values flags was came half all told kept stays idle = record {
+    → (idle : Bool) → HasBegun b m k visited one two turned (record old { terms = t; values = values; idle = idle })
+has-begun b m k visited one two turned old t values was came half all told kept idle = record {
   came = came;
   all = all;
   values = told;
   kept = λ off j e p lt on. sym (told p lt on) ∙ ap (λ vs. get_or vs p None) (kept off) ∙ value-before b m k old.values.items was.values j e p lt on;
-  flags = λ j e p lt on off. sym (told p lt on) ∙ stays p off ∙ value-before b m k old.values.items was.values j e p lt on;
   terms = half;
   ticked = was.ticked;
   phases = was.phases;

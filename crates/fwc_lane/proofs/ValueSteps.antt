@@ -5,8 +5,8 @@ use Rattle.std.specs.Ordering.{int_eq}
 use Rattle.std.proofs.lemmas.Int.{ints}
 use Rattle.std.proofs.lemmas.Bool.Decides.{Decides-int_eq}
 use Rattle.std.proofs.Math.Bool.{and-false, and-true, or-false}
-use Rattle.std.proofs.lemmas.Bool.{cases_eq, cases_lt, eq-eqb, eqb-true, ne_eqb, true≢false}
-use Rattle.std.proofs.lemmas.List.{get_or-set_other, length-set}
+use Rattle.std.proofs.lemmas.Bool.{cases_eq, cases_lt, eq-eqb, eqb-true, ne_eqb}
+use Rattle.std.proofs.lemmas.List.{get_or-set_other}
 use Rattle.std.proofs.lemmas.List.Elements.{All-from_get_or, All-set}
 use Rattle.ecam_spec.specs.declared.kinds.Kind.{Kind}
 use Rattle.ecam_spec.specs.declared.kinds.Kind.TheVariants.{Disc, Bnr, Bcd}
@@ -26,7 +26,6 @@ use Rattle.fwc_lane.proofs.Awake.{awake-none, awake-off, awake-then}
 use Rattle.fwc_lane.proofs.FlagSteps.{set-own, set-length}
 use Rattle.fwc_lane.proofs.Listing.{right-true}
 use Rattle.fwc_lane.proofs.Ranges.{ranged-in, ranged-above}
-use Rattle.fwc_lane.proofs.TurnedFlags.{turned-then}
 
 pub is-short : (kind : Kind) (o : Option ℤ) → IfSome o (IsValueOf kind) → IfSome o IsShort
 is-short Bnr None h = h
@@ -104,25 +103,22 @@ module _ (n p : ℕ) (was before after : List (Option ℤ)) (there : p < n) (kep
 
 module _ (b : Book) (params : Params) (was : List (Option ℤ)) (first : Terms) where
   -- none is
-  pub read-none : (flags : List Bool) → length was ≡ length b.parameters → length flags ≡ length b.parameters → AreShort was → TermsFit b first → AreReadTo b params was first 0 was flags first
-  read-none flags many long short fits = record {
+  pub read-none : length was ≡ length b.parameters → AreShort was → TermsFit b first → AreReadTo b params was first 0 was first
+  read-none many short fits = record {
     many = many;
-    flagged = long;
     short = short;
     fits = fits;
     read = λ words k stands before p lt. absurd (omega arith);
     later = λ p le. refl;
-    turned = λ p off. refl;
     wakes = awake-none b (ranged 0 (length b.parameters) (value_turned was was)) (λ o. Value (get_or was o None)) first (none-turned (length b.parameters) was);
   }
 
-  module _ (from : ℕ) (now : List (Option ℤ)) (flags : List Bool) (terms : Terms) (is : AreReadTo b params was first from now flags terms) where
+  module _ (from : ℕ) (now : List (Option ℤ)) (terms : Terms) (is : AreReadTo b params was first from now terms) where
     -- some that follow have no other value
     pub read-over : (end : ℕ) → from ≤ end → ((words : ℕ → List BusWord) (k : ℕ) → ParamsStand b words k params → (p : ℕ) → from ≤ p → p < end → p < length b.parameters → is_asked_for b p ≡ true
-        → value (parameter_at b p) words k ≡ value_before (parameter_at b p) words k) → AreReadTo b params was first end now flags terms
+        → value (parameter_at b p) words k ≡ value_before (parameter_at b p) words k) → AreReadTo b params was first end now terms
     read-over end more same = record {
       many = is.many;
-      flagged = is.flagged;
       short = is.short;
       fits = is.fits;
       read = λ words k stands before p low within on. elim (cases_lt p from) [
@@ -130,7 +126,6 @@ module _ (b : Book) (params : Params) (was : List (Option ℤ)) (first : Terms) 
         | inr le ↦ is.later p le ∙ before p within on ∙ sym (same words k stands p le low within on)
       ];
       later = λ p le. is.later p (omega (arith, le, more));
-      turned = is.turned;
       wakes = is.wakes;
     }
 
@@ -149,12 +144,10 @@ module _ (b : Book) (params : Params) (was : List (Option ℤ)) (first : Terms) 
       turned-is : not (option_eq int_eq v (get_or now from None)) ≡ value_turned was after from
       turned-is = ap (λ x. not (option_eq int_eq v x)) as-first ∙ ap (λ x. not (option_eq int_eq x (get_or was from None))) (sym own)
 
-      read-next : (turns : Bool) → turns ≡ not (option_eq int_eq v (get_or now from None)) → (flags' : List Bool) (terms' : Terms)
-          → length flags' ≡ length flags → ((i : ℕ) → get_or flags' i false ≡ false → get_or after i None ≡ get_or was i None)
-          → TermsFit b terms' → HasWoken b (λ o. turns && eqb o from) (λ o. Value v) terms terms' → AreReadTo b params was first (from + 1) after flags' terms'
-      read-next turns flag flags' terms' long told fits wakes = record {
+      read-next : (turns : Bool) → turns ≡ not (option_eq int_eq v (get_or now from None)) → (terms' : Terms)
+          → TermsFit b terms' → HasWoken b (λ o. turns && eqb o from) (λ o. Value v) terms terms' → AreReadTo b params was first (from + 1) after terms'
+      read-next turns flag terms' fits wakes = record {
         many = set-length now after from v None set-is ∙ is.many;
-        flagged = long ∙ is.flagged;
         short = subst AreShort (sym set-is) (All-set (λ x. IfSome x IsShort) now from v (is-short _ v bound) is.short);
         fits = fits;
         read = λ words k stands before p low within on. elim (cases_eq p from) [
@@ -162,7 +155,6 @@ module _ (b : Book) (params : Params) (was : List (Option ℤ)) (first : Terms) 
           | inr ne ↦ others p ne ∙ is.read words k stands before p (omega (arith, low, ne)) within on
         ];
         later = λ p le. others p (λ e. absurd (omega (arith, le, e))) ∙ is.later p (omega (arith, le));
-        turned = told;
         wakes = awake-then b (ranged 0 (length b.parameters) (value_turned was now)) (λ o. turns && eqb o from) (ranged 0 (length b.parameters) (value_turned was after))
             (λ o. Value (get_or now o None)) (λ o. Value v) (λ o. Value (get_or after o None)) first terms terms'
             (λ o.
@@ -174,14 +166,10 @@ module _ (b : Book) (params : Params) (was : List (Option ℤ)) (first : Terms) 
       }
 
       -- one that is as it was wakes none
-      pub read-same : not (option_eq int_eq v (get_or now from None)) ≡ false → after ≡ now → AreReadTo b params was first (from + 1) after flags terms
-      read-same off kept =
-          read-next false (sym off) flags terms refl (λ i told. ap (λ ys. get_or ys i None) kept ∙ is.turned i told) is.fits (awake-off b from (λ o. Value v) terms false refl)
+      pub read-same : not (option_eq int_eq v (get_or now from None)) ≡ false → AreReadTo b params was first (from + 1) after terms
+      read-same off = read-next false (sym off) terms is.fits (awake-off b from (λ o. Value v) terms false refl)
 
-      -- one that is another has its flag
+      -- one that is another wakes
       pub read-turned : not (option_eq int_eq v (get_or now from None)) ≡ true → (terms' : Terms) → TermsFit b terms' → HasWoken b (λ o. true && eqb o from) (λ o. Value v) terms terms'
-          → AreReadTo b params was first (from + 1) after (set flags from true) terms'
-      read-turned on terms' fits wakes =
-          read-next true (sym on) (set flags from true) terms' (length-set flags from true)
-          (turned-then flags (set flags from true) from true refl now after was (omega (arith, is.flagged, there)) (λ e. absurd (true≢false e)) as-first others is.turned)
-          fits wakes
+          → AreReadTo b params was first (from + 1) after terms'
+      read-turned on terms' fits wakes = read-next true (sym on) terms' fits wakes

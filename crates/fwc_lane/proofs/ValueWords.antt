@@ -1,5 +1,5 @@
 -- The parameters of one word are gone through by its bits.
-use Rattle.std.proofs.Common.{◌≡◌, ℕ, ◌+◌, ◌-◌, ◌*◌, ◌/◌, ◌%◌, ◌^◌, ◌<◌, ◌≤◌, Bool, true, ℤ, List, length, Option, sym, ap, subst, ◌∙◌, inl, inr, arith}
+use Rattle.std.proofs.Common.{◌≡◌, ℕ, ◌+◌, ◌-◌, ◌*◌, ◌/◌, ◌%◌, ◌^◌, ◌<◌, ◌≤◌, true, ℤ, List, length, Option, sym, ap, subst, ◌∙◌, inl, inr, arith}
 use Rattle.std.specs.Int.{bit_at}
 use Rattle.std.proofs.lemmas.Bool.{cases_lt}
 use Rattle.std.proofs.lemmas.Nat.{shr-shr}
@@ -38,10 +38,10 @@ module _ (word place from rest : ℕ) (begin : 64 * place ≤ from) (is : rest �
   -- those whose bits aren't set have no other value
   pub over-unset : (b : Book) (params : Params) → ((words : ℕ → List BusWord) (k : ℕ) → ParamsStand b words k params → (i : ℕ) → i < 64 → bit_at word i ≡ 0 → 64 * place + i < length b.parameters
       → is_asked_for b (64 * place + i) ≡ true → value (parameter_at b (64 * place + i)) words k ≡ value_before (parameter_at b (64 * place + i)) words k)
-      → (was : List (Option ℤ)) (first : Terms) (values : List (Option ℤ)) (flags : List Bool) (terms : Terms) → AreReadTo b params was first from values flags terms
-      → (end : ℕ) → from ≤ end → end ≤ 64 * place + 64 → ((i : ℕ) → from + i < end → bit_at rest i ≡ 0) → AreReadTo b params was first end values flags terms
-  over-unset b params same was first values flags terms read end more most unset =
-      read-over b params was first from values flags terms read end more (λ words k stands p le lt within on.
+      → (was : List (Option ℤ)) (first : Terms) (values : List (Option ℤ)) (terms : Terms) → AreReadTo b params was first from values terms
+      → (end : ℕ) → from ≤ end → end ≤ 64 * place + 64 → ((i : ℕ) → from + i < end → bit_at rest i ≡ 0) → AreReadTo b params was first end values terms
+  over-unset b params same was first values terms read end more most unset =
+      read-over b params was first from values terms read end more (λ words k stands p le lt within on.
       let i = p - 64 * place in
       let at : 64 * place + i ≡ p = omega (arith, begin, le) in
       let here : from - 64 * place + (p - from) ≡ i = omega (arith, begin, le) in

@@ -17,16 +17,13 @@ use Rattle.fwc_lane.specs.Drawn.{IsDrawn}
 use Rattle.fwc_lane.specs.declared.lane.Lane.{Lane}
 
 -- what came in moment k is read: in the first moment the values are those of the moment, in a later one those of the
--- parameters that the book asks for are, where none turned as in the one before, and so is each whose flag isn't set. Marked
--- are the conditions that the moment wakes. So many nodes were visited before it. All else is what the moments before it
--- left
+-- parameters that the book asks for are, where none turned as in the one before. Marked are the conditions that the moment
+-- wakes. So many nodes were visited before it. All else is what the moments before it left
 pub record HasBegun (b : Book) (m : ℕ → Moment) (k visited : ℕ) (one two turned : Bool) (l : Lane) : Type 0 where
   pub came : Came b m k l.params l.keys one two
   pub all : k ≡ 0 → (p : ℕ) → p < length b.parameters → slice_index_or l.values.items p None ≡ value_in b m p k
   pub values : (p : ℕ) → p < length b.parameters → is_asked_for b p ≡ true → slice_index_or l.values.items p None ≡ value_in b m p k
   pub kept : turned ≡ false → (j : ℕ) → k ≡ suc j → (p : ℕ) → p < length b.parameters → is_asked_for b p ≡ true → value_in b m p k ≡ value_in b m p j
-  pub flags : (j : ℕ) → k ≡ suc j → (p : ℕ) → p < length b.parameters → is_asked_for b p ≡ true → slice_index_or l.turned.items p false ≡ false
-      → value_in b m p k ≡ value_in b m p j
   pub terms : BookHalf b m k 0 0 visited l.terms
   pub ticked : l.ticked ≡ nat_lt 0 k
   pub phases : flight_phases.Stands (flight b m) k l.phase_state

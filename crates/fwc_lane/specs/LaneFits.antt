@@ -23,7 +23,6 @@ pub record LaneFits (b : Book) (l : Lane) : Type 0 where
   pub selector : SelectorFits b l.selector
   pub values : length l.values.items ≡ length b.parameters
   pub short : AreShort l.values.items
-  pub turned : length l.turned.items ≡ length b.parameters
   pub terms : TermsFit b l.terms
   pub lines : length l.lines.items ≡ length (lines_of b.alerts)
   pub memos : length l.memos.items ≡ length b.memos

@@ -28,8 +28,8 @@ pub record PageStands (b : Book) (m : ℕ → Moment) (k : ℕ) (rows : List Row
   pub called : choice (panel b m) k ≡ Auto → called_page (display b m k) ≡ called_page (display b m before)
   pub stand : StandAt 15 (display_rows_in b m before) rows
 
--- the page stands in these rows as a display shows it that has other values only where a parameter's flag is set
-pub record HasStood (b : Book) (turned : List Bool) (d : Display) (page : Option Page) (rows : List Row) : Type 0 where
+-- the page stands in these rows as a display shows it that has other values only of the parameters that are marked
+pub record HasStood (b : Book) (turned : List ℕ) (d : Display) (page : Option Page) (rows : List Row) : Type 0 where
   pub was : Display
   pub differ : DifferBy b turned was d
   pub stand : StandAt 15 (page_rows was page) rows

@@ -1,5 +1,5 @@
 -- How far the values of a moment are read.
-use Rattle.std.specs.Prelude.{◌≡◌, ℕ, ◌<◌, ◌≤◌, Bool, true, false, ℤ, List, length, slice_index_or, Option, None}
+use Rattle.std.specs.Prelude.{◌≡◌, ℕ, ◌<◌, ◌≤◌, true, ℤ, List, length, slice_index_or, Option, None}
 use Rattle.ecam_spec.specs.Book.{Book}
 use Rattle.ecam_spec.specs.Situation.{parameter_at}
 use Rattle.ecam_spec.specs.Value.{BusWord, value}
@@ -14,14 +14,12 @@ use Rattle.fwc_lane.specs.TermsFit.{TermsFit}
 use Rattle.fwc_lane.specs.Waking.{HasWoken, ranged, value_turned}
 
 -- The values below `end` are those of the moment, where the book asks for them, and the others still those of the moment
--- before. Those that turned have their flags, and woke whom they wake.
-pub record AreReadTo (b : Book) (params : Params) (was : List (Option ℤ)) (first : Terms) (end : ℕ) (values : List (Option ℤ)) (flags : List Bool) (terms : Terms) : Type 0 where
+-- before. Those that turned woke whom they wake.
+pub record AreReadTo (b : Book) (params : Params) (was : List (Option ℤ)) (first : Terms) (end : ℕ) (values : List (Option ℤ)) (terms : Terms) : Type 0 where
   pub many : length values ≡ length b.parameters
-  pub flagged : length flags ≡ length b.parameters
   pub short : AreShort values
   pub fits : TermsFit b terms
   pub read : (words : ℕ → List BusWord) (k : ℕ) → ParamsStand b words k params → AreBefore b words k was
       → (p : ℕ) → p < end → p < length b.parameters → is_asked_for b p ≡ true → slice_index_or values p None ≡ value (parameter_at b p) words k
   pub later : (p : ℕ) → end ≤ p → slice_index_or values p None ≡ slice_index_or was p None
-  pub turned : (p : ℕ) → slice_index_or flags p false ≡ false → slice_index_or values p None ≡ slice_index_or was p None
   pub wakes : HasWoken b (ranged 0 (length b.parameters) (value_turned was values)) (λ o. Value (slice_index_or values o None)) first terms

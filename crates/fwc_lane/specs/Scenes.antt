@@ -8,6 +8,7 @@ use Rattle.ecam_spec.specs.History.{Moment}
 use Rattle.ecam_spec.specs.Situation.{alert_at, value_in, phase_in, condition_in, world}
 use Rattle.ecam_spec.specs.Screen.{cockpit, attention, panel, line_stands, is_shown_in, cancelled_in}
 use Rattle.book_model.specs.Told.{TellsOf}
+use Rattle.wakes.specs.Marks.{is_marked, room}
 use Rattle.param_table.specs.Asked.{is_asked_for}
 use Rattle.system_display.specs.Pages.{AreShort}
 use Rattle.alert_truth.specs.TruthsState.{TruthsFit, TruthsStand}
@@ -28,20 +29,20 @@ pub record SceneFits (b : Book) (s : Scene) : Type 0 where
   pub values : length s.values.now ≡ length b.parameters
   pub lines : length s.lines.now ≡ length (lines_of b.alerts)
   pub memos : length s.memos.now ≡ length b.memos
-  pub turned : length s.turned.now ≡ length b.parameters
+  pub turned : length b.parameters ≤ room s.turned.now
   pub short : AreShort s.values.now
   pub first : 1 ≤ s.phase.number
   pub last : s.phase.number ≤ 10
   pub status_lines : TellsStatusLines b s.has_status_lines
 
--- it is what moment k shows, with the values of the parameters that the book asks for, of which each whose flag isn't set
+-- it is what moment k shows, with the values of the parameters that the book asks for, of which each that isn't marked
 -- has the value of the moment before
 pub record SceneStands (b : Book) (m : ℕ → Moment) (k : ℕ) (s : Scene) : Type 0 where
   pub phase : s.phase.number ≡ phase_in b m k
   pub values : (p : ℕ) → p < length b.parameters → is_asked_for b p ≡ true → slice_index_or s.values.now p None ≡ value_in b m p k
   pub lines : TellsOf s.lines.now (lines_of b.alerts) (line_stands b m k)
   pub memos : TellsOf s.memos.now b.memos (λ x. holds (world b m) x.when k)
-  pub turned : (j : ℕ) → k ≡ suc j → (p : ℕ) → p < length b.parameters → is_asked_for b p ≡ true → slice_index_or s.turned.now p false ≡ false
+  pub turned : (j : ℕ) → k ≡ suc j → (p : ℕ) → p < length b.parameters → is_asked_for b p ≡ true → is_marked s.turned.now p ≡ false
       → value_in b m p k ≡ value_in b m p j
   pub truths : TruthsStand b (condition_in b m) (phase_in b m) (suc k) s.truths.now
   pub marks : MarksStand b (cockpit b m) (suc k) s.marks.now

@@ -20,15 +20,14 @@ use param_table::Params;
 
 /// Begins the end of moment `now`: reads its values, in the first moment all, in a later one those that may have turned of
 /// the parameters that the book asks for; and marks and counts the conditions that are due, and those that name a value, a
-/// key or a computer that is another than it was, whose nodes that ask for it are told. Tells in `turned` which values may
-/// be, and answers whether some may. Its cost is a look for each 64 parameters, a write of a byte for each, at most two
-/// writes for each 64 conditions, a look at each source of the parameters that are asked for and may have another value,
-/// three at each key if one is or was pressed, a few looks and writes for each condition that is due and for each node
-/// that asks for what is another, and a look at each that is told; in the first moment a look at each source of all.
+/// key or a computer that is another than it was, whose nodes that ask for it are told. Answers whether some value may be
+/// another. Its cost is a look for each 64 parameters, at most two writes for each 64 conditions, a look at each source of
+/// the parameters that are asked for and may have another value, three at each key if one is or was pressed, a few looks
+/// and writes for each condition that is due and for each node that asks for what is another, and a look at each that is
+/// told; in the first moment a look at each source of all.
 pub fn begin_moment(
     terms: &mut Terms,
     values: &mut Vec<Option<i64>>,
-    turned: &mut Vec<bool>,
     params: &Params,
     keys: &Strokes,
     book: &Book,
@@ -39,14 +38,10 @@ pub fn begin_moment(
     requires fits { TermsFit (the_book book.now) terms.old }
     requires params { ParamsFit (the_book book.now) params.now }
     requires many { length values.old.items ≡ length (the_book book.now).parameters }
-    requires flags { length turned.old.items ≡ length (the_book book.now).parameters }
     requires short { AreShort values.old.items }
     requires now { now < 2 ^ 63 }
     ensures fits { TermsFit (the_book book.now) terms.new }
     ensures many { length values.new.items ≡ length values.old.items }
-    ensures flags { length turned.new.items ≡ length turned.old.items }
-    ensures turned { (p : ℕ) → slice_index_or turned.new.items p false ≡ false
-        → slice_index_or values.new.items p None ≡ slice_index_or values.old.items p None }
     ensures first { now ≡ 0 → (words : ℕ → List BusWord) (k : ℕ)
         → ParamsStand (the_book book.now) words k params.now
         → (p : ℕ) → p < length (the_book book.now).parameters
@@ -77,7 +72,7 @@ pub fn begin_moment(
         terms.truths.len(),
         now,
     );
-    let any = read_moment(values, turned, terms, params, book, now);
+    let any = read_moment(values, terms, params, book, now);
     wake_keys(terms, book, keys);
     wake_computers(terms, book, one_up, two_up);
     any

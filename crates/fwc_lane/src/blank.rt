@@ -15,24 +15,22 @@ use book_model::Book;
 use crew_marks::Marks;
 use std::alloc::{AllocError, Global};
 
-/// The values of the parameters, of which none has one, and the flags of the parameters, of the procedure lines and of the
-/// memos, of which none is set. An error is want of memory.
+/// The values of the parameters, of which none has one, and the flags of the procedure lines and of the memos, of which none
+/// is set. An error is want of memory.
 pub fn lists_of(
     alloc: Global,
     book: &Book,
-) -> Result<(Vec<Option<i64>>, Vec<bool>, Vec<bool>, Vec<bool>), AllocError>
+) -> Result<(Vec<Option<i64>>, Vec<bool>, Vec<bool>), AllocError>
     ensures values { IfOk result (λ r. r.0.items
         ≡ replicate (length (the_book book.now).parameters) None) }
-    ensures turned { IfOk result (λ r. length r.1.items ≡ length (the_book book.now).parameters) }
-    ensures lines { IfOk result (λ r. length r.2.items
+    ensures lines { IfOk result (λ r. length r.1.items
         ≡ length (lines_of (the_book book.now).alerts)) }
-    ensures memos { IfOk result (λ r. length r.3.items ≡ length (the_book book.now).memos) }
+    ensures memos { IfOk result (λ r. length r.2.items ≡ length (the_book book.now).memos) }
 {
     let values = vec![in alloc; None; book.params().len()]?;
-    let turned = vec![in alloc; false; book.params().len()]?;
     let lines = vec![in alloc; false; book.line_count()]?;
     let memos = vec![in alloc; false; book.memos().len()]?;
-    Ok((values, turned, lines, memos))
+    Ok((values, lines, memos))
 }
 
 // The crew's marks, and the lights with the sound.

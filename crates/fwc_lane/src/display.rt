@@ -6,6 +6,7 @@ ghost use Rattle.ecam_spec.specs.Term.{in_set};
 ghost use Rattle.ecam_spec.specs.History.{Moment};
 ghost use Rattle.ecam_spec.specs.Situation.{alert_at};
 ghost use Rattle.ecam_spec.specs.SystemDisplay.{Display, called_page, page_rows};
+ghost use Rattle.wakes.specs.Marks.{room};
 ghost use Rattle.book_model.specs.View.{page_of};
 ghost use Rattle.ecam_kinds.specs.Shown.{rows_of};
 ghost use Rattle.book_model.specs.Sealed.{the_book};
@@ -22,6 +23,7 @@ use book_model::{Book, Page};
 use ecam_kinds::{Phase, Picture, ROWS};
 use status_page::fill_status_among;
 use system_display::{Choice, fill_page, mend_page};
+use wakes::Marked;
 
 // The first page that is shown in a phase of itself.
 fn page_of_phase(pages: &[Page], phase: Phase) -> Option<usize>
@@ -109,7 +111,7 @@ fn keeps_page(turned: Turned, choice: Choice, chosen: bool) -> bool
     }
 }
 
-/// S01 to S18. Where the page is that of the moment before, only its rows of values that turned are looked at.
+/// S01 to S18. Where the page is that of the moment before, only its rows of values that may have turned are compared.
 pub fn draw_display(
     book: &Book,
     scene: &Scene<'_>,
@@ -192,14 +194,14 @@ fn draw_page(
     book: &Book,
     page: Option<usize>,
     values: &[Option<i64>],
-    turned: &[bool],
+    turned: &Marked,
     stays: bool,
     picture: &mut Picture,
     changed: &mut [bool; ROWS],
 )
     requires page { IfSome page (λ i. i < length book.now.pages.items) }
     requires values { length values.now ≡ length book.now.params.items }
-    requires turned { length turned.now ≡ length book.now.params.items }
+    requires turned { length book.now.params.items ≤ room turned.now }
     requires short { AreShort values.now }
     requires whole { IsWhole (tracked picture.old.rows changed.old) }
     ensures whole { IsWhole (tracked picture.new.rows changed.new) }

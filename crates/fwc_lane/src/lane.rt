@@ -49,9 +49,6 @@ pub struct Lane {
     /// Of each parameter that a condition names or a page shows its value in the last moment, and before the first none.
     /// What stands at the others says nothing; `value` tells those of all.
     pub values: Vec<Option<i64>>,
-    /// Of each of these parameters whether its value may have turned in the last moment that wasn't at rest; between moments
-    /// they say nothing.
-    pub turned: Vec<bool>,
     /// What is kept of the conditions.
     pub terms: Terms,
     /// What the phases so far leave for the next.
@@ -136,12 +133,11 @@ impl Lane {
         ensures moments { IfOk result (λ l. l.moments ≡ 0) }
         ensures unvisited { IfOk result (λ l. l.terms.cells.visits ≡ 0) }
     {
-        let (values, turned, lines, memos) = lists_of(alloc, book)?;
+        let (values, lines, memos) = lists_of(alloc, book)?;
         let (marks, attention, truths) = parts_of(alloc, book)?;
         Ok(Lane {
             params,
             values,
-            turned,
             terms,
             phase_state: PhaseState::new(),
             phase: Phase { number: 1 },
@@ -190,8 +186,8 @@ impl Lane {
         self.changed = [false; ROWS];
     }
 
-    /// Takes over all that another lane of the same book holds, but for the count of visits, and for `calm`, `idle` and
-    /// `turned`, which the next moments say again. Its cost is a copy of each of its lists.
+    /// Takes over all that another lane of the same book holds, but for the count of visits, and for `calm` and `idle`,
+    /// which the next moments say again. Its cost is a copy of each of its lists.
     pub fn copy_from(&mut self, other: &Lane)
         requires { (b : plain.Book) × LaneFits b self.old × LaneFits b other.now }
         ensures fits { (b : plain.Book) → LaneFits b self.old → LaneFits b other.now
@@ -225,20 +221,20 @@ impl Lane {
     /// Takes one event more, after which these computers are up. A word costs a look-up and a few writes at each of at most
     /// two mailboxes, and, where its bits are others than those of the word before, a look at each source that takes it
     /// there and whose parameter the book asks for; a key one write or two; what becomes of the computers themselves changes
-    /// nothing here. A Tick costs a look for each 64 parameters, conditions and alerts, a write of a byte for each parameter
-    /// and one for each 64 conditions, a look at the sources of the parameters that the book asks for and that may have
-    /// another value, three at each key where one is or was pressed, a few looks and writes for each node that asks for what
-    /// is another, and for the conditions that may turn by that a look at each temporal node and at each node that turns; in
-    /// the first moment one at each source of all parameters and at each node of all conditions. Of alerts, lines and memos
-    /// it looks at those whose condition may turn, and, where an alert turned or a key acts on them, at the alerts of which
-    /// something is told or kept; a zone of the picture is filled only where something that it shows turned. Where an alert
-    /// or a mark turned, it seeks the first alert with rows on the status page: a look for each 64 alerts and at each near
-    /// one up to that, and, where the book has no status lines, before that a look at the flags of the cancelled, which ends
-    /// it where none is set. A Tick in which no parameter that the book asks for may have another value, no condition is due
+    /// nothing here. A Tick costs a look for each 64 parameters, conditions and alerts, a write for each 64 conditions, a
+    /// look at the sources of the parameters that the book asks for and that may have another value, three at each key
+    /// where one is or was pressed, a few looks and writes for each node that asks for what is another, and for the
+    /// conditions that may turn by that a look at each temporal node and at each node that turns; in the first moment one
+    /// at each source of all parameters and at each node of all conditions. Of alerts, lines and memos it looks at those
+    /// whose condition may turn, and, where an alert turned or a key acts on them, at the alerts of which something is
+    /// told or kept; a zone of the picture is filled only where something that it shows turned. Where an alert or a mark
+    /// turned, it seeks the first alert with rows on the status page: a look for each 64 alerts and at each near one up
+    /// to that, and, where the book has no status lines, before that a look at the flags of the cancelled, which ends it
+    /// where none is set. A Tick in which no parameter that the book asks for may have another value, no condition is due
     /// and no key acts, after one that left all at rest, costs a few looks and writes, besides what the end of a moment
     /// costs the parameters: it looks at no condition, alert, line, memo or row. After another such Tick, with no key
-    /// between them and the phase not timed, it costs eight looks and eight counts in all, and where conditions or mailboxes
-    /// wait for the moment, a few looks and writes at each.
+    /// between them and the phase not timed, it costs eight looks and eight counts in all, and where conditions or
+    /// mailboxes wait for the moment, a few looks and writes at each.
     pub fn event(&mut self, book: &Book, event: &Event, one_up: bool, two_up: bool)
         requires fits { LaneFits (the_book book.now) self.old }
         requires event { IsEvent event.now }
@@ -402,7 +398,6 @@ impl Lane {
         let values = begin_moment(
             &mut self.terms,
             &mut self.values,
-            &mut self.turned,
             &self.params,
             &self.keys,
             book,
@@ -478,7 +473,7 @@ impl Lane {
             values: &self.values,
             lines: &self.lines,
             memos: &self.memos,
-            turned: &self.turned,
+            turned: self.params.changed(),
             truths: &self.truths,
             marks: &self.marks,
             attention: &self.attention,

@@ -7,6 +7,7 @@ use attention::Attention;
 use crew_marks::Marks;
 use ecam_kinds::Phase;
 use system_display::Selector;
+use wakes::Marked;
 
 /// What turned in a moment: what isn't set is as in the moment before.
 #[derive(Clone, Copy, Debug)]
@@ -70,8 +71,8 @@ pub struct Scene<'a> {
     pub lines: &'a [bool],
     /// Per memo whether it holds.
     pub memos: &'a [bool],
-    /// Of each of these whether its value may be another than in the moment before.
-    pub turned: &'a [bool],
+    /// Among the parameters that the book asks for, those that may have another value than in the moment before.
+    pub turned: &'a Marked,
     pub truths: &'a Truths,
     pub marks: &'a Marks,
     pub attention: &'a Attention,

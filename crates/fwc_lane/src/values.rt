@@ -20,15 +20,13 @@ use param_table::Params;
 use term_eval::Reading;
 use wakes::{bits_from, lowest};
 
-/// Makes the values of the moment before those of moment `now`, which hasn't ended, tells in `turned` which may be other
-/// than they were, and answers whether any may be. In the first moment each value is read, and wakes no condition, since
-/// that moment wakes all. In a later one those are read that may be others, of the parameters that the book asks for; one
-/// that is wakes the conditions that name it, and the rest stay as they are. Its cost is that of `read_first` or of
-/// `read_values`.
+/// Makes the values of the moment before those of moment `now`, which hasn't ended, and answers whether any may be other
+/// than it was. In the first moment each value is read, and wakes no condition, since that moment wakes all. In a later
+/// one those are read that may be others, of the parameters that the book asks for; one that is wakes the conditions that
+/// name it, and the rest stay as they are. Its cost is that of `read_first` or of `read_values`.
 #[inline(always)]
 pub fn read_moment(
     values: &mut Vec<Option<i64>>,
-    turned: &mut Vec<bool>,
     terms: &mut Terms,
     params: &Params,
     book: &Book,
@@ -36,13 +34,9 @@ pub fn read_moment(
 ) -> bool
     requires fits { ParamsFit (the_book book.now) params.now }
     requires many { length values.old.items ≡ length (the_book book.now).parameters }
-    requires flags { length turned.old.items ≡ length (the_book book.now).parameters }
     requires short { AreShort values.old.items }
     requires terms { TermsFit (the_book book.now) terms.old }
     ensures many { length values.new.items ≡ length values.old.items }
-    ensures flags { length turned.new.items ≡ length turned.old.items }
-    ensures turned { (p : ℕ) → slice_index_or turned.new.items p false ≡ false
-        → slice_index_or values.new.items p None ≡ slice_index_or values.old.items p None }
     ensures first { now ≡ 0 → (words : ℕ → List BusWord) (k : ℕ)
         → ParamsStand (the_book book.now) words k params.now
         → (p : ℕ) → p < length (the_book book.now).parameters
@@ -65,23 +59,20 @@ pub fn read_moment(
     ensures kept { result ≡ false → values.new.items ≡ values.old.items }
 {
     if now > 0 {
-        return read_values(values, turned, terms, params, book);
+        return read_values(values, terms, params, book);
     }
-    read_first(values, turned, params, book);
+    read_first(values, params, book);
     true
 }
 
-// The same in the first moment. Its cost is a look at each source of each parameter, and two writes for each. (It stands by
+// The same in the first moment. Its cost is a look at each source of each parameter, and a write for each. (It stands by
 // itself, since only the first moment calls it.)
 #[inline(never)]
-fn read_first(values: &mut Vec<Option<i64>>, turned: &mut Vec<bool>, params: &Params, book: &Book)
+fn read_first(values: &mut Vec<Option<i64>>, params: &Params, book: &Book)
     requires fits { ParamsFit (the_book book.now) params.now }
     requires many { length values.old.items ≡ length (the_book book.now).parameters }
     requires short { AreShort values.old.items }
     ensures many { length values.new.items ≡ length values.old.items }
-    ensures flags { length turned.new.items ≡ length turned.old.items }
-    ensures turned { (p : ℕ) → p < length turned.old.items
-        → slice_index_or turned.new.items p false ≡ true }
     ensures values { (words : ℕ → List BusWord) (k : ℕ)
         → ParamsStand (the_book book.now) words k params.now
         → (p : ℕ) → p < length (the_book book.now).parameters
@@ -89,30 +80,24 @@ fn read_first(values: &mut Vec<Option<i64>>, turned: &mut Vec<bool>, params: &Pa
         ≡ value (parameter_at (the_book book.now) p) words k }
     ensures short { AreShort values.new.items }
 {
-    turned.fill(true);
     for param in 0..book.params().len() {
         values[param] = params.value(book, param);
     }
 }
 
-// The same in a later moment. Its cost is a look for each 64 parameters, a write of a byte for each, a look at each source
-// of those that may have another value and a write for each of them, and what `wake` costs for each that has.
+// The same in a later moment. Its cost is a look for each 64 parameters, a look at each source of those that may have another
+// value and a write for each of them, and what `wake` costs for each that has.
 fn read_values(
     values: &mut Vec<Option<i64>>,
-    turned: &mut Vec<bool>,
     terms: &mut Terms,
     params: &Params,
     book: &Book,
 ) -> bool
     requires fits { ParamsFit (the_book book.now) params.now }
     requires many { length values.old.items ≡ length (the_book book.now).parameters }
-    requires flags { length turned.old.items ≡ length (the_book book.now).parameters }
     requires short { AreShort values.old.items }
     requires terms { TermsFit (the_book book.now) terms.old }
     ensures many { length values.new.items ≡ length values.old.items }
-    ensures flags { length turned.new.items ≡ length turned.old.items }
-    ensures turned { (p : ℕ) → slice_index_or turned.new.items p false ≡ false
-        → slice_index_or values.new.items p None ≡ slice_index_or values.old.items p None }
     ensures values { (words : ℕ → List BusWord) (k : ℕ)
         → ParamsStand (the_book book.now) words k params.now
         → AreBefore (the_book book.now) words k values.old.items
@@ -128,12 +113,11 @@ fn read_values(
         (λ o. Value (slice_index_or values.new.items o None)) terms.old terms.new }
     ensures kept { result ≡ false → values.new.items ≡ values.old.items }
 {
-    turned.fill(false);
     let words = book.params().len().div_ceil(64);
     let mut any = false;
     let mut place = params.next_changed_word(book, 0);
     while place < words {
-        any = is_either(any, read_word(values, turned, terms, params, book, place));
+        any = is_either(any, read_word(values, terms, params, book, place));
         place = params.next_changed_word(book, place + 1);
     }
     any
@@ -143,7 +127,6 @@ fn read_values(
 #[inline(always)]
 fn read_word(
     values: &mut Vec<Option<i64>>,
-    turned: &mut Vec<bool>,
     terms: &mut Terms,
     params: &Params,
     book: &Book,
@@ -153,12 +136,12 @@ fn read_word(
     requires place { 64 * place < length book.now.params.items }
     requires read { (was : List (Option ℤ)) × (first : Terms)
         × AreReadTo (the_book book.now) params.now was first (64 * place)
-        values.old.items turned.old.items terms.old }
+        values.old.items terms.old }
     ensures read { (was : List (Option ℤ)) (first : Terms)
         → AreReadTo (the_book book.now) params.now was first (64 * place)
-        values.old.items turned.old.items terms.old
+        values.old.items terms.old
         → AreReadTo (the_book book.now) params.now was first (64 * place + 64)
-        values.new.items turned.new.items terms.new }
+        values.new.items terms.new }
     ensures kept { result ≡ false → values.new.items ≡ values.old.items }
 {
     let mut any = false;
@@ -167,7 +150,7 @@ fn read_word(
     while rest != 0 {
         let low = lowest(rest);
         let param = from + low;
-        let other = read_value(values, turned, terms, params, book, param);
+        let other = read_value(values, terms, params, book, param);
         any = is_either(any, other);
         rest = bits_from(bits_from(rest, low), 1);
         from = param + 1;
@@ -175,12 +158,10 @@ fn read_word(
     any
 }
 
-// The same of one parameter, where those before it are read. Its flag and the conditions are touched only where its value is
-// another.
+// The same of one parameter, where those before it are read. The conditions are touched only where its value is another.
 #[inline(always)]
 fn read_value(
     values: &mut Vec<Option<i64>>,
-    turned: &mut Vec<bool>,
     terms: &mut Terms,
     params: &Params,
     book: &Book,
@@ -190,12 +171,12 @@ fn read_value(
     requires param { param < length book.now.params.items }
     requires read { (was : List (Option ℤ)) × (first : Terms)
         × AreReadTo (the_book book.now) params.now was first param
-        values.old.items turned.old.items terms.old }
+        values.old.items terms.old }
     ensures read { (was : List (Option ℤ)) (first : Terms)
         → AreReadTo (the_book book.now) params.now was first param
-        values.old.items turned.old.items terms.old
+        values.old.items terms.old
         → AreReadTo (the_book book.now) params.now was first (param + 1)
-        values.new.items turned.new.items terms.new }
+        values.new.items terms.new }
     ensures kept { result ≡ false → values.new.items ≡ values.old.items }
 {
     let value = params.value(book, param);
@@ -203,6 +184,5 @@ fn read_value(
         return false;
     }
     wake(terms, book, param, true, Reading::Value(value));
-    turned[param] = true;
     true
 }

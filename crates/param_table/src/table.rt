@@ -6,6 +6,7 @@ ghost use Rattle.ecam_spec.specs.Value.{BusWord, value};
 ghost use Rattle.ecam_spec.specs.Book as plain;
 ghost use Rattle.ecam_spec.specs.Situation.{parameter_at};
 ghost use Rattle.ecam_spec.specs.History.{OneMore};
+ghost use Rattle.wakes.specs.Marks.{is_marked, room};
 ghost use Rattle.book_model.specs.Sealed.{the_book};
 ghost use Rattle.book_model.specs.SourcePlaces.{parameter_with};
 ghost use Rattle.watch_lists.specs.Watching.{IsWatch};
@@ -332,6 +333,22 @@ impl Params {
             place += 1;
         }
         place
+    }
+
+    /// The parameters that the book asks for and that may have another value than in the moment before. Of what the book
+    /// doesn't ask for it tells no change. Its cost is one look.
+    #[inline(always)]
+    pub fn changed(&self) -> &Marked
+        ensures value { result.now ≡ self.now.held.changed }
+        ensures room { (b : plain.Book) → ParamsFit b self.now
+            → length b.parameters ≤ room result.now }
+        ensures same { (b : plain.Book) (words : ℕ → List BusWord) (k : ℕ)
+            → ParamsStand b words k self.now
+            → (p : ℕ) → p < length b.parameters → is_marked result.now p ≡ false
+            → is_asked_for b p ≡ true
+            → value (parameter_at b p) words k ≡ value_before (parameter_at b p) words k }
+    {
+        &self.held.changed
     }
 
     // What the first of the sources from this place on gives that gives something.

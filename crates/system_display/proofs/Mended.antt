@@ -7,6 +7,7 @@ use Rattle.ecam_spec.specs.Book as plain
 use Rattle.ecam_spec.specs.declared.kinds.Colour.TheVariants.{Green, White}
 use Rattle.ecam_spec.specs.Picture as spec
 use Rattle.ecam_spec.specs.SystemDisplay.{Display, shown_value, page_row, page_rows, value_row, value_text}
+use Rattle.wakes.specs.Marks.{is_marked}
 use Rattle.book_model.specs.View.{row_of}
 use Rattle.book_model.specs.declared.draft.PageRow.{PageRow}
 use Rattle.zone_rows.specs.Tracked.{TrackedRows}
@@ -49,13 +50,13 @@ stand-one at i rows picture r within here stand =
 
 -- ---- a row that shows no value that turned
 
-module _ (b : plain.Book) (turned : List _) (was d : Display) (differ : DifferBy b turned was d) where
+module _ (b : plain.Book) (turned : List ℕ) (was d : Display) (differ : DifferBy b turned was d) where
   value-same : (r : plain.PageRow) (p : ℕ) (v : Option ℤ) → was.kinds p ≡ d.kinds p → shown_value was r p v ≡ shown_value d r p v
   unfolding shown_value
   value-same r p None same = refl
   value-same r p (Some z) same = ap (λ kind. value_row r.text r.unit Green (value_text kind z)) same
 
-  pub row-same : (r : plain.PageRow) (o : Option ℕ) → IfSome o (λ p. p < length b.parameters) → IfSome o (λ p. get_or turned p false ≡ false) → page_row was r o ≡ page_row d r o
+  pub row-same : (r : plain.PageRow) (o : Option ℕ) → IfSome o (λ p. p < length b.parameters) → IfSome o (λ p. is_marked turned p ≡ false) → page_row was r o ≡ page_row d r o
   unfolding page_row
   row-same r None lt off = refl
   row-same r (Some p) lt off = ap (shown_value was r p) (differ.values p lt off) ∙ value-same r p (d.values p) (differ.kinds p lt)

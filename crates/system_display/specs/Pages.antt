@@ -1,5 +1,5 @@
 -- What the rows of a page show of a book and its values.
-use Rattle.std.specs.Prelude.{◌≡◌, ℕ, ◌<◌, ◌≤◌, ℤ, pos, neg_ℤ, ◌≤ℤ◌, Bool, false, List, [], ◌∷◌, map, length, slice_index_or, Option, Some, None, All, IfSome}
+use Rattle.std.specs.Prelude.{◌≡◌, ℕ, ◌<◌, ◌≤◌, ℤ, pos, neg_ℤ, ◌≤ℤ◌, false, List, [], ◌∷◌, map, length, slice_index_or, Option, Some, None, All, IfSome}
 use Rattle.ecam_spec.specs.declared.limits.TheConstants.{VALUE_ROW_TEXT, UNIT, NUMBER}
 use Rattle.ecam_spec.specs.declared.kinds.Colour.TheVariants.{White}
 use Rattle.ecam_spec.specs.Book as plain
@@ -9,6 +9,7 @@ use Rattle.ecam_spec.specs.History.{Moment}
 use Rattle.ecam_spec.specs.Selection.{choice}
 use Rattle.ecam_spec.specs.Screen.{panel, display}
 use Rattle.ecam_spec.specs.SystemDisplay.{Display, page_row, display_rows}
+use Rattle.wakes.specs.Marks.{is_marked}
 use Rattle.book_model.specs.declared.draft.PageRow.{PageRow}
 
 -- the display shows these values of the book's parameters, each by the parameter's kind
@@ -16,10 +17,10 @@ pub record Displays (b : plain.Book) (these : List (Option ℤ)) (d : Display) :
   pub kinds : (p : ℕ) → p < length b.parameters → d.kinds p ≡ (parameter_at b p).kind
   pub values : (p : ℕ) → p < length b.parameters → d.values p ≡ slice_index_or these p None
 
--- both displays show the book's parameters by the same kinds, and those whose flag isn't set with the same value
-pub record DifferBy (b : plain.Book) (turned : List Bool) (was d : Display) : Type 0 where
+-- both displays show the book's parameters by the same kinds, and those that aren't marked with the same value
+pub record DifferBy (b : plain.Book) (turned : List ℕ) (was d : Display) : Type 0 where
   pub kinds : (p : ℕ) → p < length b.parameters → was.kinds p ≡ d.kinds p
-  pub values : (p : ℕ) → p < length b.parameters → slice_index_or turned p false ≡ false → was.values p ≡ d.values p
+  pub values : (p : ℕ) → p < length b.parameters → is_marked turned p ≡ false → was.values p ≡ d.values p
 
 -- a value from -1000000 to 1000000, which has at most eight places
 abbrev pub IsShort : ℤ → Type 0

@@ -1,9 +1,10 @@
-// A page that stands on the system display, S01 to S18, mended where values turned.
-ghost use Rattle.std.specs.Prelude.{◌≡◌, ◌<◌, ◌≤◌, ◌+◌, ℕ, List, [], ◌∷◌, map, length, slice_get, slice_index_or, false, All, IfSome};
+// A page that stands on the system display, S01 to S18, mended where values may have turned.
+ghost use Rattle.std.specs.Prelude.{◌≡◌, ◌<◌, ◌≤◌, ◌+◌, ℕ, List, [], ◌∷◌, map, length, slice_get, false, All, IfSome};
 ghost use Rattle.std.specs.Option.{option_and_then};
 ghost use Rattle.ecam_spec.specs.KeepsLimits.{IsSoundRow};
 ghost use Rattle.ecam_spec.specs.SystemDisplay.{Display, page_row, page_rows};
 ghost use Rattle.ecam_kinds.specs.Shown.{rows_of};
+ghost use Rattle.wakes.specs.Marks.{is_marked, room};
 ghost use Rattle.book_model.specs.Sealed.{the_book};
 ghost use Rattle.book_model.specs.View.{row_of};
 ghost use Rattle.zone_rows.specs.Tracked.{tracked, IsWhole};
@@ -14,26 +15,27 @@ ghost use Rattle.system_display.specs.Pages.{Displays, DifferBy, AreShort, lines
 use crate::row_text::{RowText, write_row};
 use book_model::{Book, PageRow};
 use ecam_kinds::{Picture, ROWS, Row};
+use wakes::Marked;
 use zone_rows::{DISPLAY, set_row};
 
 /// Where the first row of a page stands, behind its title.
 const FIRST: usize = DISPLAY + 1;
 
-/// Mends a page of the book that stands in S01 to S18 with other values. `turned` tells of each parameter whether its
-/// value may be another than the one that is shown; `values` has the values to show, from -1000000 to 1000000. Only a
-/// row that shows a parameter whose value turned is compared, and it is written, and noted in `changed`, only where it
-/// differs. Costs a look at each row of the page, and a comparison of each of these rows.
+/// Mends a page of the book that stands in S01 to S18 with other values. `turned` has the parameters whose values may be
+/// others than those that are shown; `values` has the values to show, from -1000000 to 1000000. Only a row that shows one
+/// of these parameters is compared, and it is written, and noted in `changed`, only where it differs. Costs a look at each
+/// row of the page, and a comparison of each of these rows.
 pub fn mend_page(
     book: &Book,
     page: Option<usize>,
     values: &[Option<i64>],
-    turned: &[bool],
+    turned: &Marked,
     picture: &mut Picture,
     changed: &mut [bool; ROWS],
 )
     requires page { IfSome page (λ i. i < length book.now.pages.items) }
     requires values { length values.now ≡ length book.now.params.items }
-    requires turned { length turned.now ≡ length book.now.params.items }
+    requires turned { length book.now.params.items ≤ room turned.now }
     requires short { AreShort values.now }
     requires whole { IsWhole (tracked picture.old.rows changed.old) }
     ensures whole { IsWhole (tracked picture.new.rows changed.new) }
@@ -53,12 +55,12 @@ fn mend_zone(
     book: &Book,
     page: Option<usize>,
     values: &[Option<i64>],
-    turned: &[bool],
+    turned: &Marked,
 )
     requires whole { IsWhole (tracked rows.old changed.old) }
     requires page { IfSome page (λ i. i < length book.now.pages.items) }
     requires values { length values.now ≡ length book.now.params.items }
-    requires turned { length turned.now ≡ length book.now.params.items }
+    requires turned { length book.now.params.items ≤ room turned.now }
     requires short { AreShort values.now }
     ensures whole { IsWhole (tracked rows.new changed.new) }
     ensures rows { (d was : Display) → Displays (the_book book.now) values.now d
@@ -88,13 +90,13 @@ fn mend_lines(
     book: &Book,
     lines: &[PageRow],
     values: &[Option<i64>],
-    turned: &[bool],
+    turned: &Marked,
 )
     requires whole { IsWhole (tracked rows.old changed.old) }
     requires few { length lines.now ≤ 17 }
     requires lines { All (IsSoundRow (length book.now.params.items)) (map row_of lines.now) }
     requires values { length values.now ≡ length book.now.params.items }
-    requires turned { length turned.now ≡ length book.now.params.items }
+    requires turned { length book.now.params.items ≤ room turned.now }
     requires short { AreShort values.now }
     ensures whole { IsWhole (tracked rows.new changed.new) }
     ensures rows { (d was : Display) → Displays (the_book book.now) values.now d
@@ -116,13 +118,13 @@ fn mend_line(
     book: &Book,
     line: &PageRow,
     values: &[Option<i64>],
-    turned: &[bool],
+    turned: &Marked,
 )
     requires whole { IsWhole (tracked rows.old changed.old) }
     requires place { place < ROWS }
     requires line { IsSoundRow (length book.now.params.items) (row_of line.now) }
     requires values { length values.now ≡ length book.now.params.items }
-    requires turned { length turned.now ≡ length book.now.params.items }
+    requires turned { length book.now.params.items ≤ room turned.now }
     requires short { AreShort values.now }
     ensures whole { IsWhole (tracked rows.new changed.new) }
     ensures row { (d was : Display) → Displays (the_book book.now) values.now d
@@ -138,14 +140,14 @@ fn mend_line(
     }
 }
 
-// Whether a row shows a parameter whose value turned.
-fn shows_turned(line: &PageRow, turned: &[bool]) -> bool
-    requires { IfSome line.now.show (λ p. p < length turned.now) }
+// Whether a row shows a parameter whose value may have turned.
+fn shows_turned(line: &PageRow, turned: &Marked) -> bool
+    requires { IfSome line.now.show (λ p. p < room turned.now) }
     ensures { result ≡ false
-        → IfSome line.now.show (λ p. slice_index_or turned.now p false ≡ false) }
+        → IfSome line.now.show (λ p. is_marked turned.now p ≡ false) }
 {
     match line.show {
         None => false,
-        Some(param) => turned[param as usize],
+        Some(param) => turned.has(param as usize),
     }
 }

@@ -7,10 +7,6 @@ pub returns-clause-values : goal.returns-clause-values
 returns-clause-values c =
     c.in_ok-values.ensures.items_if_clones_equal (λ y same. search rules) ∙ ap (λ n. replicate n None) (ap length c.params.ensures.value ∙ sym (many-parameters c.args.book.now))
 
-pub returns-clause-turned : goal.returns-clause-turned
-returns-clause-turned c =
-    omega (arith, c.in_ok-turned.ensures.len, c.in_ok-turned.turned.ok.0, ap length c.params-2.ensures.value, many-parameters c.args.book.now)
-
 pub returns-clause-lines : goal.returns-clause-lines
 returns-clause-lines c = omega (arith, c.in_ok-lines.ensures.len, c.in_ok-lines.lines.ok.0, c.line_count.ensures.value)
 

@@ -21,13 +21,13 @@ pub draw_page-requires-clause-values : goal.draw_page-requires-clause-values
 draw_page-requires-clause-values c = c.requires.fits.values ∙ many-parameters c.args.book.now
 
 pub draw_page-requires-clause-turned : goal.draw_page-requires-clause-turned
-draw_page-requires-clause-turned c = c.requires.fits.turned ∙ many-parameters c.args.book.now
+draw_page-requires-clause-turned c = omega (arith, c.requires.fits.turned, many-parameters c.args.book.now)
 
 pub draw_page-requires-in-Page-clause-values : goal.draw_page-requires-in-Page-clause-values
 draw_page-requires-in-Page-clause-values c = c.requires.fits.values ∙ many-parameters c.args.book.now
 
 pub draw_page-requires-in-Page-clause-turned : goal.draw_page-requires-in-Page-clause-turned
-draw_page-requires-in-Page-clause-turned c = c.requires.fits.turned ∙ many-parameters c.args.book.now
+draw_page-requires-in-Page-clause-turned c = omega (arith, c.requires.fits.turned, many-parameters c.args.book.now)
 
 pub draw_page-requires-in-Page-clause-page : goal.draw_page-requires-in-Page-clause-page
 draw_page-requires-in-Page-clause-page c =

@@ -28,24 +28,24 @@ module _ (c : After-lowest-low) where
       omega (arith, is, c.changed_word-rest.ensures.within (from + low - 64 * c.args.place) (omega (arith, here)) bit)
 
   -- those before it have no other value
-  pub over : (was : List (Option ℤ)) (first : Terms) → AreReadTo (the_book c.args.book.now) c.args.params.now was first (64 * c.args.place) c.args.values.now.items c.args.turned.now.items c.args.terms.now
-      → AreReadTo (the_book c.args.book.now) c.args.params.now was first (from + low) c.loop-rest.values.items c.loop-rest.turned.items c.loop-rest.terms
+  pub over : (was : List (Option ℤ)) (first : Terms) → AreReadTo (the_book c.args.book.now) c.args.params.now was first (64 * c.args.place) c.args.values.now.items c.args.terms.now
+      → AreReadTo (the_book c.args.book.now) c.args.params.now was first (from + low) c.loop-rest.values.items c.loop-rest.terms
   over was first read =
       over-unset c.changed_word-rest.result c.args.place from c.loop-rest.rest c.loop-rest.invariant.low c.loop-rest.invariant.rest (the_book c.args.book.now) c.args.params.now
       (λ words k stands i small unset within on. c.changed_word-rest.ensures.same words k stands i small unset (omega (arith, within, many-parameters c.args.book.now)) on)
-      was first c.loop-rest.values.items c.loop-rest.turned.items c.loop-rest.terms (c.loop-rest.invariant.read was first read)
+      was first c.loop-rest.values.items c.loop-rest.terms (c.loop-rest.invariant.read was first read)
       (from + low) (omega arith) (omega (arith, here)) (λ i lt. c.lowest-low.ensures.lowest i (omega (arith, lt)))
 
 pub read_value-other-requires-clause-param : goal.read_value-other-requires-clause-param
-read_value-other-requires-clause-param c = there c.before.before.before
+read_value-other-requires-clause-param c = there c.before.before
 
 pub read_value-other-requires-clause-read : goal.read_value-other-requires-clause-read
 read_value-other-requires-clause-read c =
     let read = c.requires.read in
-    (read.0, read.1, over c.before.before.before read.0 read.1 read.2)
+    (read.0, read.1, over c.before.before read.0 read.1 read.2)
 
 abbrev found : After-bits_from-rest → After-lowest-low
-found c = c.before.before.before.before.before.before.before
+found c = c.before.before.before.before.before.before
 
 pub loop-rest-smaller : goal.loop-rest-smaller
 loop-rest-smaller c = omega (arith, here (found c))
@@ -68,5 +68,5 @@ pub returns-clause-read : goal.returns-clause-read
 returns-clause-read c = λ was first read.
     over-unset c.changed_word-rest.result c.args.place c.loop-rest.from c.loop-rest.rest c.loop-rest.invariant.low c.loop-rest.invariant.rest (the_book c.args.book.now) c.args.params.now
     (λ words k stands i small unset within on. c.changed_word-rest.ensures.same words k stands i small unset (omega (arith, within, many-parameters c.args.book.now)) on)
-    was first c.loop-rest.values.items c.loop-rest.turned.items c.loop-rest.terms (c.loop-rest.invariant.read was first read)
+    was first c.loop-rest.values.items c.loop-rest.terms (c.loop-rest.invariant.read was first read)
     (64 * c.args.place + 64) c.loop-rest.invariant.high (omega arith) (λ i lt. ap (λ r. bit_at r i) c.loop-rest-test.false ∙ bit_at-zero i)

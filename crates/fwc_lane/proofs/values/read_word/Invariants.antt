@@ -9,8 +9,8 @@ invariant-loop-rest l = record {
   low : 64 * l.place ≤ l.from;
   high : l.from ≤ 64 * l.place + 64;
   rest : l.rest ≡ l.initial.rest / 2 ^ (l.from - 64 * l.place);
-  read : (was : List (Option ℤ)) (first : Terms) → AreReadTo (the_book l.book) l.params was first (64 * l.place) l.initial.values.items l.initial.turned.items l.initial.terms
-      → AreReadTo (the_book l.book) l.params was first l.from l.values.items l.turned.items l.terms;
+  read : (was : List (Option ℤ)) (first : Terms) → AreReadTo (the_book l.book) l.params was first (64 * l.place) l.initial.values.items l.initial.terms
+      → AreReadTo (the_book l.book) l.params was first l.from l.values.items l.terms;
   kept : l.any ≡ false → l.values.items ≡ l.initial.values.items;
 }
 

@@ -18,7 +18,6 @@ returns-clause-fits c = record {
       let all : vec_len c.args.self.now.values ≡ length c.args.self.now.values.items = omega arith in
       ap length (c.fill.ensures.items (λ y same. search rules)) ∙ length-replicate _ None ∙ all ∙ c.requires.values;
   short = subst AreShort (sym (c.fill.ensures.items (λ y same. search rules))) (none-short _);
-  turned = c.requires.turned;
   terms = c.clear-2.ensures.fits (the_book c.args.book.now) c.requires.terms;
   lines = c.requires.lines;
   memos = c.requires.memos;

@@ -14,7 +14,6 @@ returns-clause-fits c = λ b fits other. record {
   selector = other.selector;
   values = ap length (c.copy_from_slice.ensures.items ∙ c.deref.ensures.value) ∙ other.values;
   short = subst AreShort (sym (c.copy_from_slice.ensures.items ∙ c.deref.ensures.value)) other.short;
-  turned = fits.turned;
   terms = c.copy_from-2.ensures.fits b fits.terms;
   lines = ap length (c.copy_from_slice-2.ensures.items ∙ c.deref-2.ensures.value) ∙ other.lines;
   memos = ap length (c.copy_from_slice-3.ensures.items ∙ c.deref-3.ensures.value) ∙ other.memos;

@@ -2,7 +2,7 @@ use Rattle.std.proofs.Common.{◌≡◌, ◌<◌, ℕ, suc, true, false, length,
 use Rattle.std.proofs.lemmas.Bool.{lt-ltb}
 use Rattle.ecam_spec.specs.BookTerms.{lines_of}
 use Rattle.ecam_spec.specs.Term.{holds}
-use Rattle.ecam_spec.specs.Situation.{value_in, phase_in, world}
+use Rattle.ecam_spec.specs.Situation.{words_in, value_in, phase_in, world}
 use Rattle.ecam_kinds.specs.declared.keys.Keys.{Keys}
 use Rattle.ecam_kinds.specs.KeyState.{is_pressed}
 use Rattle.ecam_spec.specs.Screen.{cockpit, line_stands}
@@ -11,7 +11,7 @@ use Rattle.book_model.specs.Sealed.{the_book}
 use Rattle.book_model.proofs.BookLists.{many-parameters, many-alerts}
 use Rattle.fwc_lane.specs.Scenes.{AreTurned}
 use Rattle.fwc_lane.proofs.TermsKept.{terms-with}
-use Rattle.fwc_lane.proofs.Ticks.{of-last, are-turned, lends-from, values-before, terms-after}
+use Rattle.fwc_lane.proofs.Ticks.{of-last, are-turned, value-kept, lends-from, values-before, terms-after}
 use Rattle.fwc_lane.proofs.lane.Lane.finish.Goals as goal
 
 pub step_conditions-stepped-requires-clause-values : goal.step_conditions-stepped-requires-clause-values
@@ -33,7 +33,6 @@ returns-clause-fits c =
       selector = c.step_crew.ensures.selector;
       values = fits.values;
       short = fits.short;
-      turned = fits.turned;
       terms = terms-with b terms terms.dues c.copy_from.new.self c.args.one_up c.args.two_up c.step_conditions-stepped.ensures.terms refl;
       lines = c.step_conditions-stepped.ensures.lines ∙ fits.lines;
       memos = c.step_conditions-stepped.ensures.memos ∙ fits.memos;
@@ -100,7 +99,7 @@ returns-clause-whole c = λ m visited begun.
         values = λ p lt on. ap (λ vs. get_or vs p None) c.deref-2.ensures.value ∙ begun.values p lt on;
         lines = λ i l is. ap (λ fs. get_or fs i false) c.deref-3.ensures.value ∙ lines i l is;
         memos = λ i x is. ap (λ fs. get_or fs i false) c.deref-4.ensures.value ∙ memos i x is;
-        turned = λ j e p lt on off. begun.flags j e p lt on (sym (ap (λ fs. get_or fs p false) c.deref-5.ensures.value) ∙ off);
+        turned = λ j e p lt on off. value-kept b m k j e p (c.changed-2.ensures.same b (words_in b m) k begun.came.words p lt off on);
         truths = stepped.truths;
         marks = crew.marks;
         attention = crew.lights;
@@ -111,7 +110,7 @@ returns-clause-whole c = λ m visited begun.
         values = λ p lt on. ap (λ vs. get_or vs p None) c.deref-2.ensures.value ∙ begun.values p lt on;
         lines = λ i l is. ap (λ fs. get_or fs i false) c.deref-3.ensures.value ∙ lines i l is;
         memos = λ i x is. ap (λ fs. get_or fs i false) c.deref-4.ensures.value ∙ memos i x is;
-        turned = λ j e p lt on off. begun.flags j e p lt on (sym (ap (λ fs. get_or fs p false) c.deref-5.ensures.value) ∙ off);
+        turned = λ j e p lt on off. value-kept b m k j e p (c.changed-2.ensures.same b (words_in b m) k begun.came.words p lt off on);
         truths = stepped.truths;
         marks = crew.marks;
         attention = crew.lights;

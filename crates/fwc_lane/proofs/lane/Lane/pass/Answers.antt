@@ -20,7 +20,6 @@ returns-clause-fits c =
       selector = c.pass-3.ensures.fits b fits.selector;
       values = fits.values;
       short = fits.short;
-      turned = fits.turned;
       terms = terms-with b old.terms c.pass-4.new.self old.terms.keys old.terms.one_up old.terms.two_up fits.terms (ap length c.pass-4.ensures);
       lines = fits.lines;
       memos = fits.memos;

@@ -16,7 +16,6 @@ finish-requires-clause-fits c =
       selector = fits.selector;
       values = begin.many ∙ fits.values;
       short = begin.short;
-      turned = begin.flags ∙ fits.turned;
       terms = begin.fits;
       lines = fits.lines;
       memos = fits.memos;
@@ -38,10 +37,10 @@ returns-clause-whole c = λ m came was.
     let begin = c.begin_moment-values.ensures in
     let visited = c.args.self.now.terms.cells.visits in
     c.finish.ensures.whole m visited
-    (has-begun b m k visited c.args.one_up c.args.two_up c.begin_moment-values.result c.args.self.now c.begin_moment-values.new.terms c.begin_moment-values.new.values c.begin_moment-values.new.turned was came
+    (has-begun b m k visited c.args.one_up c.args.two_up c.begin_moment-values.result c.args.self.now c.begin_moment-values.new.terms c.begin_moment-values.new.values was came
     (begin.begins m came was.terms was.values)
     (λ e. all-told b m k c.begin_moment-values.new.values.items (begin.first e (words_in b m) k came.words))
-    (values-told b m k c.begin_moment-values.new.values.items (begin.values (words_in b m) k came.words was.values)) begin.kept begin.turned false)
+    (values-told b m k c.begin_moment-values.new.values.items (begin.values (words_in b m) k came.words was.values)) begin.kept false)
 
 pub returns-clause-visits : goal.returns-clause-visits
 returns-clause-visits c = λ m came was.
@@ -50,7 +49,7 @@ returns-clause-visits c = λ m came was.
     let begin = c.begin_moment-values.ensures in
     let visited = c.args.self.now.terms.cells.visits in
     c.finish.ensures.visits m visited
-    (has-begun b m k visited c.args.one_up c.args.two_up c.begin_moment-values.result c.args.self.now c.begin_moment-values.new.terms c.begin_moment-values.new.values c.begin_moment-values.new.turned was came
+    (has-begun b m k visited c.args.one_up c.args.two_up c.begin_moment-values.result c.args.self.now c.begin_moment-values.new.terms c.begin_moment-values.new.values was came
     (begin.begins m came was.terms was.values)
     (λ e. all-told b m k c.begin_moment-values.new.values.items (begin.first e (words_in b m) k came.words))
-    (values-told b m k c.begin_moment-values.new.values.items (begin.values (words_in b m) k came.words was.values)) begin.kept begin.turned false)
+    (values-told b m k c.begin_moment-values.new.values.items (begin.values (words_in b m) k came.words was.values)) begin.kept false)

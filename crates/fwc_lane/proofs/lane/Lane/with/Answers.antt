@@ -16,7 +16,6 @@ returns-clause-fits c = record {
   selector = c.new-2.ensures.fits (the_book c.args.book.now);
   values = ap length c.in_ok-values.ensures.values ∙ length-replicate _ None;
   short = subst AreShort (sym c.in_ok-values.ensures.values) (none-short _);
-  turned = c.in_ok-values.ensures.turned;
   terms = c.requires.fits;
   lines = c.in_ok-values.ensures.lines;
   memos = c.in_ok-values.ensures.memos;
