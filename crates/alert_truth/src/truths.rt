@@ -1,5 +1,5 @@
 // The truths of all alerts.
-ghost use Rattle.std.specs.Prelude.{◌≡◌, ◌↔◌, ℕ, suc, ◌+◌, ◌<◌, ◌≤◌, ◌==◌, ◌||◌, ◌&&◌, nat_le, false, length, set, get_or, slice_index, slice_index_or, is_none, Option, None, IfOk, if◌then◌else◌};
+ghost use Rattle.std.specs.Prelude.{◌≡◌, ◌↔◌, ℕ, suc, ◌+◌, ◌<◌, ◌≤◌, ◌==◌, ◌||◌, ◌&&◌, nat_le, false, length, get_or, slice_index, slice_index_or, is_none, Option, None, IfOk, if◌then◌else◌};
 ghost use Rattle.ecam_spec.specs.Past.{Signal, previously};
 ghost use Rattle.ecam_spec.specs.Book as plain;
 ghost use Rattle.book_model.specs.Sealed.{the_book};
@@ -154,7 +154,8 @@ impl Truths {
 
     /// Steps one alert by the moment that hasn't ended, where the truth of its condition and the flight phase in
     /// that moment are these, and answers whether it is active. Its cost is one look at the alert, which is a short one
-    /// where it stays away or stays active, and else two marks and a write for each of its truths that changes.
+    /// where it stays away or stays active, and else two marks and a few writes.
+    #[inline(always)]
     pub fn step_one(&mut self, book: &Book, alert: usize, cond: bool, phase: Phase) -> bool
         requires fits { TruthsFit (the_book book.now) self.old }
         requires alert { alert < length book.now.alerts.items }
@@ -199,7 +200,7 @@ impl Truths {
         }
     }
 
-    // Notes what one alert has become. A flag or a moment that is as it was isn't written.
+    // Notes what one alert has become, and whether it is another than before.
     fn note(&mut self, alert: usize, since: Option<u64>, present: bool, active: bool, due: u64)
         requires { HasAlert alert self.old }
         ensures notes { Notes alert since present active due self.old self.new }
@@ -207,10 +208,10 @@ impl Truths {
     {
         let was_present = self.present[alert];
         let was_active = self.active[alert];
-        put_moment(&mut self.since, alert, since);
-        put_flag(&mut self.present, alert, present);
-        put_flag(&mut self.active, alert, active);
-        put_flag(&mut self.waiting, alert, present && !active);
+        self.since[alert] = since;
+        self.present[alert] = present;
+        self.active[alert] = active;
+        self.waiting[alert] = present && !active;
         put_mark(&mut self.restless, alert, since.is_some() && !active);
         self.dues.set(alert, due);
         mark_if(&mut self.near, alert, present || active);
@@ -432,16 +433,6 @@ fn take_due(dues: &mut Wakes, due: &mut Marked, now: u64)
     }
 }
 
-// Writes a flag, where it is another than stands there.
-fn put_flag(flags: &mut Vec<bool>, place: usize, flag: bool)
-    requires { place < length flags.old.items }
-    ensures { flags.new.items ≡ set flags.old.items place flag }
-{
-    if flags[place] != flag {
-        flags[place] = flag;
-    }
-}
-
 // Puts a number in or takes it out.
 fn put_mark(marks: &mut Marked, place: usize, on: bool)
     requires { place < room marks.old }
@@ -465,15 +456,5 @@ fn mark_if(marks: &mut Marked, place: usize, on: bool)
 {
     if on {
         marks.mark(place);
-    }
-}
-
-// Writes a moment, where it is another than stands there.
-fn put_moment(moments: &mut Vec<Option<u64>>, place: usize, moment: Option<u64>)
-    requires { place < length moments.old.items }
-    ensures { moments.new.items ≡ set moments.old.items place moment }
-{
-    if moments[place] != moment {
-        moments[place] = moment;
     }
 }

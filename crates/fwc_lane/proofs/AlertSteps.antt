@@ -1,8 +1,9 @@
 -- One alert more is stepped.
-use Rattle.std.proofs.Common.{◌≡◌, ℕ, zero, suc, ◌+◌, ◌-◌, ◌^◌, ◌<◌, ◌≤◌, Bool, true, false, List, length, take, get_or, slice_get, Some, refl, sym, ap, subst, ◌∙◌, arith}
+use Rattle.std.proofs.Common.{◌≡◌, ℕ, zero, suc, ◌+◌, ◌-◌, ◌^◌, ◌<◌, ◌≤◌, Bool, true, false, List, length, take, get_or, slice_get, slice_index_or, Some, refl, sym, ap, subst, ◌∙◌, arith}
 use Rattle.ecam_spec.specs.Book as plain
 use Rattle.ecam_spec.specs.Past.{previous}
 use Rattle.ecam_spec.specs.Term.{holds}
+use Rattle.ecam_spec.specs.TermSize.{Placed}
 use Rattle.ecam_spec.specs.History.{Moment}
 use Rattle.ecam_spec.specs.Situation as situation
 use Rattle.ecam_spec.specs.Situation.{condition_in, phase_in, active_in, alert_world, known_below}
@@ -29,6 +30,7 @@ use Rattle.alert_truth.proofs.Stepping.{half-rests, half-waits, moment-begins}
 use Rattle.fwc_lane.specs.Waking.{NoneMarked}
 use Rattle.fwc_lane.specs.Conditions.{IsLeft, HalfStepped, StepsTerm, TellsMoved, BookHalf, AlertsHalf, known_world}
 use Rattle.fwc_lane.specs.Given.{Lends, ShowsFirst}
+use Rattle.fwc_lane.specs.TermsFit.{TermsFit}
 use Rattle.fwc_lane.proofs.Showing.{shows-own, active-is}
 use Rattle.fwc_lane.proofs.Stages.{same-tells}
 use Rattle.fwc_lane.proofs.Known.{alert-known}
@@ -36,33 +38,52 @@ use Rattle.fwc_lane.proofs.Stepping.{half-rest, rest-holds}
 use Rattle.fwc_lane.proofs.Awake.{awake-off}
 use Rattle.fwc_lane.proofs.FlagSteps.{with-item}
 
-module _ (d : Draft) (sealed : IsSealed d) (xs : List Alert) (a : ℕ) (x : Alert) (same : xs ≡ d.alerts.items) (within : a < length xs) (here : x ≡ get_or xs a x)
-    (m : ℕ → Moment) (k : ℕ) (env : Env) (lends : Lends (the_book d) m k env) (t : Truths) (phase : env.phase.number ≡ phase_in (the_book d) m k)
-    (actives : env.active.now ≡ take a t.active.items) (visited number : ℕ) (numbered : number ≡ alerts_from + a) (old new : Terms) (answer : Bool)
-    (stepped : StepsTerm (places (the_book d)) env k number (placed_of x.when) old new answer) (half : AlertsHalf (the_book d) m k a visited old t) where
-  steps : StepsTerm (places (the_book d)) env k (alerts_from + a) (placed_of x.when) old new answer
-  steps = subst (λ n. StepsTerm (places (the_book d)) env k n (placed_of x.when) old new answer) numbered stepped
-
-  own-is : world_of (the_book d) m (alerts_from + a) ≡ alert_world (the_book d) m (known_below (the_book d) m a)
+module _ (d : Draft) (sealed : IsSealed d) (xs : List Alert) (a : ℕ) (x : Alert) (same : xs ≡ d.alerts.items) (within : a < length xs) (here : x ≡ get_or xs a x) (m : ℕ → Moment) where
+  pub own-is : world_of (the_book d) m (alerts_from + a) ≡ alert_world (the_book d) m (known_below (the_book d) m a)
   own-is = own-world (the_book d) m a (omega (arith, many-alerts d, ap length same))
 
-  shown : ShowsFirst env (world_of (the_book d) m (alerts_from + a)) k
-  shown = subst (λ w. ShowsFirst env w k) (sym own-is) (shows-own (the_book d) m k env lends t a phase actives half.alerts)
-
-  tells : TellsMoved (moved (known_world (the_book d) m (suc a)) k) (world_of (the_book d) m (alerts_from + a)) k (placed_of x.when)
-  tells = same-tells (known_world (the_book d) m (suc a)) (world_of (the_book d) m (alerts_from + a)) k (placed_of x.when) own-is
-
-  pub own-truth : answer ≡ condition_in (the_book d) m a k
+  pub own-condition : (n : ℕ) → holds (world_of (the_book d) m (alerts_from + a)) (tree_in x.when) n ≡ condition_in (the_book d) m a n
   unfolding condition_in situation.condition
-  own-truth =
-      steps.truth (world_of (the_book d) m) (moved (known_world (the_book d) m (suc a)) k) visited (own-place d sealed xs a x same within here) shown tells half.terms
-      ∙ ap (λ w. holds w (tree_in x.when) k) own-is
-      ∙ ap (λ (y : plain.Alert). holds (alert_world (the_book d) m (known_below (the_book d) m a)) y.when k) (sym (alert-read d xs a x same within here))
+  own-condition n =
+      ap (λ w. holds w (tree_in x.when) n) own-is
+      ∙ ap (λ (y : plain.Alert). holds (alert_world (the_book d) m (known_below (the_book d) m a)) y.when n) (sym (alert-read d xs a x same within here))
 
-  pub own-stands : BookHalf (the_book d) m k (alerts_from + suc a) (suc a) visited new
-  own-stands =
-      subst (λ n. BookHalf (the_book d) m k n (suc a) visited new) (let e : suc (alerts_from + a) ≡ alerts_from + suc a = omega arith in e)
-      (steps.stands (world_of (the_book d) m) (moved (known_world (the_book d) m (suc a)) k) visited (own-place d sealed xs a x same within here) (ranges-apart (the_book d)) shown tells half.terms)
+  -- its condition is stepped
+  module _ (k : ℕ) (env : Env) (shown : ShowsFirst env (world_of (the_book d) m (alerts_from + a)) k) (visited number : ℕ) (numbered : number ≡ alerts_from + a) (old new : Terms) (answer : Bool)
+      (stepped : StepsTerm (places (the_book d)) env k number (placed_of x.when) old new answer) (half : BookHalf (the_book d) m k (alerts_from + a) (suc a) visited old) where
+    steps : StepsTerm (places (the_book d)) env k (alerts_from + a) (placed_of x.when) old new answer
+    steps = subst (λ n. StepsTerm (places (the_book d)) env k n (placed_of x.when) old new answer) numbered stepped
+
+    tells : TellsMoved (moved (known_world (the_book d) m (suc a)) k) (world_of (the_book d) m (alerts_from + a)) k (placed_of x.when)
+    tells = same-tells (known_world (the_book d) m (suc a)) (world_of (the_book d) m (alerts_from + a)) k (placed_of x.when) own-is
+
+    pub own-truth : answer ≡ condition_in (the_book d) m a k
+    own-truth =
+        steps.truth (world_of (the_book d) m) (moved (known_world (the_book d) m (suc a)) k) visited (own-place d sealed xs a x same within here) shown tells half
+        ∙ own-condition k
+
+    pub own-stands : BookHalf (the_book d) m k (alerts_from + suc a) (suc a) visited new
+    own-stands =
+        subst (λ n. BookHalf (the_book d) m k n (suc a) visited new) (let e : suc (alerts_from + a) ≡ alerts_from + suc a = omega arith in e)
+        (steps.stands (world_of (the_book d) m) (moved (known_world (the_book d) m (suc a)) k) visited (own-place d sealed xs a x same within here) (ranges-apart (the_book d)) shown tells half)
+
+    -- before that what was kept of it told of the moment before
+    pub own-held : (h : ℕ) → k ≡ suc h → slice_index_or old.truths.items (alerts_from + a) false ≡ condition_in (the_book d) m a h
+    own-held h e =
+        ((half.left (alerts_from + a) (placed_of x.when) (let w : alerts_from + a ≤ alerts_from + a = omega arith in w) (own-place d sealed xs a x same within here)).later h e).told
+        ∙ own-condition h
+
+-- in the first moment its condition sees the alerts before it
+pub shows-before : (b : plain.Book) (m : ℕ → Moment) (k : ℕ) (env : Env) (a : ℕ) (t : Truths) → a < length b.alerts → Lends b m k env → env.phase.number ≡ phase_in b m k
+    → env.active.now ≡ take a t.active.items → HalfStand b (condition_in b m) (phase_in b m) k a t → ShowsFirst env (world_of b m (alerts_from + a)) k
+shows-before b m k env a t within lends phase actives half = subst (λ w. ShowsFirst env w k) (sym (own-world b m a within)) (shows-own b m k env lends t a phase actives half)
+
+-- a condition has the alert's number
+pub alert-placed : (d : Draft) (sealed : IsSealed d) (a number : ℕ) (t : Terms) → a < length d.alerts.items → number ≡ alerts_from + a → TermsFit (the_book d) t
+    → (b : plain.Book) × (p : Placed) × TermsFit b t × (slice_get (places b) number ≡ Some p)
+alert-placed d sealed a number t within numbered fits =
+    with-item d.alerts.items a within
+    (λ x here. (the_book d, placed_of x.when, fits, ap (slice_get (places (the_book d))) numbered ∙ own-place d sealed d.alerts.items a x refl within here))
 
 -- what an alert was and is
 pub was-active : (b : plain.Book) (m : ℕ → Moment) (k h a : ℕ) (t : Truths) → k ≡ suc h → a < length b.alerts → HalfStand b (condition_in b m) (phase_in b m) k a t
@@ -95,6 +116,43 @@ module _ (b : plain.Book) (m : ℕ → Moment) (k : ℕ) (t : Truths) (a : ℕ) 
       (subst (λ n. OthersStay b (condition_in b m) (phase_in b m) n t.due) e others)
       (subst (λ n. HalfStand b (condition_in b m) (phase_in b m) n a t) e half))
 
+-- an alert whose condition holds as it held, once that is stepped, and which may be passed over, is stepped too
+module _ (d : Draft) (sealed : IsSealed d) (m : ℕ → Moment) (k visited : ℕ) (terms : Terms) (t : Truths) (a : ℕ) (there : a < length (the_book d).alerts) (later : k ≡ 0 → ⊥)
+    (same : (h : ℕ) → k ≡ suc h → condition_in (the_book d) m a k ≡ condition_in (the_book d) m a h) (passes : MayPass (the_book d) m k t a)
+    (half : HalfStand (the_book d) (condition_in (the_book d) m) (phase_in (the_book d) m) k a t) where
+  truths-passed : (n : ℕ) → k ≡ n → HalfStand (the_book d) (condition_in (the_book d) m) (phase_in (the_book d) m) k (suc a) t
+  truths-passed zero e = absurd (later e)
+  truths-passed (suc h) e = passes h e (same h e) half
+
+  -- it is active where it was
+  same-active : (h : ℕ) → k ≡ suc h → active_in (the_book d) m a k ≡ active_in (the_book d) m a h
+  unfolding previous
+  same-active h e =
+      sym (active-is (the_book d) m a k) ∙ sym ((truths-passed k refl).stepped a (omega arith)).active ∙ was-active (the_book d) m k h a t e there half
+
+  pub alert-passed : BookHalf (the_book d) m k (alerts_from + suc a) (suc a) visited terms → AlertsHalf (the_book d) m k (suc a) visited terms t
+  alert-passed next = record {
+    terms = alert-known d sealed m k visited terms terms a there false (active_in (the_book d) m a k) (active_in (the_book d) m a k) refl
+        (awake-off (the_book d) (length (the_book d).parameters + a) (λ o. Flag (active_in (the_book d) m a k)) terms false refl)
+        (sym (differ-self (active_in (the_book d) m a k))) (λ h e. same-active h e) next;
+    alerts = truths-passed k refl;
+  }
+
+-- so is one that isn't due, whose condition was run and says what was kept of it
+pub stirred-passed : (d : Draft) (sealed : IsSealed d) (a : ℕ) (x : Alert) → a < length d.alerts.items → x ≡ get_or d.alerts.items a x → (m : ℕ → Moment) (k : ℕ) (env : Env) → 0 < k
+    → (visited number : ℕ) → number ≡ alerts_from + a → (old new : Terms) (answer : Bool) (t : Truths) → StepsTerm (places (the_book d)) env k number (placed_of x.when) old new answer
+    → answer ≡ slice_index_or old.truths.items (alerts_from + a) false
+    → OthersStay (the_book d) (condition_in (the_book d) m) (phase_in (the_book d) m) k t.due → is_marked t.due a ≡ false
+    → AlertsHalf (the_book d) m k a visited old t → AlertsHalf (the_book d) m k (suc a) visited new t
+stirred-passed d sealed a x within here m k env later visited number numbered old new answer t stepped still others off half =
+    let there : a < length (the_book d).alerts = omega (arith, many-alerts d, within) in
+    let shown : ShowsFirst env (world_of (the_book d) m (alerts_from + a)) k = λ e. absurd (omega (arith, later, e)) in
+    let truth = own-truth d sealed d.alerts.items a x refl within here m k env shown visited number numbered old new answer stepped half.terms in
+    let held = own-held d sealed d.alerts.items a x refl within here m k env shown visited number numbered old new answer stepped half.terms in
+    alert-passed d sealed m k visited new t a there (λ e. omega (arith, later, e)) (λ h e. sym truth ∙ still ∙ held h e)
+    (undue-passes (the_book d) m k t a there others off) half.alerts
+    (own-stands d sealed d.alerts.items a x refl within here m k env shown visited number numbered old new answer stepped half.terms)
+
 -- an alert that neither its condition nor time changes, and some alerts of that kind
 module _ (d : Draft) (sealed : IsSealed d) (m : ℕ → Moment) (k visited : ℕ) (terms : Terms) (t : Truths) (small : k < 2 ^ 63) where
   module _ (a : ℕ) (x : Alert) (within : a < length d.alerts.items) (here : x ≡ get_or d.alerts.items a x)
@@ -102,15 +160,12 @@ module _ (d : Draft) (sealed : IsSealed d) (m : ℕ → Moment) (k visited : ℕ
     there : a < length (the_book d).alerts
     there = omega (arith, many-alerts d, within)
 
-    own-world-is : world_of (the_book d) m (alerts_from + a) ≡ alert_world (the_book d) m (known_below (the_book d) m a)
-    own-world-is = own-world (the_book d) m a there
-
     hits : Operand → Bool
     hits = moved (known_world (the_book d) m (suc a)) k
 
     tells-own : TellsMoved hits (world_of (the_book d) m (alerts_from + a)) k (placed_of x.when)
     unfolding hits
-    tells-own = same-tells (known_world (the_book d) m (suc a)) (world_of (the_book d) m (alerts_from + a)) k (placed_of x.when) own-world-is
+    tells-own = same-tells (known_world (the_book d) m (suc a)) (world_of (the_book d) m (alerts_from + a)) k (placed_of x.when) (own-is d sealed d.alerts.items a x refl within here m)
 
     at-place : slice_get (places (the_book d)) (alerts_from + a) ≡ Some (placed_of x.when)
     at-place = own-place d sealed d.alerts.items a x refl within here
@@ -124,23 +179,12 @@ module _ (d : Draft) (sealed : IsSealed d) (m : ℕ → Moment) (k visited : ℕ
 
     -- one whose condition isn't stirred
     module _ (off : is_marked terms.stirred (alerts_from + a) ≡ false) where
-      same-condition : (h : ℕ) → k ≡ suc h → condition_in (the_book d) m a h ≡ condition_in (the_book d) m a k
-      unfolding condition_in situation.condition hits
+      same-condition : (h : ℕ) → k ≡ suc h → condition_in (the_book d) m a k ≡ condition_in (the_book d) m a h
       same-condition h e =
-          ap (λ (y : plain.Alert). holds (alert_world (the_book d) m (known_below (the_book d) m a)) y.when h) (alert-read d d.alerts.items a x refl within here)
-          ∙ subst (λ w. holds w (tree_in x.when) h ≡ holds w (tree_in x.when) k) own-world-is
-          (rest-holds (world_of (the_book d) m (alerts_from + a)) hits k h (alerts_from + a) (nodes_before (places (the_book d)) (alerts_from + a)) (placed_of x.when) terms small e tells-own own-left off)
-          ∙ sym (ap (λ (y : plain.Alert). holds (alert_world (the_book d) m (known_below (the_book d) m a)) y.when k) (alert-read d d.alerts.items a x refl within here))
-
-      truths-rest : (n : ℕ) → k ≡ n → HalfStand (the_book d) (condition_in (the_book d) m) (phase_in (the_book d) m) k (suc a) t
-      truths-rest zero e = absurd (let w : ⊥ = (let clash : true ≡ false = sym (own-left.stirs e) ∙ off in cc) in w)
-      truths-rest (suc h) e = passes h e (sym (same-condition h e)) half.alerts
-
-      -- it is active where it was
-      same-active : (h : ℕ) → k ≡ suc h → active_in (the_book d) m a k ≡ active_in (the_book d) m a h
-      unfolding previous
-      same-active h e =
-          sym (active-is (the_book d) m a k) ∙ sym ((truths-rest k refl).stepped a (omega arith)).active ∙ was-active (the_book d) m k h a t e there half.alerts
+          let own = own-condition d sealed d.alerts.items a x refl within here m in
+          sym (own k)
+          ∙ sym (rest-holds (world_of (the_book d) m (alerts_from + a)) hits k h (alerts_from + a) (nodes_before (places (the_book d)) (alerts_from + a)) (placed_of x.when) terms small e tells-own own-left off)
+          ∙ own h
 
       next : BookHalf (the_book d) m k (alerts_from + suc a) (suc a) visited terms
       unfolding hits
@@ -150,12 +194,8 @@ module _ (d : Draft) (sealed : IsSealed d) (m : ℕ → Moment) (k visited : ℕ
           (half-rest (places (the_book d)) (world_of (the_book d) m) k (alerts_from + a) (placed_of x.when) at-place hits visited terms small tells-own off was)
 
       alert-off : AlertsHalf (the_book d) m k (suc a) visited terms t
-      alert-off = record {
-        terms = alert-known d sealed m k visited terms terms a there false (active_in (the_book d) m a k) (active_in (the_book d) m a k) refl
-            (awake-off (the_book d) (length (the_book d).parameters + a) (λ o. Flag (active_in (the_book d) m a k)) terms false refl)
-            (sym (differ-self (active_in (the_book d) m a k))) (λ h e. same-active h e) next;
-        alerts = truths-rest k refl;
-      }
+      alert-off =
+          alert-passed d sealed m k visited terms t a there (λ e. (let clash : true ≡ false = sym (own-left.stirs e) ∙ off in cc)) same-condition passes half.alerts next
 
   some-off : (a n : ℕ) → a + n ≤ length d.alerts.items → NoneMarked terms.stirred (alerts_from + a) (alerts_from + (a + n)) → ((j : ℕ) → a ≤ j → j < a + n → MayPass (the_book d) m k t j)
       → AlertsHalf (the_book d) m k a visited terms t → AlertsHalf (the_book d) m k (a + n) visited terms t

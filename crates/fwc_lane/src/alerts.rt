@@ -1,5 +1,5 @@
 // The alerts of a moment, in the book's order.
-ghost use Rattle.std.specs.Prelude.{◌≡◌, ◌<◌, ◌≤◌, ◌^◌, ◌+◌, ℕ, suc, length, slice_get, Some};
+ghost use Rattle.std.specs.Prelude.{◌≡◌, ◌<◌, ◌≤◌, ◌^◌, ◌+◌, ℕ, suc, true, false, length, slice_get, Some};
 ghost use Rattle.ecam_spec.specs.Book as plain;
 ghost use Rattle.ecam_spec.specs.History.{Moment};
 ghost use Rattle.ecam_spec.specs.Situation.{condition_in, phase_in};
@@ -7,13 +7,16 @@ ghost use Rattle.book_model.specs.Sealed.{the_book};
 ghost use Rattle.ecam_spec.specs.TermNames.{IsWithin};
 ghost use Rattle.book_model.specs.View.{tree_in, placed_of};
 ghost use Rattle.book_model.specs.Conditions.{alerts_from, lines_from, places};
-ghost use Rattle.alert_truth.specs.TruthsState.{TruthsFit, TruthsStand};
+ghost use Rattle.term_eval.specs.declared.env.Env.{Env};
+ghost use Rattle.wakes.specs.Marks.{is_marked};
+ghost use Rattle.alert_truth.specs.TruthsState.{TruthsFit, TruthsStand, HalfStand, OthersStay};
 ghost use Rattle.fwc_lane.specs.Conditions.{BookHalf, AlertsHalf, StepsTerm, WasPhase};
 ghost use Rattle.fwc_lane.specs.Given.{Lends};
 ghost use Rattle.fwc_lane.specs.TermsFit.{TermsFit};
+ghost use Rattle.fwc_lane.specs.Waking.{NoneMarked};
 
-use crate::conditions::{step_later, step_term};
-use crate::next::{next_alert, next_due};
+use crate::conditions::{run_term, step_later, step_term};
+use crate::next::{next_due, next_stirred};
 use crate::numbers::alert_number;
 use crate::terms::Terms;
 use crate::waking::{differ, is_other_phase, wake_alert};
@@ -22,109 +25,12 @@ use book_model::{Book, Term};
 use ecam_kinds::Phase;
 use term_eval::Env;
 
-// Steps the condition of an alert, which sees these alerts. (The environment is lent without them and without the phase, which
-// come beside it, so that it is put together in the first moment alone.)
-#[inline(always)]
-fn step_own(
-    terms: &mut Terms,
-    number: usize,
-    own: &Term,
-    before: &[bool],
-    env: &Env<'_>,
-    phase: Phase,
-    now: u64,
-) -> bool
-    requires place { (b : plain.Book) × TermsFit b terms.old
-        × (slice_get (places b) number ≡ Some (placed_of own.now)) }
-    requires names { IsWithin (length env.now.values.now) (length before.now) (tree_in own.now) }
-    requires first { 1 ≤ phase.number }
-    requires last { phase.number ≤ 10 }
-    requires now { now < 2 ^ 63 }
-    ensures fits { (b : plain.Book) → TermsFit b terms.old → TermsFit b terms.new }
-    ensures steps { (b : plain.Book) → TermsFit b terms.old
-        → slice_get (places b) number ≡ Some (placed_of own.now)
-        → StepsTerm (places b) (record env.now { active = before.entry; phase = phase }) now number
-        (placed_of own.now) terms.old terms.new result }
-{
-    if now > 0 {
-        return step_later(terms, number, now);
-    }
-    begin_own(terms, number, own, before, env, phase)
-}
-
-// The same by the first moment. (It stands by itself, since what the condition sees is gathered there, and nothing of it is
-// looked at in a later moment.)
-#[inline(never)]
-fn begin_own(
-    terms: &mut Terms,
-    number: usize,
-    own: &Term,
-    before: &[bool],
-    env: &Env<'_>,
-    phase: Phase,
-) -> bool
-    requires place { (b : plain.Book) × TermsFit b terms.old
-        × (slice_get (places b) number ≡ Some (placed_of own.now)) }
-    requires names { IsWithin (length env.now.values.now) (length before.now) (tree_in own.now) }
-    requires first { 1 ≤ phase.number }
-    requires last { phase.number ≤ 10 }
-    ensures fits { (b : plain.Book) → TermsFit b terms.old → TermsFit b terms.new }
-    ensures steps { (b : plain.Book) → TermsFit b terms.old
-        → slice_get (places b) number ≡ Some (placed_of own.now)
-        → StepsTerm (places b) (record env.now { active = before.entry; phase = phase }) 0 number
-        (placed_of own.now) terms.old terms.new result }
-{
-    let first = Env {
-        active: before,
-        phase,
-        ..*env
-    };
-    step_term(terms, number, own, &first, 0)
-}
-
-/// Steps one alert and its condition by moment `now`. The condition sees the alerts before it in the book as they are in
-/// this moment, and no others. An alert that becomes active, or is active no longer, wakes the conditions that name it. The
-/// environment is lent without phase and alerts, which come beside it: it is put together in the first moment alone.
-fn step_alert(
-    terms: &mut Terms,
-    truths: &mut Truths,
-    book: &Book,
-    alert: usize,
-    env: &Env<'_>,
-    phase: Phase,
-    now: u64,
-)
-    requires terms { TermsFit (the_book book.now) terms.old }
-    requires fits { TruthsFit (the_book book.now) truths.old }
-    requires values { length env.now.values.now ≡ length book.now.params.items }
-    requires alert { alert < length book.now.alerts.items }
-    requires first { 1 ≤ phase.number }
-    requires last { phase.number ≤ 10 }
-    requires now { now < 2 ^ 63 }
-    ensures terms { TermsFit (the_book book.now) terms.new }
-    ensures fits { TruthsFit (the_book book.now) truths.new }
-    ensures moments { truths.new.moments ≡ truths.old.moments }
-    ensures due { truths.new.due ≡ truths.old.due }
-    ensures stands { (m : ℕ → Moment) (visits : ℕ) → Lends (the_book book.now) m now env.now
-        → phase.number ≡ phase_in (the_book book.now) m now
-        → AlertsHalf (the_book book.now) m now alert visits terms.old truths.old
-        → AlertsHalf (the_book book.now) m now (suc alert) visits terms.new truths.new }
-{
-    let own = &book.alerts()[alert].when;
-    let was = truths.active()[alert];
-    let before = &truths.active()[..alert];
-    let holds = step_own(terms, alert_number(alert), own, before, env, phase, now);
-    let active = truths.step_one(book, alert, holds, phase);
-    let other = differ(active, was);
-    wake_alert(terms, book, alert, other, active);
-}
-
 /// Steps by moment `now`, before which the phase was this one, the alerts that may change, and settles which are starred and
-/// up. Those are the ones whose condition is stirred, those whose confirmation is complete and, where the phase turned, those
-/// that are restless. The others are as they were, and aren't looked at. Its cost is a look for each 64 alerts and a few at
-/// each that may change, what the conditions cost that are stirred, what an alert that changes wakes, and what it costs to
-/// settle. The environment is lent without phase and alerts, which come beside it: it is put together in the first moment
-/// alone.
+/// up. Those are the ones whose condition turned, those whose confirmation is complete and, where the phase turned, those that
+/// are restless; in the first moment all. The others are as they were, and aren't looked at. Its cost is a look for each 64
+/// alerts and for each whose condition is stirred, a few at each that may change, what the conditions cost that are stirred,
+/// what an alert that changes wakes, and what it costs to settle. The environment is lent without phase and alerts, which come
+/// beside it: it is put together in the first moment alone.
 pub fn step_alerts(
     terms: &mut Terms,
     truths: &mut Truths,
@@ -161,17 +67,305 @@ pub fn step_alerts(
         → BookHalf (the_book book.now) m now (lines_from (the_book book.now))
         (suc (length (the_book book.now).alerts)) visits terms.new }
 {
-    let end = book.alerts().len();
     truths.gather_due(is_other_phase(phase, was));
-    let mut due = next_due(truths, book, 0);
-    let mut next = next_alert(&terms.stirred, 0, due);
-    while next < end {
-        step_alert(terms, truths, book, next, env, phase, now);
-        next += 1;
-        if due < next {
-            due = next_due(truths, book, next);
-        }
-        next = next_alert(&terms.stirred, next, due);
-    }
+    step_changing(terms, truths, book, env, phase, now);
     truths.settle(book);
+}
+
+// Steps by moment `now` the alerts that may change, of which those are gathered that may though their condition holds where it
+// held: in the first moment all.
+#[inline(always)]
+fn step_changing(
+    terms: &mut Terms,
+    truths: &mut Truths,
+    book: &Book,
+    env: &Env<'_>,
+    phase: Phase,
+    now: u64,
+)
+    requires terms { TermsFit (the_book book.now) terms.old }
+    requires fits { TruthsFit (the_book book.now) truths.old }
+    requires values { length env.now.values.now ≡ length book.now.params.items }
+    requires first { 1 ≤ phase.number }
+    requires last { phase.number ≤ 10 }
+    requires now { now < 2 ^ 63 }
+    ensures terms { TermsFit (the_book book.now) terms.new }
+    ensures fits { TruthsFit (the_book book.now) truths.new }
+    ensures moments { truths.new.moments ≡ truths.old.moments }
+    ensures stands { (m : ℕ → Moment) (visits : ℕ) → Lends (the_book book.now) m now env.now
+        → phase.number ≡ phase_in (the_book book.now) m now
+        → OthersStay (the_book book.now) (condition_in (the_book book.now) m)
+        (phase_in (the_book book.now) m) now truths.old.due
+        → AlertsHalf (the_book book.now) m now 0 visits terms.old truths.old
+        → AlertsHalf (the_book book.now) m now (length book.now.alerts.items) visits terms.new
+        truths.new }
+{
+    if now > 0 {
+        step_later_alerts(terms, truths, book, phase, now);
+        return;
+    }
+    begin_alerts(terms, truths, book, env, phase);
+}
+
+// Steps the condition of an alert by the first moment, in which it sees these alerts. (The environment is lent without them and
+// without the phase, which come beside it.)
+fn begin_own(
+    terms: &mut Terms,
+    number: usize,
+    own: &Term,
+    before: &[bool],
+    env: &Env<'_>,
+    phase: Phase,
+) -> bool
+    requires place { (b : plain.Book) × TermsFit b terms.old
+        × (slice_get (places b) number ≡ Some (placed_of own.now)) }
+    requires names { IsWithin (length env.now.values.now) (length before.now) (tree_in own.now) }
+    requires first { 1 ≤ phase.number }
+    requires last { phase.number ≤ 10 }
+    ensures fits { (b : plain.Book) → TermsFit b terms.old → TermsFit b terms.new }
+    ensures steps { (b : plain.Book) → TermsFit b terms.old
+        → slice_get (places b) number ≡ Some (placed_of own.now)
+        → StepsTerm (places b) (record env.now { active = before.entry; phase = phase }) 0 number
+        (placed_of own.now) terms.old terms.new result }
+{
+    let first = Env {
+        active: before,
+        phase,
+        ..*env
+    };
+    step_term(terms, number, own, &first, 0)
+}
+
+// Steps one alert and its condition by the first moment. The condition sees the alerts before it in the book as they are in
+// this moment, and no others.
+fn begin_alert(
+    terms: &mut Terms,
+    truths: &mut Truths,
+    book: &Book,
+    alert: usize,
+    env: &Env<'_>,
+    phase: Phase,
+)
+    requires terms { TermsFit (the_book book.now) terms.old }
+    requires fits { TruthsFit (the_book book.now) truths.old }
+    requires values { length env.now.values.now ≡ length book.now.params.items }
+    requires alert { alert < length book.now.alerts.items }
+    requires first { 1 ≤ phase.number }
+    requires last { phase.number ≤ 10 }
+    ensures terms { TermsFit (the_book book.now) terms.new }
+    ensures fits { TruthsFit (the_book book.now) truths.new }
+    ensures moments { truths.new.moments ≡ truths.old.moments }
+    ensures stands { (m : ℕ → Moment) (visits : ℕ) → Lends (the_book book.now) m 0 env.now
+        → phase.number ≡ phase_in (the_book book.now) m 0
+        → AlertsHalf (the_book book.now) m 0 alert visits terms.old truths.old
+        → AlertsHalf (the_book book.now) m 0 (suc alert) visits terms.new truths.new }
+{
+    let own = &book.alerts()[alert].when;
+    let before = &truths.active()[..alert];
+    let holds = begin_own(terms, alert_number(alert), own, before, env, phase);
+    turn_alert(terms, truths, book, alert, holds, phase);
+}
+
+// Steps all alerts by the first moment, in which each may change. (It stands by itself, since what a condition sees is put
+// together there, and nothing of it is looked at in a later moment.)
+#[inline(never)]
+fn begin_alerts(terms: &mut Terms, truths: &mut Truths, book: &Book, env: &Env<'_>, phase: Phase)
+    requires terms { TermsFit (the_book book.now) terms.old }
+    requires fits { TruthsFit (the_book book.now) truths.old }
+    requires values { length env.now.values.now ≡ length book.now.params.items }
+    requires first { 1 ≤ phase.number }
+    requires last { phase.number ≤ 10 }
+    ensures terms { TermsFit (the_book book.now) terms.new }
+    ensures fits { TruthsFit (the_book book.now) truths.new }
+    ensures moments { truths.new.moments ≡ truths.old.moments }
+    ensures stands { (m : ℕ → Moment) (visits : ℕ) → Lends (the_book book.now) m 0 env.now
+        → phase.number ≡ phase_in (the_book book.now) m 0
+        → AlertsHalf (the_book book.now) m 0 0 visits terms.old truths.old
+        → AlertsHalf (the_book book.now) m 0 (length book.now.alerts.items) visits terms.new
+        truths.new }
+{
+    for alert in 0..book.alerts().len() {
+        begin_alert(terms, truths, book, alert, env, phase);
+    }
+}
+
+// Steps an alert whose condition was stepped, and holds so. One that becomes active, or is active no longer, wakes the
+// conditions that name it.
+#[inline(always)]
+fn turn_alert(
+    terms: &mut Terms,
+    truths: &mut Truths,
+    book: &Book,
+    alert: usize,
+    holds: bool,
+    phase: Phase,
+)
+    requires terms { TermsFit (the_book book.now) terms.old }
+    requires fits { TruthsFit (the_book book.now) truths.old }
+    requires alert { alert < length book.now.alerts.items }
+    requires first { 1 ≤ phase.number }
+    requires last { phase.number ≤ 10 }
+    ensures terms { TermsFit (the_book book.now) terms.new }
+    ensures fits { TruthsFit (the_book book.now) truths.new }
+    ensures moments { truths.new.moments ≡ truths.old.moments }
+    ensures due { truths.new.due ≡ truths.old.due }
+    ensures stands { (m : ℕ → Moment) (k visits : ℕ)
+        → phase.number ≡ phase_in (the_book book.now) m k
+        → holds ≡ condition_in (the_book book.now) m alert k
+        → BookHalf (the_book book.now) m k (alerts_from + suc alert) (suc alert) visits terms.old
+        → HalfStand (the_book book.now) (condition_in (the_book book.now) m)
+        (phase_in (the_book book.now) m) k alert truths.old
+        → AlertsHalf (the_book book.now) m k (suc alert) visits terms.new truths.new }
+{
+    book.sealed();
+    let was = truths.active()[alert];
+    let active = truths.step_one(book, alert, holds, phase);
+    let other = differ(active, was);
+    wake_alert(terms, book, alert, other, active);
+}
+
+// Steps a stirred condition by a moment that isn't the first, and its alert, which isn't due, where the condition holds and
+// didn't in the moment before, or the other way round. Where it holds as it held, the alert is as it was, and isn't looked at.
+#[inline(always)]
+fn step_stirred(
+    terms: &mut Terms,
+    truths: &mut Truths,
+    book: &Book,
+    alert: usize,
+    phase: Phase,
+    now: u64,
+)
+    requires terms { TermsFit (the_book book.now) terms.old }
+    requires fits { TruthsFit (the_book book.now) truths.old }
+    requires alert { alert < length book.now.alerts.items }
+    requires stirred { is_marked terms.old.stirred (alerts_from + alert) ≡ true }
+    requires first { 1 ≤ phase.number }
+    requires last { phase.number ≤ 10 }
+    requires later { 0 < now }
+    requires now { now < 2 ^ 63 }
+    ensures terms { TermsFit (the_book book.now) terms.new }
+    ensures fits { TruthsFit (the_book book.now) truths.new }
+    ensures moments { truths.new.moments ≡ truths.old.moments }
+    ensures due { truths.new.due ≡ truths.old.due }
+    ensures stands { (m : ℕ → Moment) (visits : ℕ) (env : Env)
+        → phase.number ≡ phase_in (the_book book.now) m now
+        → OthersStay (the_book book.now) (condition_in (the_book book.now) m)
+        (phase_in (the_book book.now) m) now truths.old.due
+        → is_marked truths.old.due alert ≡ false
+        → AlertsHalf (the_book book.now) m now alert visits terms.old truths.old
+        → AlertsHalf (the_book book.now) m now (suc alert) visits terms.new truths.new }
+{
+    book.sealed();
+    let number = alert_number(alert);
+    let held = terms.truths[number];
+    let holds = run_term(terms, number, now);
+    if holds != held {
+        turn_alert(terms, truths, book, alert, holds, phase);
+    }
+}
+
+// Steps those of the alerts from one up to another, none of which is due, whose condition is stirred. The others are as they
+// were, and aren't looked at.
+#[inline(always)]
+fn step_up_to(
+    terms: &mut Terms,
+    truths: &mut Truths,
+    book: &Book,
+    from: usize,
+    due: usize,
+    phase: Phase,
+    now: u64,
+)
+    requires terms { TermsFit (the_book book.now) terms.old }
+    requires fits { TruthsFit (the_book book.now) truths.old }
+    requires from { from ≤ due }
+    requires due { due ≤ length book.now.alerts.items }
+    requires first { 1 ≤ phase.number }
+    requires last { phase.number ≤ 10 }
+    requires later { 0 < now }
+    requires now { now < 2 ^ 63 }
+    ensures terms { TermsFit (the_book book.now) terms.new }
+    ensures fits { TruthsFit (the_book book.now) truths.new }
+    ensures moments { truths.new.moments ≡ truths.old.moments }
+    ensures due { truths.new.due ≡ truths.old.due }
+    ensures stands { (m : ℕ → Moment) (visits : ℕ) (env : Env)
+        → phase.number ≡ phase_in (the_book book.now) m now
+        → OthersStay (the_book book.now) (condition_in (the_book book.now) m)
+        (phase_in (the_book book.now) m) now truths.old.due
+        → NoneMarked truths.old.due from due
+        → AlertsHalf (the_book book.now) m now from visits terms.old truths.old
+        → AlertsHalf (the_book book.now) m now due visits terms.new truths.new }
+{
+    book.sealed();
+    let mut next = next_stirred(&terms.stirred, from, due);
+    while next < due {
+        step_stirred(terms, truths, book, next, phase, now);
+        next = next_stirred(&terms.stirred, next + 1, due);
+    }
+}
+
+// Steps an alert that is due and its condition by a moment that isn't the first, whether the condition is stirred or not. (It
+// stands by itself, since few alerts are due.)
+#[inline(never)]
+fn step_due(
+    terms: &mut Terms,
+    truths: &mut Truths,
+    book: &Book,
+    alert: usize,
+    phase: Phase,
+    now: u64,
+)
+    requires terms { TermsFit (the_book book.now) terms.old }
+    requires fits { TruthsFit (the_book book.now) truths.old }
+    requires alert { alert < length book.now.alerts.items }
+    requires first { 1 ≤ phase.number }
+    requires last { phase.number ≤ 10 }
+    requires later { 0 < now }
+    requires now { now < 2 ^ 63 }
+    ensures terms { TermsFit (the_book book.now) terms.new }
+    ensures fits { TruthsFit (the_book book.now) truths.new }
+    ensures moments { truths.new.moments ≡ truths.old.moments }
+    ensures due { truths.new.due ≡ truths.old.due }
+    ensures stands { (m : ℕ → Moment) (visits : ℕ) (env : Env)
+        → phase.number ≡ phase_in (the_book book.now) m now
+        → AlertsHalf (the_book book.now) m now alert visits terms.old truths.old
+        → AlertsHalf (the_book book.now) m now (suc alert) visits terms.new truths.new }
+{
+    book.sealed();
+    let holds = step_later(terms, alert_number(alert), now);
+    turn_alert(terms, truths, book, alert, holds, phase);
+}
+
+// Steps by a moment that isn't the first the alerts that may change: those that are due, and between one of them and the next
+// those whose condition is stirred.
+#[inline(always)]
+fn step_later_alerts(terms: &mut Terms, truths: &mut Truths, book: &Book, phase: Phase, now: u64)
+    requires terms { TermsFit (the_book book.now) terms.old }
+    requires fits { TruthsFit (the_book book.now) truths.old }
+    requires first { 1 ≤ phase.number }
+    requires last { phase.number ≤ 10 }
+    requires later { 0 < now }
+    requires now { now < 2 ^ 63 }
+    ensures terms { TermsFit (the_book book.now) terms.new }
+    ensures fits { TruthsFit (the_book book.now) truths.new }
+    ensures moments { truths.new.moments ≡ truths.old.moments }
+    ensures stands { (m : ℕ → Moment) (visits : ℕ) (env : Env)
+        → phase.number ≡ phase_in (the_book book.now) m now
+        → OthersStay (the_book book.now) (condition_in (the_book book.now) m)
+        (phase_in (the_book book.now) m) now truths.old.due
+        → AlertsHalf (the_book book.now) m now 0 visits terms.old truths.old
+        → AlertsHalf (the_book book.now) m now (length book.now.alerts.items) visits terms.new
+        truths.new }
+{
+    let end = book.alerts().len();
+    let mut next = 0;
+    loop {
+        let due = next_due(truths, book, next);
+        step_up_to(terms, truths, book, next, due, phase, now);
+        if due >= end {
+            return;
+        }
+        step_due(terms, truths, book, due, phase, now);
+        next = due + 1;
+    }
 }

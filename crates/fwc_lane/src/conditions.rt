@@ -145,7 +145,7 @@ fn begin_term(terms: &mut Terms, number: usize, env: &Env<'_>) -> bool
 
 // Steps one that is stirred in a later moment.
 #[inline(never)]
-fn run_term(terms: &mut Terms, number: usize, now: u64) -> bool
+pub fn run_term(terms: &mut Terms, number: usize, now: u64) -> bool
     requires place { (b : plain.Book) × (p : Placed) × TermsFit b terms.old
         × (slice_get (places b) number ≡ Some p) }
     requires woken { is_marked terms.old.woken number ≡ true }

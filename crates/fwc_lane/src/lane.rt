@@ -220,21 +220,21 @@ impl Lane {
 
     /// Takes one event more, after which these computers are up. A word costs a look-up and a few writes at each of at most
     /// two mailboxes, and, where its bits are others than those of the word before, a look at each source that takes it
-    /// there and whose parameter the book asks for; a key one write or two; what becomes of the computers themselves changes
-    /// nothing here. A Tick costs a look for each 64 parameters, conditions and alerts, a write for each 64 conditions, a
-    /// look at the sources of the parameters that the book asks for and that may have another value, three at each key
-    /// where one is or was pressed, a few looks and writes for each node that asks for what is another, and for the
-    /// conditions that may turn by that a look at each temporal node and at each node that turns; in the first moment one
-    /// at each source of all parameters and at each node of all conditions. Of alerts, lines and memos it looks at those
-    /// whose condition may turn, and, where an alert turned or a key acts on them, at the alerts of which something is
-    /// told or kept; a zone of the picture is filled only where something that it shows turned. Where an alert or a mark
-    /// turned, it seeks the first alert with rows on the status page: a look for each 64 alerts and at each near one up
-    /// to that, and, where the book has no status lines, before that a look at the flags of the cancelled, which ends it
-    /// where none is set. A Tick in which no parameter that the book asks for may have another value, no condition is due
-    /// and no key acts, after one that left all at rest, costs a few looks and writes, besides what the end of a moment
-    /// costs the parameters: it looks at no condition, alert, line, memo or row. After another such Tick, with no key
-    /// between them and the phase not timed, it costs eight looks and eight counts in all, and where conditions or
-    /// mailboxes wait for the moment, a few looks and writes at each.
+    /// there and whose parameter the book asks for; a key one write or two; what becomes of the computers themselves
+    /// changes nothing here. A Tick costs a look for each 64 parameters, conditions and alerts, a write for each 64
+    /// conditions, a look at the sources of the parameters that the book asks for and that may have another value, three at
+    /// each key where one is or was pressed, a few looks and writes for each node that asks for what is another, and for
+    /// the conditions that may turn by that a look at each temporal node and at each node that turns; in the first moment
+    /// one at each source of all parameters and at each node of all conditions. Of alerts it looks at those whose condition
+    /// turns, of lines and memos at those whose condition may turn, and, where an alert turned or a key acts on them, at
+    /// the alerts of which something is told or kept; a zone of the picture is filled only where something that it shows
+    /// turned. Where an alert or a mark turned, it seeks the first alert with rows on the status page: a look for each 64
+    /// alerts and at each near one up to that, and, where the book has no status lines, before that a look at the flags of
+    /// the cancelled, which ends it where none is set. A Tick in which no parameter that the book asks for may have another
+    /// value, no condition is due and no key acts, after one that left all at rest, costs a few looks and writes, besides
+    /// what the end of a moment costs the parameters: it looks at no condition, alert, line, memo or row. After another
+    /// such Tick, with no key between them and the phase not timed, it costs eight looks and eight counts in all, and where
+    /// conditions or mailboxes wait for the moment, a few looks and writes at each.
     pub fn event(&mut self, book: &Book, event: &Event, one_up: bool, two_up: bool)
         requires fits { LaneFits (the_book book.now) self.old }
         requires event { IsEvent event.now }

@@ -23,11 +23,12 @@ pub fn next_due(truths: &Truths, book: &Book, from: usize) -> usize
 
 /// The first alert from one on whose condition is in the set; where there is none before the next that is due, that one. Its
 /// cost is a look for each 64 alerts that it goes over.
-pub fn next_alert(set: &Marked, from: usize, due: usize) -> usize
+pub fn next_stirred(set: &Marked, from: usize, due: usize) -> usize
     requires few { due < 2 ^ 32 }
     requires from { from ≤ due }
     ensures from { from ≤ result }
     ensures within { result ≤ due }
+    ensures marked { result < due → is_marked set.now (alerts_from + result) ≡ true }
     ensures none { NoneMarked set.now (alerts_from + from) (alerts_from + result) }
 {
     set.next_or(6 + from, 6 + due) - 6
