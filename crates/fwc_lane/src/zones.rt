@@ -101,7 +101,7 @@ fn status_turned(turned: Turned, truths: bool) -> bool
 
 /// Whether the status page has any row. Costs nothing where no alert and no mark turned, unless the moment is the first; else
 /// a look for each 64 alerts and at each near one, up to the first that has rows there, and, where the book has no status
-/// lines, before that a look at each flag of the cancelled, up to the first that is set: where none is, there are no rows.
+/// lines, before that a look at each flag of the cancelled: where none is set, there are no rows.
 pub fn has_status(book: &Book, scene: &Scene<'_>, turned: Turned, was: bool) -> bool
     requires { SceneFits (the_book book.now) scene.now }
     ensures { (m : ℕ → Moment) (k : ℕ) → SceneStands (the_book book.now) m k scene.now

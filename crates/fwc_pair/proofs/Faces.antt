@@ -1,5 +1,5 @@
 -- The picture that stands, mended row by row.
-use Rattle.std.proofs.Common.{◌≡◌, ℕ, zero, suc, ◌+◌, ◌<◌, Bool, true, false, not, ◌||◌, List, [], ◌∷◌, ◌++◌, length, take, get_or, replicate, refl, sym, ◌∙◌, ap, subst, arith}
+use Rattle.std.proofs.Common.{◌≡◌, ℕ, zero, suc, ◌+◌, ◌<◌, ◌≤◌, Bool, true, false, not, ◌||◌, List, [], ◌∷◌, ◌++◌, length, take, get_or, replicate, refl, sym, ◌∙◌, ap, subst, arith}
 use Rattle.std.proofs.lemmas.List.{take_more, take_all, length-take, append-nil, drop_all, get_or-replicate, ext_get_or}
 use Rattle.std.proofs.Math.Bool.{beq}
 use Rattle.std.proofs.Math.Seq.{drop-cons}
@@ -10,7 +10,7 @@ use Rattle.zone_rows.specs.Mended.{Mends}
 use Rattle.zone_rows.specs.Zones.{IsMended}
 use Rattle.fwc_pair.specs.Faces.{IsShown}
 use Rattle.zone_rows.proofs.Mending.{mends-both, mends_kept}
-use Rattle.zone_rows.proofs.Places.{row-behind}
+use Rattle.zone_rows.proofs.Places.{length-put, row-behind}
 
 -- nothing is mended yet
 pub mended-none : (picture : List Row) (t : TrackedRows) → Mends 0 (take 0 picture) t t
@@ -38,6 +38,26 @@ row-waits picture i start now whole long within mended =
     let front : length (take i picture) ≡ i = length-take i picture ∙ omega arith in
     ap (λ rs. get_or rs i blank_row) mended.rows
     ∙ row-behind 0 (take i picture) start.rows (omega arith) i (omega arith)
+
+-- rows of which some are mended are as many as before
+mended-whole : (picture : List Row) (n : ℕ) (start now : TrackedRows) → length start.rows ≡ 36 → n ≤ 36 → Mends 0 (take n picture) start now → length now.rows ≡ 36
+mended-whole picture n start now whole within mended =
+    ap length mended.rows ∙ length-put 0 (take n picture) start.rows (omega (arith, whole, length-take n picture)) ∙ whole
+
+-- rows of which each stands are mended next as they are
+pub mended-kept : (picture : List Row) (from n : ℕ) (start now : TrackedRows) → length start.rows ≡ 36 → length picture ≡ 36 → from + n ≤ 36
+    → ((i : ℕ) → from ≤ i → i < from + n → get_or start.rows i blank_row ≡ get_or picture i blank_row)
+    → Mends 0 (take from picture) start now → Mends 0 (take (from + n) picture) start now
+mended-kept picture from zero start now whole long within stand before =
+    subst (λ k. Mends 0 (take k picture) start now) (let e : from ≡ from + 0 = omega arith in e) before
+mended-kept picture from (suc n) start now whole long within stand before =
+    let i = from + n in
+    let so_far = mended-kept picture from n start now whole long (omega (arith, within)) (λ j ge lt. stand j ge (omega (arith, lt))) before in
+    let there : length now.rows ≡ 36 = mended-whole picture (from + n) start now whole (omega (arith, within)) so_far in
+    let waits = row-waits picture (from + n) start now whole long (omega (arith, within)) so_far in
+    subst (λ k. Mends 0 (take k picture) start now) (let e : from + n + 1 ≡ from + suc n = omega arith in e)
+    (mended-more picture (from + n) start now now whole long (omega (arith, within)) so_far
+    (mended-as-is now (from + n) (get_or picture (from + n) blank_row) (omega (arith, there, within)) (waits ∙ stand (from + n) (omega arith) (omega arith))))
 
 -- with all rows mended the picture stands
 pub mended-all : (picture : List Row) (start now : TrackedRows) → length start.rows ≡ 36 → length picture ≡ 36 → Mends 0 picture start now → IsMended picture start now

@@ -1,16 +1,16 @@
 // The picture of the last Tick, mended in place, and the rows that it changed.
-ghost use Rattle.std.specs.Prelude.{◌≡◌, ◌||◌, ◌<◌, [], ◌∷◌, true, false, length, get_or, replicate, ℕ};
+ghost use Rattle.std.specs.Prelude.{◌≡◌, ◌||◌, ◌<◌, ◌≤◌, [], ◌∷◌, true, false, length, get_or, replicate, ℕ};
 ghost use Rattle.ecam_spec.specs.Picture as spec;
 ghost use Rattle.ecam_kinds.specs.Shown.{row_of, rows_of, picture_of};
 ghost use Rattle.zone_rows.specs.Tracked.{tracked, IsWhole};
 ghost use Rattle.zone_rows.specs.Mended.{Mends};
 ghost use Rattle.zone_rows.specs.Zones.{IsMended};
 ghost use Rattle.fwc_lane.specs.ChangedRows.{NoneChanged};
-ghost use Rattle.fwc_pair.specs.Faces.{IsShown, OthersStand, NamesChanges};
+ghost use Rattle.fwc_pair.specs.Faces.{IsShown, OthersStand, MendsNext, NamesChanges};
 
 use ecam_kinds::{Colour, Picture, ROWS, Row};
 use fwc_lane::Lane;
-use zone_rows::{blank_rest, put_next, set_row};
+use zone_rows::{DISPLAY, FLAGS, LAMPS, LEFT, RIGHT, blank_rest, put_next, set_row};
 
 // Puts a row of a picture in its place, if it is named. A row that isn't has to stand there already.
 fn mend_row(rows: &mut [Row], changed: &mut [bool], place: usize, row: &Row, named: bool)
@@ -34,7 +34,70 @@ fn has_any(named: &[bool; ROWS], all: bool) -> bool
     all || named.contains(&true)
 }
 
-// Puts the named rows of a picture, or all of them, in their places.
+// Whether any row of a zone is named. It looks at each flag of the zone, and doesn't end at the first that is set, so that it
+// looks at many at once.
+#[inline(always)]
+fn has_any_in(named: &[bool; ROWS], from: usize, to: usize) -> bool
+    requires { to ≤ ROWS }
+    ensures { result ≡ false → (i : ℕ) → from ≤ i → i < to → get_or named.now i false ≡ false }
+{
+    let mut any = false;
+    for i in from..to {
+        any |= named[i];
+    }
+    any
+}
+
+// Puts the named rows of a zone, or all of them, in their places.
+#[inline(never)]
+fn mend_rows_in(
+    rows: &mut [Row],
+    changed: &mut [bool],
+    picture: &[Row],
+    named: &[bool; ROWS],
+    all: bool,
+    from: usize,
+    to: usize,
+)
+    requires whole { IsWhole (tracked rows.old changed.old) }
+    requires picture { length picture.now ≡ ROWS }
+    requires order { from ≤ to }
+    requires within { to ≤ ROWS }
+    ensures whole { IsWhole (tracked rows.new changed.new) }
+    ensures mended { MendsNext from to all named.now (rows_of picture.now)
+        (tracked rows.old changed.old) (tracked rows.new changed.new) }
+{
+    for i in from..to {
+        mend_row(rows, changed, i, &picture[i], all | named[i]);
+    }
+}
+
+// The same, where no row of the zone is looked at if none is named.
+#[inline(always)]
+fn mend_zone(
+    rows: &mut [Row],
+    changed: &mut [bool],
+    picture: &[Row],
+    named: &[bool; ROWS],
+    all: bool,
+    from: usize,
+    to: usize,
+)
+    requires whole { IsWhole (tracked rows.old changed.old) }
+    requires picture { length picture.now ≡ ROWS }
+    requires order { from ≤ to }
+    requires within { to ≤ ROWS }
+    ensures whole { IsWhole (tracked rows.new changed.new) }
+    ensures mended { MendsNext from to all named.now (rows_of picture.now)
+        (tracked rows.old changed.old) (tracked rows.new changed.new) }
+{
+    let any = all | has_any_in(named, from, to);
+    if any {
+        mend_rows_in(rows, changed, picture, named, all, from, to);
+    }
+}
+
+// Puts the named rows of a picture, or all of them, in their places, zone by zone.
 #[inline(never)]
 fn mend_rows(
     rows: &mut [Row],
@@ -50,9 +113,11 @@ fn mend_rows(
         → IsMended (rows_of picture.now) (tracked rows.old changed.old)
         (tracked rows.new changed.new) }
 {
-    for i in 0..ROWS {
-        mend_row(rows, changed, i, &picture[i], all | named[i]);
-    }
+    mend_zone(rows, changed, picture, named, all, LEFT, RIGHT);
+    mend_zone(rows, changed, picture, named, all, RIGHT, FLAGS);
+    mend_zone(rows, changed, picture, named, all, FLAGS, DISPLAY);
+    mend_zone(rows, changed, picture, named, all, DISPLAY, LAMPS);
+    mend_zone(rows, changed, picture, named, all, LAMPS, ROWS);
 }
 
 // The same, where no row is looked at if none is named.

@@ -8,13 +8,14 @@ use Rattle.std.proofs.Math.Bool.{beq}
 use Rattle.std.proofs.Math.ListN.{drop_of_length-le}
 use Rattle.std.proofs.Math.Path.{fun_ext}
 use Rattle.ecam_spec.specs.declared.limits.TheConstants.{PICTURE_ROWS}
+use Rattle.ecam_spec.specs.declared.kinds.Colour.TheVariants.{Blank}
 use Rattle.ecam_spec.specs.Book.{Text}
 use Rattle.ecam_spec.specs.Picture.{Row, same_row, same_picture}
 use Rattle.ecam_spec.specs.Output.{row_names, row_line, changed_lines, block, line}
 use Rattle.ecam_kinds.specs.declared.picture.Row as code
 use Rattle.ecam_kinds.specs.Shown.{row_of, rows_of}
 use Rattle.fwc_lane.specs.ChangedRows.{row_differs}
-use Rattle.replay_core.specs.Flagged.{flagged_lines, NamesRows}
+use Rattle.replay_core.specs.Flagged.{flagged_lines, lines_from, NamesRows}
 
 -- no row's name is longer than three bytes
 pub short_names : (i : ℕ) → i < PICTURE_ROWS → length (get_or row_names i []) ≤ 3
@@ -47,6 +48,15 @@ module _ (flags : List Bool) (rows : List code.Row) (i : ℕ) where
   unfolding flagged_lines
   lines_more r h k l = rw (add-one, drop-cons row_names i [] h, drop-cons flags i false k, drop-cons rows i r l) refl
 
+  -- a row whose flag isn't set has no line
+  pub lines_pass : i < length row_names → i < length flags → i < length rows → get_or flags i false ≡ false
+      → lines_from (i + 1) flags rows ≡ lines_from i flags rows
+  lines_pass h k l unset =
+      let r : code.Row = get_or rows i (record { colour = Blank; text = record { items = [] } }) in
+      let more = lines_more r h k l in
+      let none : (if get_or flags i false then row_line (get_or row_names i []) (row_of r) else []) ≡ [] = rw unset refl in
+      cc
+
   -- no row is left
   pub lines_all : length row_names ≤ i → flagged_lines (drop i row_names) (drop i flags) (rows_of (drop i rows)) ≡ []
   unfolding flagged_lines
@@ -68,6 +78,18 @@ lines_step flags rows i f r name before after whole h k l is_f is_r is_name is_a
     let regrouped = append_assoc before (if f then row_line name (row_of r) else [])
     (flagged_lines (drop (i + 1) row_names) (drop (i + 1) flags) (rows_of (drop (i + 1) rows))) in
     cc
+
+-- rows of which no flag is set have no lines
+pub lines_none : (flags : List Bool) (rows : List code.Row) (from n : ℕ) → length flags ≡ PICTURE_ROWS → length rows ≡ PICTURE_ROWS → from + n ≤ PICTURE_ROWS
+    → ((i : ℕ) → from ≤ i → i < from + n → get_or flags i false ≡ false)
+    → lines_from (from + n) flags rows ≡ lines_from from flags rows
+lines_none flags rows from zero flags_long rows_long within unset =
+    ap (λ i. lines_from i flags rows) (let e : from + 0 ≡ from = omega arith in e)
+lines_none flags rows from (suc n) flags_long rows_long within unset =
+    ap (λ i. lines_from i flags rows) (let e : from + suc n ≡ from + n + 1 = omega arith in e)
+    ∙ lines_pass flags rows (from + n) (omega (arith, within, names_length)) (omega (arith, within, flags_long)) (omega (arith, within, rows_long))
+    (unset (from + n) (omega arith) (omega arith))
+    ∙ lines_none flags rows from n flags_long rows_long (omega (arith, within)) (λ i ge lt. unset i ge (omega (arith, lt)))
 
 -- ---- the flags tell what the definitions compare
 

@@ -1,16 +1,17 @@
 // The block that a Tick writes: the rows that changed.
-ghost use Rattle.std.specs.Prelude.{◌≡◌, ◌≤◌, ◌<◌, ◌+◌, ◌^◌, ◌*◌, ◌++◌, [], ◌∷◌, length, decimal, slice_index_or, map, ℕ, Bool, true, List, if◌then◌else◌};
+ghost use Rattle.std.specs.Prelude.{◌≡◌, ◌≤◌, ◌<◌, ◌+◌, ◌-◌, ◌^◌, ◌*◌, ◌++◌, [], ◌∷◌, length, decimal, get_or, slice_index_or, map, ℕ, Bool, true, false, List, if◌then◌else◌};
 ghost use Rattle.std.specs.List.{list_any};
 ghost use Rattle.std.specs.Borrow.{Bor};
 ghost use Rattle.ecam_spec.specs.Picture as spec;
 ghost use Rattle.ecam_spec.specs.Output as output;
 ghost use Rattle.ecam_kinds.specs.Shown.{row_of, rows_of, picture_of};
 ghost use Rattle.fwc_lane.specs.ChangedRows.{NoneChanged};
-ghost use Rattle.replay_core.specs.Flagged.{flagged_lines, NamesRows};
+ghost use Rattle.replay_core.specs.Flagged.{flagged_lines, lines_from, NamesRows};
 
 use arrayvec::ArrayVec;
 use ecam_kinds::{Colour, Picture, ROWS, Row};
 use itoa::Buffer;
+use zone_rows::{DISPLAY, FLAGS, LAMPS, LEFT, RIGHT};
 
 // A block's line of its number, and a line for each row of at most 47 bytes, take fewer bytes, as does the last line.
 const BLOCK: usize = 2048;
@@ -124,7 +125,55 @@ fn put_number(out: &mut Block, tick: u64)
     put(out, b"\n");
 }
 
-// Appends the lines of the rows whose flag is set.
+// Whether a flag of a zone is set. It looks at each, and doesn't end at the first that is set, so that it looks at many at
+// once.
+#[inline(always)]
+fn has_any_in(flags: &[bool], from: usize, to: usize) -> bool
+    requires { to ≤ length flags.now }
+    ensures { result ≡ false → (i : ℕ) → from ≤ i → i < to → get_or flags.now i false ≡ false }
+{
+    let mut any = false;
+    for i in from..to {
+        any |= flags[i];
+    }
+    any
+}
+
+// Appends the lines of the rows of a zone whose flag is set.
+#[inline(never)]
+fn put_changes_in(out: &mut Block, changed: &[bool], rows: &[Row], from: usize, to: usize)
+    requires order { from ≤ to }
+    requires within { to ≤ ROWS }
+    requires room { length out.old.items + 47 * (to - from) ≤ BLOCK }
+    requires changed { length changed.now ≡ ROWS }
+    requires rows { length rows.now ≡ ROWS }
+    ensures lines { out.new.items ++ lines_from to changed.now rows.now
+        ≡ out.old.items ++ lines_from from changed.now rows.now }
+    ensures short { length out.new.items ≤ length out.old.items + 47 * (to - from) }
+{
+    for i in from..to {
+        put_change(out, name_of(i), changed[i], &rows[i]);
+    }
+}
+
+// The same, where no row of the zone is looked at if no flag of it is set.
+#[inline(always)]
+fn put_zone(out: &mut Block, changed: &[bool], rows: &[Row], from: usize, to: usize)
+    requires order { from ≤ to }
+    requires within { to ≤ ROWS }
+    requires room { length out.old.items + 47 * (to - from) ≤ BLOCK }
+    requires changed { length changed.now ≡ ROWS }
+    requires rows { length rows.now ≡ ROWS }
+    ensures lines { out.new.items ++ lines_from to changed.now rows.now
+        ≡ out.old.items ++ lines_from from changed.now rows.now }
+    ensures short { length out.new.items ≤ length out.old.items + 47 * (to - from) }
+{
+    if has_any_in(changed, from, to) {
+        put_changes_in(out, changed, rows, from, to);
+    }
+}
+
+// Appends the lines of the rows whose flag is set, zone by zone.
 #[inline(never)]
 fn put_changes(out: &mut Block, changed: &[bool], rows: &[Row])
     requires room { length out.old.items + 47 * ROWS ≤ BLOCK }
@@ -133,9 +182,11 @@ fn put_changes(out: &mut Block, changed: &[bool], rows: &[Row])
     ensures { out.new.items ≡ out.old.items
         ++ flagged_lines output.row_names changed.now (rows_of rows.now) }
 {
-    for i in 0..ROWS {
-        put_change(out, name_of(i), changed[i], &rows[i]);
-    }
+    put_zone(out, changed, rows, LEFT, RIGHT);
+    put_zone(out, changed, rows, RIGHT, FLAGS);
+    put_zone(out, changed, rows, FLAGS, DISPLAY);
+    put_zone(out, changed, rows, DISPLAY, LAMPS);
+    put_zone(out, changed, rows, LAMPS, ROWS);
 }
 
 // Appends the block of a Tick that changed the rows whose flag is set.
@@ -164,7 +215,8 @@ pub(crate) fn writes_nothing(changed: &[bool; ROWS], still: bool) -> bool
 }
 
 // Puts in place of what was there the block of Tick number `tick`, whose picture is this one and which changed the rows
-// whose flag is set. Its cost is a few looks where no flag is set, else one at each flag, and a copy of each row that changed.
+// whose flag is set. Its cost is a few looks at many flags at once, and where any is set a look for each zone, one at each flag
+// of a zone that has one, and a copy of each row that changed.
 #[inline(always)]
 pub(crate) fn renew(block: &mut Block, tick: u64, picture: &Picture, changed: &[bool; ROWS])
     ensures { (old : spec.Picture) → NamesRows old (picture_of picture.now) changed.now

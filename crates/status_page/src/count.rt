@@ -72,9 +72,19 @@ pub fn has_status_lines(book: &Book) -> bool
     false
 }
 
+// Whether a flag is set. It looks at each, and doesn't end at the first that is set, so that it looks at many at once.
+fn has_any(flags: &[bool]) -> bool
+    ensures { result ≡ false → (i : ℕ) → get_or flags.now i false ≡ false }
+{
+    let mut any = false;
+    for i in 0..flags.len() {
+        any |= flags[i];
+    }
+    any
+}
+
 /// Whether it is known without a look at any alert that the status page has no row, since no alert of the book has status
-/// lines and none is cancelled. Costs a look at each flag of `cancelled`, up to the first that is set, where there are no
-/// such lines.
+/// lines and none is cancelled. Costs a look at each flag of `cancelled` where there are no such lines.
 pub(crate) fn is_surely_bare(
     _book: &Book,
     has_status_lines: bool,
@@ -90,13 +100,12 @@ pub(crate) fn is_surely_bare(
     if has_status_lines {
         return false;
     }
-    !cancelled.contains(&true)
+    !has_any(cancelled)
 }
 
 /// Whether the status page has any row, where each active alert is near, and `has_status_lines` tells whether any alert of the
-/// book has status lines. Where it isn't set it costs a look at each flag of `cancelled`, up to the first that is set, and
-/// nothing more where none is. Else, or where one is, it costs a look for each 64 alerts and at each near one, up to the first
-/// that has rows there.
+/// book has status lines. Where it isn't set it costs a look at each flag of `cancelled`, and nothing more where none is set.
+/// Else, or where one is, it costs a look for each 64 alerts and at each near one, up to the first that has rows there.
 pub fn has_status_rows_among(
     book: &Book,
     has_status_lines: bool,

@@ -52,9 +52,9 @@ pub fn fill_status(
 }
 
 /// The same, where each active alert is near, and `has_status_lines` tells whether any alert of the book has status lines.
-/// Where it isn't set, it first costs a look at each flag of `cancelled`, up to the first that is set, and where none is, the
-/// rows alone besides. Else, or where one is, it costs in place of the two looks at each flag of `active` as often a look for
-/// each 64 alerts, and at the flag of each near one.
+/// Where it isn't set, it first costs a look at each flag of `cancelled`, and where none is set, the rows alone besides. Else,
+/// or where one is, it costs in place of the two looks at each flag of `active` as often a look for each 64 alerts, and at the
+/// flag of each near one.
 pub fn fill_status_among(
     book: &Book,
     has_status_lines: bool,

@@ -1,41 +1,21 @@
-use Rattle.std.proofs.Common.{◌≡◌, ◌<◌, [], ◌∷◌, length, get_or, sym, ◌∙◌, subst, arith}
+use Rattle.std.proofs.Common.{◌≡◌, length, subst, ◌∙◌, arith}
 use Rattle.std.proofs.lemmas.List.{length-map, take_all}
-use Rattle.ecam_spec.specs.Picture.{Row, blank_row}
 use Rattle.ecam_kinds.specs.Shown.{row_of, rows_of}
-use Rattle.book_model.proofs.BookReads.{view-read}
 use Rattle.zone_rows.specs.Tracked.{tracked}
 use Rattle.zone_rows.specs.Mended.{Mends}
-use Rattle.fwc_pair.proofs.Faces.{mended-more, mended-all, row-waits, or-parts}
+use Rattle.fwc_pair.proofs.Faces.{mended-none, mended-all}
 use Rattle.fwc_pair.proofs.face.mend_rows.Goals as goal
-
-pub loop-i-preserved : goal.loop-i-preserved
-loop-i-preserved c =
-    let i = c.loop-i.i in
-    let picture = rows_of c.args.picture.now in
-    let long : length picture ≡ 36 = length-map c.args.picture.now row_of ∙ c.requires.picture in
-    let start = tracked c.args.rows.now c.args.changed.now in
-    let now = tracked c.loop-i.rows c.loop-i.changed in
-    let next = tracked c.mend_row.new.rows c.mend_row.new.changed in
-    let within : i < 36 = c.loop-i-test.true in
-    let inside : i < length c.args.picture.now = omega (arith, c.requires.picture) in
-    let here : get_or picture i blank_row ≡ row_of c.index-picture-i.result = view-read row_of c.args.picture.now i c.index-picture-i.result inside c.index-picture-i.is blank_row in
-    record {
-      whole = c.mend_row.ensures.whole;
-      mended = λ others.
-          let before = c.loop-i.invariant.mended others in
-          mended-more picture i start now next c.requires.whole.rows long within before
-          (subst (λ (r : Row). Mends i (r ∷ []) now next) (sym here)
-          (c.mend_row.ensures.row
-          (λ unnamed.
-          let parts = or-parts c.args.all (get_or c.args.named.now i _) unnamed in
-          row-waits picture i start now c.requires.whole.rows long within before ∙ others parts.0 i within parts.1 ∙ here)));
-    }
 
 pub returns-clause-mended : goal.returns-clause-mended
 returns-clause-mended c = λ others.
     let picture = rows_of c.args.picture.now in
     let long : length picture ≡ 36 = length-map c.args.picture.now row_of ∙ c.requires.picture in
     let start = tracked c.args.rows.now c.args.changed.now in
-    let now = tracked c.loop-i.rows c.loop-i.changed in
-    mended-all picture start now c.requires.whole.rows long
-    (subst (λ these. Mends 0 these start now) (take_all c.loop-i.i picture (omega arith)) (c.loop-i.invariant.mended others))
+    let now = tracked c.mend_zone-5.new.rows c.mend_zone-5.new.changed in
+    let whole = c.requires.whole.rows in
+    let left = c.mend_zone.ensures.mended start whole others (mended-none picture start) in
+    let right = c.mend_zone-2.ensures.mended start whole others left in
+    let flags = c.mend_zone-3.ensures.mended start whole others right in
+    let display = c.mend_zone-4.ensures.mended start whole others flags in
+    let all = c.mend_zone-5.ensures.mended start whole others display in
+    mended-all picture start now whole long (subst (λ these. Mends 0 these start now) (take_all 36 picture (omega (arith, long))) all)

@@ -1,17 +1,13 @@
-use Rattle.std.proofs.Common.{◌++◌, false, get_or, refl, sym, ap, ◌∙◌, arith, append-nil}
-use Rattle.replay_core.proofs.Blocks.{lines_step, lines_all, names_length}
+use Rattle.std.proofs.Common.{◌++◌, sym, ap, ◌∙◌, arith, append-nil}
+use Rattle.replay_core.proofs.Blocks.{lines_all, names_length}
 use Rattle.replay_core.proofs.block.put_changes.Goals as goal
-
-pub loop-i-preserved : goal.loop-i-preserved
-loop-i-preserved c = record {
-  lines = lines_step c.args.changed.now c.args.rows.now c.loop-i.i (get_or c.args.changed.now c.loop-i.i false) c.index-rows-i.result c.name_of.result.now
-      c.loop-i.out.items c.put_change.new.out.items _ (omega (arith, names_length)) (omega arith) (omega arith)
-      refl c.index-rows-i.is c.name_of.ensures.name c.put_change.ensures.line c.loop-i.invariant.lines;
-  short = omega (arith, c.put_change.ensures.short, c.loop-i.invariant.short);
-}
 
 pub returns : goal.returns
 returns c =
-    sym (append-nil c.loop-i.out.items)
-    ∙ ap (λ rest. c.loop-i.out.items ++ rest) (sym (lines_all c.args.changed.now c.args.rows.now c.loop-i.i (omega (arith, names_length))))
-    ∙ c.loop-i.invariant.lines
+    sym (append-nil c.put_zone-5.new.out.items)
+    ∙ ap (λ rest. c.put_zone-5.new.out.items ++ rest) (sym (lines_all c.args.changed.now c.args.rows.now 36 (omega (arith, names_length))))
+    ∙ c.put_zone-5.ensures.lines
+    ∙ c.put_zone-4.ensures.lines
+    ∙ c.put_zone-3.ensures.lines
+    ∙ c.put_zone-2.ensures.lines
+    ∙ c.put_zone.ensures.lines
