@@ -1,11 +1,11 @@
 -- A row is gone through by its groups.
 use Rattle.std.proofs.Common.{◌≡◌, ℕ, ◌+◌, ◌-◌, ◌*◌, ◌/◌, ◌%◌, ◌^◌, ◌<◌, ◌≤◌, true, false, ◌==◌, length, slice_index, refl, sym, ap, ◌∙◌, inl, inr, suc-ne-zero, arith}
 use Rattle.std.proofs.Math.Nat.{mul-le-mul_right, lt-div-mul-add}
-use Rattle.std.proofs.lemmas.Bool.{cases_lt, false_from_ne_true, eqb-true}
+use Rattle.std.proofs.lemmas.Bool.{cases_eq, cases_lt, false_from_ne_true, true≢false, eqb-true}
 use Rattle.std.proofs.lemmas.Nat.{pow_pos, div_below, le-div, shr-shr}
-use Rattle.std.proofs.lemmas.Nat.Bits.{bit_at-zero}
+use Rattle.std.proofs.lemmas.Nat.Bits.{bit_at-zero, bit_at-trailing_zeros}
 use Rattle.std.specs.Box.{boxed_slice_items}
-use Rattle.std.specs.Int.{bit_at}
+use Rattle.std.specs.Int.{w64, bit_at, trailing_zeros}
 use Rattle.wakes.specs.Marks.{is_marked, IsNext}
 use Rattle.wakes.specs.Turning.{IsRows, waits_in}
 use Rattle.wakes.proofs.Bits.{none-here, lowest-next, fits as word-fits}
@@ -79,6 +79,20 @@ module _ (rows : Rows) (is : IsRows rows) (r : ℕ) (low : r < 64) where
     found-first lowest i le lt =
         let word : i / 64 * 64 + r ≡ start + r = omega (arith, begins, small, le, lt) in
         ap (λ w. bit_at (slice_index (boxed_slice_items rows.words) w) (i % 64) == 1) word ∙ ap (λ n. n == 1) (lowest (i % 64) (omega (arith, begins, small, le, lt)))
+
+  -- a word in which none waits is 0
+  pub empty-word : (item word : ℕ) → item < rows.count → slice_index (boxed_slice_items rows.words) (item / 64 * 64 + r) ≡ word → word < 2 ^ 64
+      → ((i : ℕ) → i < rows.count → i / 64 ≡ item / 64 → waits_in rows r i ≡ false) → word ≡ 0
+  empty-word item word lt here below none = elim (cases_eq word 0) [
+    | inl zero ↦ zero
+    | inr some ↦
+        let bit = trailing_zeros w64 word in
+        let lowest = bit_at-trailing_zeros w64 word (omega (arith, some)) below in
+        let on = found-waits (item / 64 * 64) bit (omega arith) lowest.0 (ap (λ w. bit_at w bit) here ∙ lowest.1) in
+        let room : item / 64 * 64 + 64 ≤ length (boxed_slice_items rows.words) = omega (arith, place-within rows is 63 item (omega arith) (omega (arith, lt, fits rows is))) in
+        let inside = is.within r (item / 64 * 64 + bit) low (omega (arith, room, lowest.0)) on in
+        absurd (true≢false (sym on ∙ none (item / 64 * 64 + bit) inside (omega (arith, lowest.0))))
+  ]
 
   -- the bits of a number's word from the number on
   module _ (from v rest : ℕ) (le : from ≤ rows.count) (here : slice_index (boxed_slice_items rows.words) (from / 64 * 64 + r) ≡ v) (is-rest : rest ≡ v / 2 ^ (from % 64)) where

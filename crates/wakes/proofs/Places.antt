@@ -243,6 +243,28 @@ module _ (old : Rows) (is : IsRows old) where
       | inr before ↦ is.groups r g low before
     ]
 
+  -- rows in which groups of one row may be busy no more
+  module _ (busy' : List ℕ) (s v mask : ℕ) (row : s < length old.busy) (here : v ≡ get_or old.busy s v) (new : busy' ≡ set old.busy s (bit_and v mask)) where
+    pub was-busy : (r g : ℕ) → is_busy busy' r g ≡ true → is_busy old.busy r g ≡ true
+    was-busy r g on = elim (cases_eq r s) [
+      | inl e ↦
+          let bit : bit_at (bit_and v mask) g ≡ 1 = eqb-true _ 1 (sym (own old.busy busy' s v _ row here new r g e) ∙ on) in
+          let old-bit : bit_at v g ≡ 1 = omega (arith, bit, bit_at_and v mask g, bit_at-lt v g) in
+          sym (was old.busy busy' s v _ row here new r g e) ∙ ap (λ n. n == 1) old-bit
+      | inr ne ↦ sym (other old.busy busy' s v _ row here new r g ne) ∙ on
+    ]
+
+    still : (r g : ℕ) → bit_at mask g ≡ 1 → is_busy busy' r g ≡ is_busy old.busy r g
+    still r g kept = elim (cases_eq r s) [
+      | inl e ↦
+          let same : bit_at (bit_and v mask) g ≡ bit_at v g = omega (arith, kept, bit_at_and v mask g, bit_at-lt v g) in
+          own old.busy busy' s v _ row here new r g e ∙ ap (λ n. n == 1) same ∙ was old.busy busy' s v _ row here new r g e
+      | inr ne ↦ other old.busy busy' s v _ row here new r g ne
+    ]
+
+    pub still-busy : ((g : ℕ) → g < 64 → bit_at mask g ≡ 1) → (r i : ℕ) → r < 64 → i < old.count → waits_in old r i ≡ true → is_busy busy' r (i / 2 ^ old.shift) ≡ true
+    still-busy kept r i low lt on = still r (i / 2 ^ old.shift) (kept (i / 2 ^ old.shift) (omega (arith, in-group i (omega (arith, lt)), few-groups))) ∙ is.busy r i low lt on
+
   -- rows in which a group is busy no more
   module _ (busy' : List ℕ) (s group v : ℕ) (row : s < length old.busy) (few : group < 64) (here : v ≡ get_or old.busy s v)
       (new : busy' ≡ set old.busy s (bit_and v (18446744073709551615 - 1 * 2 ^ group % 2 ^ 64))) where
@@ -252,16 +274,6 @@ module _ (old : Rows) (is : IsRows old) where
         bit-cleared old.busy busy' s group v row few here new r (i / 2 ^ old.shift) (omega (arith, in-group i (omega (arith, lt)), few-groups))
         ∙ ap (λ b. not b && is_busy old.busy r (i / 2 ^ old.shift)) (not-both r s (i / 2 ^ old.shift) group (λ e f. true≢false (sym on ∙ ap (λ n. waits_in old n i) e ∙ none i lt f)))
         ∙ is.busy r i low lt on
-
-    pub was-busy : (r g : ℕ) → is_busy busy' r g ≡ true → is_busy old.busy r g ≡ true
-    was-busy r g on = elim (cases_eq r s) [
-      | inl e ↦
-          let mask = 18446744073709551615 - 1 * 2 ^ group % 2 ^ 64 in
-          let bit : bit_at (bit_and v mask) g ≡ 1 = eqb-true _ 1 (sym (own old.busy busy' s v _ row here new r g e) ∙ on) in
-          let old-bit : bit_at v g ≡ 1 = omega (arith, bit, bit_at_and v mask g, bit_at-lt v g) in
-          sym (was old.busy busy' s v _ row here new r g e) ∙ ap (λ n. n == 1) old-bit
-      | inr ne ↦ sym (other old.busy busy' s v _ row here new r g ne) ∙ on
-    ]
 
     pub other-busy : (g : ℕ) → is_busy busy' s g ≡ true → g ≢ group
     other-busy g on e =

@@ -61,8 +61,8 @@ impl Wakes {
     }
 
     /// The first number whose key has come by now. Its cost in the next moment is one look where none waits for it, else a
-    /// few at each that waits or waited for it, up to that one, and from 4096 numbers on some more at the first group of them
-    /// and at each in which one did; in another moment a look at each number up to it.
+    /// few at each that waits for it, up to that one, and from 4096 numbers on some more at the first group of them and at
+    /// each in which one waits or waited; in another moment a look at each number up to it.
     #[inline(always)]
     pub fn first(&self, now: u64) -> Option<usize>
         requires { now < never }
@@ -73,9 +73,9 @@ impl Wakes {
 
     /// Takes out the first number whose key has come by now. Where there is none, the moment ends. Its cost in the next
     /// moment is that of `first`, and a few writes for each number at which it looks, since it puts those on whose keys are
-    /// to come. Asked again in that moment, it goes over the groups that the last call emptied, with a write for each, but of
-    /// those that earlier calls emptied over the first alone. In another moment it first makes that the next, by a look and a
-    /// few writes at each number.
+    /// to come. Asked again in that moment, it goes over the first group, and from 4096 numbers on over those too that the
+    /// last call emptied, with a write for each. In another moment it first makes that the next, by a look and a few writes at
+    /// each number.
     #[inline(always)]
     pub fn take(&mut self, now: u64) -> Option<usize>
         requires { now < never }

@@ -86,7 +86,8 @@ impl Rows {
         self.busy[(moment % 64) as usize] |= 1 << (item >> self.shift);
     }
 
-    /// A number waits in a moment's row no more. Its cost is one write.
+    /// A number waits in a moment's row no more. Its cost is two writes. Where there are less than 4096 numbers, a group in
+    /// which none waits any more is busy no more, and but for the first no later look goes over it.
     #[inline(always)]
     pub fn take_out(&mut self, moment: u64, item: usize)
         requires rows { IsRows self.old }
@@ -95,8 +96,39 @@ impl Rows {
         ensures count { self.new.count ≡ self.old.count }
         ensures waits { (r i : ℕ) → r < 64 → i < self.old.count → waits_in self.new r i
             ≡ (not (r == moment % 64 && i == item) && waits_in self.old r i) }
+        ensures rests { self.old.shift ≡ 6
+            → ((i : ℕ) → i < self.old.count → i / 64 ≡ item / 64
+            → waits_in self.new (moment % 64) i ≡ false)
+            → is_busy self.new.busy (moment % 64) (item / 64) ≡ false }
     {
-        self.words[place(moment, item)] &= !(1 << (item % 64));
+        let at = place(moment, item);
+        let word = self.words[at] & !(1 << (item % 64));
+        self.words[at] = word;
+        self.rest_word((moment % 64) as usize, item, word);
+    }
+
+    // A number's group is busy in a row no more where it is of one word and that is 0. It takes no branch, since which way
+    // that went couldn't be foreseen.
+    #[inline(always)]
+    fn rest_word(&mut self, row: usize, item: usize, word: u64)
+        requires rows { IsRows self.old }
+        requires row { row < 64 }
+        requires item { item < self.old.count }
+        requires word { slice_index (boxed_slice_items self.old.words) (item / 64 * 64 + row)
+            ≡ word }
+        ensures rows { IsRows self.new }
+        ensures count { self.new.count ≡ self.old.count }
+        ensures words { self.new.words ≡ self.old.words }
+        ensures rests { self.old.shift ≡ 6 → word ≡ 0
+            → is_busy self.new.busy row (item / 64) ≡ false }
+    {
+        let is_last = (word == 0) & (self.shift == 6);
+        let group = if is_last {
+            1 << (item >> self.shift)
+        } else {
+            0
+        };
+        self.busy[row] &= !group;
     }
 
     /// The first number that waits in a moment's row, or how many there are. It goes over the first group and those that are
