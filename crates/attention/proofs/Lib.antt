@@ -1,12 +1,13 @@
 pub mod Onsets
 pub mod Passing
 pub mod Below
-pub mod Latest
+pub mod Ringing
 pub mod Ordered
 pub mod CallLaws
 pub mod Heard
 pub mod Idling
 pub mod Walking
+pub mod Turning
 pub mod StandsOn
 pub mod Resting
 pub mod Steady

@@ -1,5 +1,5 @@
 -- How what is kept comes to stand for no moment, and for one moment more.
-use Rattle.std.proofs.Common.{◌≡◌, ℕ, zero, suc, ◌+◌, false, List, length, replicate, slice_get, Some, Global, sym, ◌∙◌, ap, subst, arith, add-one}
+use Rattle.std.proofs.Common.{◌≡◌, ℕ, zero, suc, ◌+◌, false, List, Option, length, replicate, slice_get, Some, Global, sym, ◌∙◌, ap, subst, arith, add-one}
 use Rattle.std.specs.Prelude.{◌↔◌}
 use Rattle.std.specs.Box.{boxed_slice_items, boxed_slice_with_items}
 use Rattle.std.specs.declared.boxed.BoxedSlice.{BoxedSlice}
@@ -32,14 +32,15 @@ none-open n w kept marks all shut i x read is =
     absurd (let clash : has_open x ≡ false = sym (ap has_open one) ∙ shut in cc)
 
 -- with others to be looked at
-pub fits-looked : (n : ℕ) (kept : List Watch) (opens looked others : List ℕ) (callers : Callers) → room others ≡ room looked
-    → AreKept n kept opens looked callers → AreKept n kept opens others callers
-fits-looked n kept opens looked others callers size fits = record {
+pub fits-looked : (n : ℕ) (kept : List Watch) (opens looked others : List ℕ) (callers : Callers) (chime : Option ℕ) → room others ≡ room looked
+    → AreKept n kept opens looked callers chime → AreKept n kept opens others callers chime
+fits-looked n kept opens looked others callers chime size fits = record {
   watches = fits.watches;
   open_room = fits.open_room;
   looked_room = size ∙ fits.looked_room;
   callers = fits.callers;
   still_open = fits.still_open;
+  latest = fits.latest;
 }
 
 module _ (b : Book) (a : lamps.Attention) where

@@ -1,5 +1,5 @@
 -- What is kept after some moments, by the signals.
-use Rattle.std.specs.Prelude.{◌≡◌, ◌≢◌, ◌↔◌, true, is_some, ℕ, zero, suc, ◌+◌, ◌*◌, ◌/◌, ◌^◌, ◌<◌, ◌≤◌, Bool, false, List, length, filter, get_or}
+use Rattle.std.specs.Prelude.{◌≡◌, ◌≢◌, ◌↔◌, true, is_some, ℕ, zero, suc, ◌+◌, ◌*◌, ◌/◌, ◌^◌, ◌<◌, ◌≤◌, Bool, false, List, Option, length, filter, get_or}
 use Rattle.std.specs.Box.{boxed_slice_items}
 use Rattle.ecam_spec.specs.declared.kinds.Key.TheVariants.{Mw, Mc, Emer}
 use Rattle.ecam_spec.specs.declared.kinds.Sound.TheVariants.{Quiet}
@@ -16,18 +16,21 @@ use Rattle.attention.specs.declared.state.Attention.{Attention}
 use Rattle.attention.specs.declared.watch.Watch.{Watch}
 use Rattle.attention.specs.Watches.{AreWatched, AreMarked, has_open}
 use Rattle.attention.specs.Calling.{no_calls, AreCalls, AreCallers, HaveRoom, is_shown, sounding}
+use Rattle.attention.specs.Latest.{IsLatest}
 
--- something is kept of each of n alerts, those with an open onset are marked as such, and the other sets have room
-pub record AreKept (n : ℕ) (kept : List Watch) (opens looked : List ℕ) (c : Callers) : Type 0 where
+-- something is kept of each of n alerts, those with an open onset are marked as such, the other sets have room, and this is the
+-- latest onset of those that call with a chime
+pub record AreKept (n : ℕ) (kept : List Watch) (opens looked : List ℕ) (c : Callers) (chime : Option ℕ) : Type 0 where
   pub watches : length kept ≡ n
   pub open_room : room opens ≡ 64 * (n / 64 + 1)
   pub looked_room : room looked ≡ 64 * (n / 64 + 1)
   pub callers : HaveRoom n c
   pub still_open : AreMarked has_open kept opens
+  pub latest : IsLatest n kept c.chimes chime
 
 -- it was made for the book
 abbrev pub AttentionFits : Book → Attention → Type 0
-AttentionFits b t = AreKept (length b.alerts) (boxed_slice_items t.watches) t.still_open t.looked t.callers
+AttentionFits b t = AreKept (length b.alerts) (boxed_slice_items t.watches) t.still_open t.looked t.callers t.calls.chime
 
 -- the number of the moment can grow: there are 2 ^ 63 moments of 100 ms in 29 thousand million years
 abbrev pub CanGoOn : Attention → Type 0

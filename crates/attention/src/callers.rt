@@ -1,16 +1,17 @@
 // Which alerts call for attention, as sets.
-ghost use Rattle.std.specs.Prelude.{◌≡◌, ℕ, suc, ◌<◌, ◌^◌, ◌==◌, ◌&&◌, false, length, filter, option_map, slice_get, IfOk};
-ghost use Rattle.std.specs.List.{list_any};
+ghost use Rattle.std.specs.Prelude.{◌≡◌, ℕ, suc, ◌<◌, ◌^◌, ◌==◌, false, length, filter, option_map, slice_get, IfOk};
 ghost use Rattle.ecam_spec.specs.Levels.{is_three, is_two};
 ghost use Rattle.ecam_spec.specs.Places.{below};
 ghost use Rattle.ecam_spec.specs.Lamps as lamps;
 ghost use Rattle.ecam_spec.specs.Lamps.{is_chime};
 ghost use Rattle.wakes.specs.Marks.{is_marked, room};
-ghost use Rattle.attention.specs.Watches.{AreWatched, rings_by};
+ghost use Rattle.attention.specs.Watches.{AreWatched};
 ghost use Rattle.attention.specs.Moments.{AreListed};
-ghost use Rattle.attention.specs.Calling.{AreCalls, AreCallers, HaveRoom, is_shown, marks_at, marks_for, rings_in};
+ghost use Rattle.attention.specs.Calling.{AreCalls, AreCallers, HaveRoom, is_shown, marks_at, marks_for};
+ghost use Rattle.attention.specs.Latest.{any_rings, IsLatest, Tells};
 
 use crate::calls::Calls;
+use crate::latest::Latest;
 use crate::watch::Watch;
 use book_model::Alert;
 use ecam_kinds::{Level, Sound};
@@ -32,7 +33,8 @@ impl Callers {
     /// None of so many alerts. An error is want of memory.
     pub fn new(alloc: Global, alerts: usize) -> Result<Callers, AllocError>
         requires { alerts < 2 ^ 32 }
-        ensures { IfOk result (HaveRoom alerts) }
+        ensures room { IfOk result (HaveRoom alerts) }
+        ensures none { IfOk result (λ c. (i : ℕ) → is_marked c.chimes i ≡ false) }
     {
         let warnings = Marked::new(alloc, alerts)?;
         let cautions = Marked::new(alloc, alerts)?;
@@ -46,7 +48,8 @@ impl Callers {
 
     /// Takes all out. Its cost is at most three writes for each 64 alerts.
     pub fn clear(&mut self)
-        ensures { (n : ℕ) → HaveRoom n self.old → HaveRoom n self.new }
+        ensures room { (n : ℕ) → HaveRoom n self.old → HaveRoom n self.new }
+        ensures none { (i : ℕ) → is_marked self.new.chimes i ≡ false }
     {
         self.warnings.clear();
         self.cautions.clear();
@@ -63,27 +66,33 @@ impl Callers {
         self.chimes.copy_from(&other.chimes);
     }
 
-    /// Puts an alert in where it calls, by its level and its sound, and takes it out where it doesn't. Its cost is three
-    /// writes.
-    pub fn put(&mut self, i: usize, alert: &Alert, calls: bool)
+    /// Puts an alert in where it calls, by its level and its sound, and takes it out where it doesn't. The answer is whether
+    /// it calls with a chime. Its cost is three writes.
+    pub fn put(&mut self, i: usize, alert: &Alert, calls: bool) -> bool
         requires warnings { i < room self.old.warnings }
         requires cautions { i < room self.old.cautions }
         requires chimes { i < room self.old.chimes }
         ensures room { (n : ℕ) → HaveRoom n self.old → HaveRoom n self.new }
         ensures own { marks_at self.new i ≡ marks_for alert.now.level alert.now.sound calls }
         ensures others { (j : ℕ) → (j == i) ≡ false → marks_at self.new j ≡ marks_at self.old j }
+        ensures chimes { result ≡ is_marked self.new.chimes i }
     {
         let is_caution = calls & is_two(alert.level);
+        let chimes = is_caution & is_chime(alert.sound);
         write_mark(&mut self.warnings, i, calls & is_three(alert.level));
         write_mark(&mut self.cautions, i, is_caution);
-        write_mark(&mut self.chimes, i, is_caution & is_chime(alert.sound));
+        write_mark(&mut self.chimes, i, chimes);
+        chimes
     }
 
-    /// What they call for, if this is kept of each alert. Its cost is at most three looks for each 64 alerts, and one read
-    /// for each that calls with a chime.
-    pub fn calls(&self, watches: &[Watch], alerts: &[Alert]) -> Calls
-        requires { length watches.now ≡ length alerts.now }
-        ensures { (a : lamps.Attention) (k : ℕ) → AreListed a alerts.now
+    /// What they call for, if this is kept of each alert, and this is known of the latest onset of those that call with a
+    /// chime. Its cost is at most two looks for each 64 alerts, and where that onset isn't known, one look more for each 64,
+    /// and one read for each that calls with a chime.
+    pub fn calls(&self, watches: &[Watch], alerts: &[Alert], latest: Latest) -> Calls
+        requires watches { length watches.now ≡ length alerts.now }
+        requires latest { Tells (any_rings (length alerts.now) watches.now self.now.chimes) latest }
+        ensures chime { IsLatest (length alerts.now) watches.now self.now.chimes result.chime }
+        ensures calls { (a : lamps.Attention) (k : ℕ) → AreListed a alerts.now
             → AreWatched a (suc k) (length alerts.now) watches.now
             → AreCallers a k (length alerts.now) self.now
             → AreCalls a k (filter (is_shown a k) (below (length alerts.now))) result }
@@ -92,7 +101,7 @@ impl Callers {
         Calls {
             warning: sound_at(alerts, first),
             caution: self.cautions.next_or(0, alerts.len()) < alerts.len(),
-            chime: latest_onset(watches, &self.chimes),
+            chime: latest_known(latest, watches, &self.chimes),
         }
     }
 }
@@ -125,11 +134,21 @@ fn is_chime(sound: Sound) -> bool
     matches!(sound, Sound::Chime)
 }
 
+// The latest onset of these alerts, of which this is known.
+fn latest_known(latest: Latest, watches: &[Watch], chimes: &Marked) -> Option<u64>
+    requires { Tells (any_rings (length watches.now) watches.now chimes.now) latest }
+    ensures { IsLatest (length watches.now) watches.now chimes.now result }
+{
+    if latest.is_known {
+        latest.onset
+    } else {
+        latest_onset(watches, chimes)
+    }
+}
+
 // The latest onset of these alerts. Its cost is a look for each 64, and one read and a maximum for each of these.
 fn latest_onset(watches: &[Watch], chimes: &Marked) -> Option<u64>
-    ensures { (j : ℕ) → rings_in j result
-        ≡ list_any (λ i. is_marked chimes.now i && rings_by j watches.now i)
-        (below (length watches.now)) }
+    ensures { IsLatest (length watches.now) watches.now chimes.now result }
 {
     let first = chimes.next_or(0, watches.len());
     if first >= watches.len() {

@@ -4,6 +4,7 @@
 
 mod callers;
 mod calls;
+mod latest;
 mod moment;
 mod state;
 mod walk;

@@ -8,6 +8,7 @@ ghost use Rattle.attention.specs.State.{AttentionFits, CanGoOn, AreOfBook, Bring
 
 use crate::callers::Callers;
 use crate::calls::Calls;
+use crate::latest::Latest;
 use crate::moment::{Moment, Presses};
 use crate::walk::{join_open, mark_all, walk};
 use crate::watch::Watch;
@@ -126,9 +127,10 @@ impl Attention {
     }
 
     /// Takes one moment more like `step`, where each alert that isn't in `turned` is up and shown as in the moment before.
-    /// Its cost is five looks and a write for each 64 alerts, a few looks and writes at each that is in `turned`, and at
-    /// those whose onset is open where a key acknowledges, and a read at each that calls with a chime. In the first moment
-    /// it is that of `step`.
+    /// Its cost is four looks and a write for each 64 alerts, and a few looks and writes at each that is in `turned`, and at
+    /// those whose onset is open where a key acknowledges. Where one with the latest onset of those that call with a chime
+    /// no longer does so, and none comes to do so with one as late, it is one look more for each 64 alerts, and a read at
+    /// each that does. In the first moment it is that of `step`.
     pub fn step_turned(
         &mut self,
         book: &Book,
@@ -182,15 +184,19 @@ impl Attention {
         };
         join_open(&mut self.looked, &self.still_open, moment.presses);
         let alerts = book.alerts();
-        walk(
+        let latest = walk(
             self.watches.as_mut_slice(),
             &mut self.still_open,
             &mut self.callers,
             &self.looked,
             alerts,
             &moment,
+            Latest {
+                onset: self.calls.chime,
+                is_known: true,
+            },
         );
-        let calls = self.callers.calls(self.watches.as_slice(), alerts);
+        let calls = self.callers.calls(self.watches.as_slice(), alerts, latest);
         self.hear(calls);
     }
 

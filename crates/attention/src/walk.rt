@@ -6,15 +6,18 @@ ghost use Rattle.attention.specs.Watches.{AreMarked, AreWatched, has_open};
 ghost use Rattle.attention.specs.Moments.{IsMoment, any_pressed};
 ghost use Rattle.attention.specs.Calling.{HaveRoom};
 ghost use Rattle.attention.specs.Walked.{IsStepped, IsLeft};
+ghost use Rattle.attention.specs.Latest.{any_rings, Tells};
 
 use crate::callers::{Callers, write_mark};
+use crate::latest::Latest;
 use crate::moment::{Moment, Presses};
 use crate::watch::Watch;
 use book_model::Alert;
 use wakes::Marked;
 
-/// Steps what is kept of each alert in `looked` by a moment, and puts it where it calls for something. Its cost is a look for
-/// each 64 alerts, and a few looks and writes at each of these.
+/// Steps what is kept of each alert in `looked` by a moment, and puts it where it calls for something. The answer is what is
+/// then known of the latest onset of those that call with a chime, by what was before. Its cost is a look for each 64 alerts,
+/// and a few looks and writes at each of these.
 pub fn walk(
     watches: &mut [Watch],
     still_open: &mut Marked,
@@ -22,13 +25,15 @@ pub fn walk(
     looked: &Marked,
     alerts: &[Alert],
     moment: &Moment,
-)
+    latest: Latest,
+) -> Latest
     requires watches { length watches.old ≡ length alerts.now }
     requires open_room { length alerts.now ≤ room still_open.old }
     requires callers { HaveRoom (length alerts.now) callers.old }
     requires still_open { AreMarked has_open watches.old still_open.old }
     requires up { length moment.now.up.now ≡ length alerts.now }
     requires shown { length moment.now.shown.now ≡ length alerts.now }
+    requires latest { Tells (any_rings (length alerts.now) watches.old callers.old.chimes) latest }
     ensures open_room { room still_open.new ≡ room still_open.old }
     ensures callers { HaveRoom (length alerts.now) callers.new }
     ensures still_open { AreMarked has_open watches.new still_open.new }
@@ -38,16 +43,21 @@ pub fn walk(
         → IsStepped a k i (get_or moment.now.shown.now i false) watches.new callers.new }
     ensures others { (i : ℕ) → is_marked looked.now i ≡ false
         → IsLeft i watches.old callers.old watches.new callers.new }
+    ensures latest { Tells (any_rings (length alerts.now) watches.new callers.new.chimes) result }
 {
+    let mut latest = latest;
     let mut i = looked.next_or(0, alerts.len());
     while i < alerts.len() {
         let alert = &alerts[i];
         let pressed = moment.presses.acknowledge(alert.level);
+        let before = watches[i].opened_if(callers.chimes.has(i));
         let watch = watches[i].next(moment.up[i], pressed, moment.number);
         keep(watches, still_open, i, watch);
-        callers.put(i, alert, moment.shown[i] & watch.calls());
+        let chimes = callers.put(i, alert, moment.shown[i] & watch.calls());
+        latest.turn(before, watch.opened_if(chimes));
         i = looked.next_or(i + 1, alerts.len());
     }
+    latest
 }
 
 // What is kept of an alert becomes this. It is written only where it is another than before.

@@ -1,7 +1,8 @@
 // What is kept of one alert.
-ghost use Rattle.std.specs.Prelude.{◌≡◌, ℕ, suc, ◌&&◌, not, false};
+ghost use Rattle.std.specs.Prelude.{◌≡◌, ℕ, suc, ◌+◌, ◌&&◌, nat_le, not, false};
 ghost use Rattle.ecam_spec.specs.Lamps as lamps;
 ghost use Rattle.attention.specs.Watches.{acknowledged, is_open, has_open, calling, opened, onset_after, watch_after};
+ghost use Rattle.attention.specs.Calling.{rings_in};
 
 /// How the last onset of an alert stands.
 #[derive(Clone, Copy, PartialEq, Eq)]
@@ -82,6 +83,13 @@ impl Watch {
             Onset::Open(moment) => moment,
             Onset::Acknowledged => 0,
         }
+    }
+
+    /// The moment of its last onset, if that is open, for one that calls with a chime, and none for another.
+    pub fn opened_if(self, chimes: bool) -> Option<u64>
+        ensures { (j : ℕ) → rings_in j result ≡ (chimes && nat_le j (opened self.onset + 4)) }
+    {
+        if chimes { Some(self.opened()) } else { None }
     }
 
     /// After one moment more: whether the alert is up in it, whether a press in it acknowledges its level, and

@@ -1,5 +1,5 @@
 use Rattle.std.proofs.Common.{◌+◌, ◌||◌, nat_le, sym, ◌∙◌, ap, arith}
-use Rattle.attention.proofs.Latest.{rings-later, rings-none, rings-more}
+use Rattle.attention.proofs.Ringing.{rings-later, rings-none, rings-more}
 use Rattle.attention.proofs.callers.latest_onset.Goals as goal
 
 pub returns-then-first-watches : goal.returns-then-first-watches

@@ -8,6 +8,7 @@ use Rattle.attention.specs.Moments.{IsMoment}
 use Rattle.attention.specs.Walked.{IsStepped, IsLeft}
 use Rattle.attention.proofs.CallLaws.{calls-kept}
 use Rattle.attention.proofs.Walking.{get-same, get-other, left-on, stepped-on, marks-same}
+use Rattle.attention.proofs.Turning.{read-rings, watch-rings, turned}
 use Rattle.attention.proofs.walk.walk.Goals as goal
 use Rattle.attention.proofs.walk.walk.Goals.{After-next_or-i-in-loop-i}
 
@@ -17,7 +18,7 @@ module _ (c : After-next_or-i-in-loop-i) where
 
   -- the alert whose turn it is
   own : (a : lamps.Attention) (k : ℕ) → IsMoment a k c.args.alerts.now c.args.moment.now → AreWatched a k (length c.args.alerts.now) c.args.watches.now
-      → IsStepped a k c.loop-i.i (get_or c.args.moment.now.shown.now c.loop-i.i false) c.keep.new.watches c.put.new.self
+      → IsStepped a k c.loop-i.i (get_or c.args.moment.now.shown.now c.loop-i.i false) c.keep.new.watches c.put-chimes.new.self
   own a k moment kept =
       let i = c.loop-i.i in
       let level = moment.listed.level i c.index-alerts-i.result c.loop-i-test.true c.index-alerts-i.is in
@@ -31,13 +32,13 @@ module _ (c : After-next_or-i-in-loop-i) where
             ap (λ ws. slice_get ws i) c.keep.ensures.watches
             ∙ get-same c.loop-i.watches i c.next-watch.result (omega (arith, long, c.loop-i-test.true))
             ∙ ap Some stepped;
-        marks = c.put.ensures.own ∙ marks-same _ _ _ _ _ _ level sound (ap (λ b. get_or c.args.moment.now.shown.now i false && b) calls);
+        marks = c.put-chimes.ensures.own ∙ marks-same _ _ _ _ _ _ level sound (ap (λ b. get_or c.args.moment.now.shown.now i false && b) calls);
       }
 
-  others : (j : ℕ) → j ≢ c.loop-i.i → IsLeft j c.loop-i.watches c.loop-i.callers c.keep.new.watches c.put.new.self
+  others : (j : ℕ) → j ≢ c.loop-i.i → IsLeft j c.loop-i.watches c.loop-i.callers c.keep.new.watches c.put-chimes.new.self
   others j apart = record {
     watch = ap (λ ws. slice_get ws j) c.keep.ensures.watches ∙ get-other c.loop-i.watches c.loop-i.i j c.next-watch.result apart;
-    marks = c.put.ensures.others j (ne_eqb j c.loop-i.i apart);
+    marks = c.put-chimes.ensures.others j (ne_eqb j c.loop-i.i apart);
   }
 
 pub loop-i-preserved : goal.loop-i-preserved
@@ -48,11 +49,19 @@ loop-i-preserved c =
       most = next.ensures.end;
       here = next.ensures.marked;
       open_room = c.keep.ensures.room ∙ c.loop-i.invariant.open_room;
-      callers = c.put.ensures.room _ c.loop-i.invariant.callers;
+      callers = c.put-chimes.ensures.room _ c.loop-i.invariant.callers;
       still_open = c.keep.ensures.still_open c.loop-i.invariant.still_open;
+      latest =
+          turned (length c.args.alerts.now) i c.loop-i.watches c.keep.new.watches c.loop-i.callers c.put-chimes.new.self c.loop-i-test.true (others c)
+          c.opened_if-before.result c.opened_if.result c.loop-i.latest c.turn.new.self
+          (read-rings c.loop-i.watches i _ c.has.result _ c.opened_if-before.result (omega (arith, long c, c.loop-i-test.true)) c.has.ensures c.opened_if-before.ensures)
+          (watch-rings c.keep.new.watches i c.next-watch.result c.put-chimes.result _ c.opened_if.result
+          (ap (λ ws. slice_get ws i) c.keep.ensures.watches ∙ get-same c.loop-i.watches i c.next-watch.result (omega (arith, long c, c.loop-i-test.true)))
+          c.put-chimes.ensures.chimes c.opened_if.ensures)
+          c.turn.ensures c.loop-i.invariant.latest;
       stepped = λ a k j moment kept low is. elim (cases_eq j i) [
         | inl e ↦
-            subst (λ m. IsStepped a k m (get_or c.args.moment.now.shown.now m false) c.keep.new.watches c.put.new.self) (sym e)
+            subst (λ m. IsStepped a k m (get_or c.args.moment.now.shown.now m false) c.keep.new.watches c.put-chimes.new.self) (sym e)
             (own c a k moment kept)
         | inr apart ↦ elim (cases_lt j i) [
           | inl before ↦ stepped-on a k j _ _ _ _ _ (c.loop-i.invariant.stepped a k j moment kept before is) (others c j apart)

@@ -4,6 +4,7 @@ use Rattle.wakes.specs.Marks.{is_marked, room}
 use Rattle.attention.specs.Watches.{AreMarked, AreWatched, has_open}
 use Rattle.attention.specs.Moments.{IsMoment}
 use Rattle.attention.specs.Calling.{HaveRoom}
+use Rattle.attention.specs.Latest.{any_rings, Tells}
 use Rattle.attention.specs.Walked.{IsStepped, IsLeft}
 use Rattle.attention.proofs.walk.walk.Given as goal
 
@@ -14,6 +15,7 @@ invariant-loop-i l = record {
   open_room : room l.still_open ≡ room l.initial.still_open;
   callers : HaveRoom (length l.alerts) l.callers;
   still_open : AreMarked has_open l.watches l.still_open;
+  latest : Tells (any_rings (length l.alerts) l.watches l.callers.chimes) l.latest;
   stepped : (a : lamps.Attention) (k j : ℕ) → IsMoment a k l.alerts l.moment → AreWatched a k (length l.alerts) l.initial.watches
       → j < l.i → is_marked l.looked j ≡ true
       → IsStepped a k j (get_or l.moment.shown.now j false) l.watches l.callers;

@@ -4,7 +4,9 @@ use Rattle.std.specs.Box.{boxed_slice_items}
 use Rattle.book_model.specs.Sealed.{the_book}
 use Rattle.book_model.proofs.BookLists.{many-alerts}
 use Rattle.book_model.proofs.BookLimits.{sizes}
-use Rattle.attention.specs.Calling.{HaveRoom}
+use Rattle.attention.specs.declared.calls.Calls.{Calls}
+use Rattle.attention.specs.Calling.{HaveRoom, rings_in}
+use Rattle.attention.proofs.Ringing.{rings-none}
 use Rattle.attention.proofs.StandsOn.{none-open, stands-first}
 use Rattle.attention.proofs.state.Attention.new.Goals as goal
 use Rattle.attention.proofs.state.Attention.new.Goals.{After-none}
@@ -31,8 +33,11 @@ returns-clause-fits c = record {
   watches = ap length (all-new c) ∙ length-replicate (length c.alerts-alerts.result.now) c.new.result ∙ many c;
   open_room = c.in_ok-still_open.ensures.size ∙ sized c;
   looked_room = c.in_ok-looked.ensures.size ∙ sized c;
-  callers = subst (λ n. HaveRoom n c.in_ok-callers.callers) (many c) c.in_ok-callers.ensures;
+  callers = subst (λ n. HaveRoom n c.in_ok-callers.callers) (many c) c.in_ok-callers.ensures.room;
   still_open = none-open _ c.new.result _ c.in_ok-still_open.still_open (all-new c) c.new.ensures.shut;
+  latest = λ j.
+      ap (λ (x : Calls). rings_in j x.chime) c.none.ensures
+      ∙ sym (rings-none c.in_ok-callers.callers.chimes (boxed_slice_items c.into_boxed_slice.result) j _ (λ i from h. c.in_ok-callers.ensures.none i));
 }
 
 pub returns-clause-stands : goal.returns-clause-stands

@@ -6,7 +6,7 @@ use Rattle.attention.proofs.state.Attention.rest.Goals as goal
 
 pub returns-clause-fits : goal.returns-clause-fits
 returns-clause-fits c = λ b fits.
-    rw (c.hear.ensures.watches, c.hear.ensures.still_open, c.hear.ensures.looked, c.hear.ensures.callers) fits
+    rw (c.hear.ensures.watches, c.hear.ensures.still_open, c.hear.ensures.looked, c.hear.ensures.callers, c.hear.ensures.calls) fits
 
 pub returns-clause-stands : goal.returns-clause-stands
 returns-clause-stands c = λ b a k nothing stands.

@@ -9,7 +9,7 @@ mark_all-requires c =
     omega (arith, ap length c.alerts.ensures.value, c.requires.fits.looked_room, many-alerts c.args.book.now)
 
 pub step_looked-requires-clause-fits : goal.step_looked-requires-clause-fits
-step_looked-requires-clause-fits c = fits-looked _ _ _ c.args.self.now.looked _ _ c.mark_all.ensures.room c.requires.fits
+step_looked-requires-clause-fits c = fits-looked _ _ _ c.args.self.now.looked _ _ _ c.mark_all.ensures.room c.requires.fits
 
 pub returns-clause-stands : goal.returns-clause-stands
 returns-clause-stands c = λ a k own brings stands.
@@ -18,5 +18,5 @@ returns-clause-stands c = λ a k own brings stands.
     (λ i h off.
     let all = c.mark_all.ensures.marks i (omega (arith, h, ap length c.alerts.ensures.value, many-alerts c.args.book.now)) in
     absurd (let clash : true ≡ false = sym all ∙ off in cc))
-    (stands-looked b a k c.args.self.now _ (fits-looked _ _ _ c.args.self.now.looked _ _ c.mark_all.ensures.room c.requires.fits)
+    (stands-looked b a k c.args.self.now _ (fits-looked _ _ _ c.args.self.now.looked _ _ _ c.mark_all.ensures.room c.requires.fits)
     refl refl refl refl refl stands)

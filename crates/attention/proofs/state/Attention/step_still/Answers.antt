@@ -5,13 +5,13 @@ use Rattle.attention.proofs.Resting.{still-rests, still-stays, none-pressed-of}
 use Rattle.attention.proofs.state.Attention.step_still.Goals as goal
 
 pub step_looked-requires-clause-fits : goal.step_looked-requires-clause-fits
-step_looked-requires-clause-fits c = fits-looked _ _ _ c.args.self.now.looked _ _ c.clear.ensures.room c.requires.fits
+step_looked-requires-clause-fits c = fits-looked _ _ _ c.args.self.now.looked _ _ _ c.clear.ensures.room c.requires.fits
 
 pub returns-then-any-clause-stands : goal.returns-then-any-clause-stands
 returns-then-any-clause-stands c = λ a k own brings still stands.
     let b = the_book c.args.book.now in
     c.step_looked.ensures.stands a k own brings (λ i h off. (λ e. c.if-self-eq0.false (stands.moments ∙ e), still-stays a k i still))
-    (stands-looked b a k c.args.self.now _ (fits-looked _ _ _ c.args.self.now.looked _ _ c.clear.ensures.room c.requires.fits)
+    (stands-looked b a k c.args.self.now _ (fits-looked _ _ _ c.args.self.now.looked _ _ _ c.clear.ensures.room c.requires.fits)
     refl refl refl refl refl stands)
 
 pub returns-clause-stands : goal.returns-clause-stands

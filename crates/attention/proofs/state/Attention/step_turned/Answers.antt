@@ -10,7 +10,7 @@ copy_from-requires c = omega (arith, c.requires.turned_room, c.requires.fits.loo
 
 pub step_looked-requires-clause-fits : goal.step_looked-requires-clause-fits
 step_looked-requires-clause-fits c =
-    fits-looked _ _ _ c.args.self.now.looked _ _
+    fits-looked _ _ _ c.args.self.now.looked _ _ _
     (ap room c.copy_from.ensures ∙ omega (arith, c.requires.turned_room, c.requires.fits.looked_room, many-alerts c.args.book.now))
     c.requires.fits
 
@@ -23,7 +23,7 @@ returns-clause-stands c = λ a k own brings stays stands.
     c.step_looked.ensures.stands a k own brings
     (λ i h off. (λ e. c.if-self-eq0.false (stands.moments ∙ e), stays i h (sym (ap (λ m. is_marked m i) c.copy_from.ensures) ∙ off)))
     (stands-looked b a k c.args.self.now _
-    (fits-looked _ _ _ c.args.self.now.looked _ _
+    (fits-looked _ _ _ c.args.self.now.looked _ _ _
     (ap room c.copy_from.ensures ∙ omega (arith, c.requires.turned_room, c.requires.fits.looked_room, many-alerts c.args.book.now))
     c.requires.fits)
     refl refl refl refl refl stands)
