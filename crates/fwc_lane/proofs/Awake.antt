@@ -15,7 +15,7 @@ use Rattle.condition_codes.specs.IsAskers.{IsAsking, IsAmong}
 use Rattle.condition_codes.specs.Places.{nodes_before}
 use Rattle.condition_codes.specs.declared.askers.Asker.{Asker}
 use Rattle.fwc_lane.specs.declared.terms.Terms.{Terms}
-use Rattle.fwc_lane.specs.TermsFit.{TermsFit, AreWoken}
+use Rattle.fwc_lane.specs.TermsFit.{TermsFit, AreWoken, OwnsBelow}
 use Rattle.fwc_lane.specs.Waking.{sizes_in, HasWoken, CanTurn, TurnsEach, MarksEach, is_listed}
 use Rattle.fwc_lane.proofs.FlagSteps.{left-false, right-false}
 use Rattle.fwc_lane.proofs.Hears.{waits-by, heard-or, heard-none, asks-heard, atoms-more}
@@ -48,10 +48,11 @@ module _ (b : Book) where
     states = refl;
     wakes = refl;
     slots = refl;
+    owners = refl;
     terms = λ j p is. sym (ap (λ x. is_marked t.woken j || x) (none j p is) ∙ or-false (is_marked t.woken j));
     counts = λ visited counted. counted;
     turns = λ j p is w h asked atoms so waits.
-        waits-by w h asked (λ i. heard (passes f) p.tree i || asked i) p.tree p.at (nodes_before (places b) j) t.nodes
+        waits-by w h asked (λ i. heard (passes f) p.tree i || asked i) p.tree p.at (nodes_before (places b) j) t.cells.nodes
         (λ i. ap (λ x. x || asked i) (heard-none (passes f) p.tree (none j p is) i)) waits;
     calm = λ j p is off. (record { calm = off; told = refl; due = refl });
     stirs = λ woken. woken;
@@ -70,17 +71,18 @@ module _ (b : Book) where
       → ((o : ℕ) → f o ≡ true → reads o ≡ first_reads o) → ((o : ℕ) → g o ≡ true → reads o ≡ next_reads o)
       → HasWoken b f first_reads old mid → HasWoken b g next_reads mid new → HasWoken b h reads old new
   awake-then f g h first_reads next_reads reads old mid new both alike also first second = record {
-    rest = second.rest ∙ ap (λ (t : Terms). record t { woken = new.woken; stirred = new.stirred; nodes = new.nodes; cells = new.cells }) first.rest;
+    rest = second.rest ∙ ap (λ (t : Terms). record t { woken = new.woken; stirred = new.stirred; cells = new.cells }) first.rest;
     woken_room = second.woken_room ∙ first.woken_room;
     stirred_room = second.stirred_room ∙ first.stirred_room;
     states = second.states ∙ first.states;
     wakes = second.wakes ∙ first.wakes;
     slots = second.slots ∙ first.slots;
+    owners = second.owners ∙ first.owners;
     terms = wakes-then b f g h old.woken mid.woken new.woken both first.terms second.terms;
     counts = λ visited counted. second.counts visited (first.counts visited counted);
     turns = λ j p is w k asked atoms so waits.
         let at = nodes_before (places b) j in
-        waits-by w k (λ i. heard (passes g) p.tree i || (heard (passes f) p.tree i || asked i)) (λ i. heard (passes h) p.tree i || asked i) p.tree p.at at new.nodes
+        waits-by w k (λ i. heard (passes g) p.tree i || (heard (passes f) p.tree i || asked i)) (λ i. heard (passes h) p.tree i || asked i) p.tree p.at at new.cells.nodes
         (λ i.
         ap (λ x. x || asked i) (heard-or (passes f) (passes g) (passes h) p.tree (λ n x asks. both (operand_number (sizes_in b) x)) i)
         ∙ or-around (heard (passes f) p.tree i) (heard (passes g) p.tree i) (asked i))
@@ -102,10 +104,10 @@ module _ (b : Book) where
   -- ---- the nodes of a list
 
   pub awake-listed : (operand : ℕ) (reading : Reading) (asking : List Asker) (old new : Terms) (other : Bool) → other ≡ true
-      → new ≡ record old { woken = new.woken; stirred = new.stirred; nodes = new.nodes; cells = new.cells }
+      → new ≡ record old { woken = new.woken; stirred = new.stirred; cells = new.cells }
       → ((j i : ℕ) (p : Placed) (x : Operand) → slice_get (places b) j ≡ Some p → Asks p.tree i x → operand_number (sizes_in b) x ≡ operand → IsAmong asking j i)
       → ((k : ℕ) (a : Asker) → slice_get asking k ≡ Some a → IsAsking b operand a)
-      → TurnsEach b asking reading old.nodes old.stirred new.nodes new.stirred → MarksEach b asking old.woken old.cells new.woken new.cells
+      → TurnsEach b asking reading old.cells.nodes old.stirred new.cells.nodes new.stirred → MarksEach b asking old.woken old.cells new.woken new.cells
       → (AreWoken old.woken old.stirred → AreWoken new.woken new.stirred)
       → HasWoken b (λ o. other && eqb o operand) (λ o. reading) old new
   awake-listed operand reading asking old new other on rest each only turned marked stirs =
@@ -118,10 +120,11 @@ module _ (b : Book) where
         states = turned.states;
         wakes = turned.wakes;
         slots = marked.slots;
+        owners = marked.owners;
         terms = λ j p is. marked.marked j ∙ ap (λ c. is_marked old.woken j || c) (asking-named b operand asking other on each only j p is);
         counts = marked.counts;
         turns = λ j p is w h asked atoms so waits.
-            waits-by w h (λ i. is_listed asking j i || asked i) (λ i. heard (passes f) p.tree i || asked i) p.tree p.at (nodes_before (places b) j) new.nodes
+            waits-by w h (λ i. is_listed asking j i || asked i) (λ i. heard (passes f) p.tree i || asked i) p.tree p.at (nodes_before (places b) j) new.cells.nodes
             (λ i. ap (λ x. x || asked i) (hears j p is i))
             (turned.turns j p is w h asked atoms
             (λ i x asks among. so i x asks (sym (asks-heard (passes f) p.tree i x asks) ∙ hears j p is i ∙ among)) waits);
@@ -138,6 +141,8 @@ module _ (b : Book) where
     wakes = wakes.wakes ∙ fits.wakes;
     askers = fits.askers;
     slots = ap length wakes.slots ∙ fits.slots;
+    owned = ap length wakes.owners ∙ fits.owned;
+    owners = subst (OwnsBelow b (length (places b))) (sym wakes.owners) fits.owners;
     visits = most;
     truths = fits.truths;
     dues = fits.dues;
@@ -150,7 +155,7 @@ module _ (b : Book) where
 
   -- the nodes of an operand's list can be told
   pub can-turn : (t : Terms) (operand : ℕ) (asking : List Asker) → TermsFit b t → ((k : ℕ) (a : Asker) → slice_get asking k ≡ Some a → IsAsking b operand a)
-      → CanTurn b asking t.codes t.nodes t.woken t.stirred
+      → CanTurn b asking t.codes t.cells.nodes t.woken t.stirred
   can-turn t operand asking fits only = record {
     are = fits.codes;
     asks = λ k a is. (operand, only k a is);

@@ -8,7 +8,7 @@ use Rattle.std.proofs.lemmas.Option.{slice_get_within}
 use Rattle.ecam_spec.specs.Keys.{key_number, pressed}
 use Rattle.ecam_spec.specs.Book.{Book}
 use Rattle.ecam_spec.specs.Term.{World}
-use Rattle.ecam_spec.specs.TermSize.{Placed}
+use Rattle.ecam_spec.specs.TermSize.{Placed, slots}
 use Rattle.ecam_spec.specs.History.{Moment}
 use Rattle.ecam_spec.specs.Past.{Signal}
 use Rattle.ecam_spec.specs.Situation.{value_in, strokes_in, computer_up, world_where}
@@ -21,7 +21,8 @@ use Rattle.param_table.specs.Asked.{is_asked_for}
 use Rattle.param_table.specs.declared.table.Params.{Params}
 use Rattle.term_eval.specs.Asked.{heard}
 use Rattle.term_eval.specs.CellState.{Stand}
-use Rattle.term_eval.specs.Memory.{Memory}
+use Rattle.term_eval.specs.Memory.{Memory, NodeMemory}
+use Rattle.term_eval.specs.NodeState.{NodesStand, first_wake}
 use Rattle.term_eval.specs.Due.{staying, IsDue}
 use Rattle.term_eval.specs.Reading.{Reads}
 use Rattle.term_eval.specs.declared.reading.Reading.{Reading}
@@ -74,17 +75,21 @@ module _ (b : Book) (m : ℕ → Moment) (k : ℕ) (small : k < 2 ^ 63) (old : T
     (marked : (h : ℕ) → k ≡ suc h → (j : ℕ) → j < length old.truths.items → is_marked marks j ≡ leb (slice_index old.dues j) k)
     (same : (j : ℕ) → j < length old.truths.items → is_marked stirs j ≡ is_marked marks j)
     (kept : (j : ℕ) → j < length old.truths.items → is_marked marks j ≡ false → slice_index dues j ≡ slice_index old.dues j)
-    (slots : cells.slots ≡ old.cells.slots) (counted : IsCounted (places b) old.cells.visits marks cells.visits) where
+    (kept_slots : cells.slots ≡ old.cells.slots) (kept_nodes : cells.nodes ≡ old.cells.nodes) (counted : IsCounted (places b) old.cells.visits marks cells.visits) where
   abbrev begun : Terms
   begun = record old { woken = marks; stirred = stirs; dues = dues; cells = cells }
+
+  -- what is kept of its nodes stands as it stood
+  still : (h : ℕ) → k ≡ suc h → (j : ℕ) (p : Placed) → slice_get (places b) j ≡ Some p → NodesStand (world_of b m j) h p.tree p.at (nodes_before (places b) j) cells.nodes
+  still h e j p is = subst (NodesStand (world_of b m j) h p.tree p.at (nodes_before (places b) j)) (sym kept_nodes) (stands.nodes h e j p is)
 
   -- one that isn't stirred is due later
   unstirred : (h : ℕ) → k ≡ suc h → (j : ℕ) (p : Placed) → slice_get (places b) j ≡ Some p → is_marked marks j ≡ false → j < length old.truths.items
       → IsUnstirred (world_of b m j) h (slice_index old.dues j) (nodes_before (places b) j) p begun
   unstirred h e j p is off inside = record {
     later = later (sym (marked h e j inside) ∙ off);
-    wakes = sym (stands.wakes h e j p is);
-    told = stands-told (world_of b m j) h p.tree p.at (nodes_before (places b) j) old.nodes (stands.nodes h e j p is);
+    wakes = ap (λ (n : NodeMemory). first_wake n.wakes p.at (slots p.tree)) kept_nodes ∙ sym (stands.wakes h e j p is);
+    told = stands-told (world_of b m j) h p.tree p.at (nodes_before (places b) j) cells.nodes (still h e j p is);
   } where
     later : leb (slice_index old.dues j) k ≡ false → suc h < slice_index old.dues j
     later not-yet = elim (cases_lt k (slice_index old.dues j)) [
@@ -103,8 +108,8 @@ module _ (b : Book) (m : ℕ → Moment) (k : ℕ) (small : k < 2 ^ 63) (old : T
         ∙ ap (leb (slice_index old.dues j)) e
         ∙ due-now (world_of b m j) p h (slice_index old.dues j) (omega (arith, small, e)) (stands.next h e j p is)
         ∙ sym (ap (λ x. x || eqb (slice_index old.dues j) (suc h)) (none-any (operands p.tree)));
-    nodes = waits-by (world_of b m j) h (λ i. false) (heard none-hit p.tree) p.tree p.at (nodes_before (places b) j) old.nodes (heard-none none-hit p.tree (none-any (operands p.tree)))
-        (stands.nodes h e j p is);
+    nodes = waits-by (world_of b m j) h (λ i. false) (heard none-hit p.tree) p.tree p.at (nodes_before (places b) j) cells.nodes (heard-none none-hit p.tree (none-any (operands p.tree)))
+        (still h e j p is);
     kept = λ off. kept j inside (sym (same j inside) ∙ off);
     calm = λ off. unstirred h e j p is (sym (same j inside) ∙ off) inside;
   }
@@ -117,7 +122,7 @@ module _ (b : Book) (m : ℕ → Moment) (k : ℕ) (small : k < 2 ^ 63) (old : T
         let within : j < length (places b) = slice_get_within (places b) j p is in
         let inside : j < length old.truths.items = omega (arith, within, fits.truths) in (record {
           short = (fits.codes.codes.codes j p is).short;
-          stands = subst (Stand (world_of b m j) k p.tree p.at) (sym slots) (stands.cells j p is);
+          stands = subst (Stand (world_of b m j) k p.tree p.at) (sym kept_slots) (stands.cells j p is);
           first = λ e. first e j inside;
           stirs = λ e. same j inside ∙ first e j inside;
           later = λ h e. waiting h e j p is inside;

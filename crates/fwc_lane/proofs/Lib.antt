@@ -4,6 +4,7 @@ pub mod Askers
 pub mod Hears
 pub mod Listing
 pub mod NodeFrames
+pub mod Owning
 pub mod Turning
 pub mod Hitting
 pub mod Awake

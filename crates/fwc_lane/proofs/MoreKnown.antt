@@ -45,12 +45,12 @@ module _ (d : Draft) (sealed : IsSealed d) (worlds : ℕ → World) (hit hit' : 
   -- ---- a condition that was stepped
 
   stepped : (j : ℕ) (p : Placed) → j < i → slice_get (places (the_book d)) j ≡ Some p
-      → IsAsked (worlds j) k j (nodes_before (places (the_book d)) j) p t → IsAsked (worlds j) k j (nodes_before (places (the_book d)) j) p (record t { woken = new.woken; stirred = new.stirred; nodes = new.nodes; cells = new.cells })
+      → IsAsked (worlds j) k j (nodes_before (places (the_book d)) j) p t → IsAsked (worlds j) k j (nodes_before (places (the_book d)) j) p (record t { woken = new.woken; stirred = new.stirred; cells = new.cells })
   stepped j p lt is was =
       let none = apart j p lt is in
       let unheard = heard-none passes p.tree none in record {
         stands = subst (Stand (worlds j) (suc k) p.tree p.at) (sym wakes.slots) was.stands;
-        nodes = waits-by (worlds j) k (λ n. heard passes p.tree n || false) (λ n. false) p.tree p.at (nodes_before (places (the_book d)) j) new.nodes (λ n. sym (ap (λ a. a || false) (unheard n)))
+        nodes = waits-by (worlds j) k (λ n. heard passes p.tree n || false) (λ n. false) p.tree p.at (nodes_before (places (the_book d)) j) new.cells.nodes (λ n. sym (ap (λ a. a || false) (unheard n)))
             (wakes.turns j p is (worlds j) k (λ n. false) (λ n on. absurd (let w : ⊥ = (let clash : false ≡ true = on in cc) in w))
             (λ n x asks on. absurd (let w : ⊥ = (let clash : false ≡ true = sym none ∙ asks-named passes p.tree n x asks on in cc) in w))
             was.nodes);
@@ -71,7 +71,7 @@ module _ (d : Draft) (sealed : IsSealed d) (worlds : ℕ → World) (hit hit' : 
     by false now = absurd (let w : ⊥ = (let clash : false ≡ true = sym (was-calm j p is now) ∙ on in cc) in w)
 
   waiting : (h : ℕ) → k ≡ suc h → (j : ℕ) (p : Placed) → i ≤ j → slice_get (places (the_book d)) j ≡ Some p
-      → IsWaiting (worlds j) hit h j (nodes_before (places (the_book d)) j) p t → IsWaiting (worlds j) hit' h j (nodes_before (places (the_book d)) j) p (record t { woken = new.woken; stirred = new.stirred; nodes = new.nodes; cells = new.cells })
+      → IsWaiting (worlds j) hit h j (nodes_before (places (the_book d)) j) p t → IsWaiting (worlds j) hit' h j (nodes_before (places (the_book d)) j) p (record t { woken = new.woken; stirred = new.stirred; cells = new.cells })
   waiting h e j p le is own = record {
     due = own.due;
     told = own.told;
@@ -79,7 +79,7 @@ module _ (d : Draft) (sealed : IsSealed d) (worlds : ℕ → World) (hit hit' : 
     marks =
         wakes.terms j p is ∙ ap (λ a. a || list_any passes (operands p.tree)) own.marks
         ∙ or-swap (list_any hit (operands p.tree)) (eqb own.due (suc h)) (list_any passes (operands p.tree)) ∙ ap (λ a. a || eqb own.due (suc h)) (sym (either h e j p is));
-    nodes = waits-by (worlds j) h (λ n. heard passes p.tree n || heard hit p.tree n) (heard hit' p.tree) p.tree p.at (nodes_before (places (the_book d)) j) new.nodes
+    nodes = waits-by (worlds j) h (λ n. heard passes p.tree n || heard hit p.tree n) (heard hit' p.tree) p.tree p.at (nodes_before (places (the_book d)) j) new.cells.nodes
         (heard-or passes hit hit' p.tree
         (λ n x asks. hits h e x (asks-one d sealed j p is n x asks) ∙ or_comm (hit x) (passes x)))
         (wakes.turns j p is (worlds j) h (heard hit p.tree) (atoms-heard hit p.tree)
@@ -98,7 +98,7 @@ module _ (d : Draft) (sealed : IsSealed d) (worlds : ℕ → World) (hit hit' : 
   }
 
   left : (j : ℕ) (p : Placed) → i ≤ j → slice_get (places (the_book d)) j ≡ Some p
-      → IsLeft (worlds j) hit k j (nodes_before (places (the_book d)) j) p t → IsLeft (worlds j) hit' k j (nodes_before (places (the_book d)) j) p (record t { woken = new.woken; stirred = new.stirred; nodes = new.nodes; cells = new.cells })
+      → IsLeft (worlds j) hit k j (nodes_before (places (the_book d)) j) p t → IsLeft (worlds j) hit' k j (nodes_before (places (the_book d)) j) p (record t { woken = new.woken; stirred = new.stirred; cells = new.cells })
   left j p le is was = record {
     short = was.short;
     stands = subst (Stand (worlds j) k p.tree p.at) (sym wakes.slots) was.stands;

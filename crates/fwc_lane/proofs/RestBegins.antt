@@ -89,6 +89,7 @@ module _ (d : Draft) (sealed : IsSealed d) (m : ℕ → Moment) (old : Lane) (fi
       (λ j lt. refl)
       (λ j lt off. refl)
       refl
+      refl
       (counted-none (places b) [] old.terms.cells.visits old.terms.cells.visits none-marked (omega (arith, fits.terms.visits)))
 
   still : (p : ℕ) → p < length b.parameters → is_asked_for b p ≡ true → get_or old.values.items p None ≡ value_in b m p k

@@ -11,7 +11,6 @@ use Rattle.book_model.specs.Conditions.{places}
 use Rattle.book_model.proofs.ConditionRanges.{range}
 use Rattle.term_eval.specs.declared.code.Step.{Step}
 use Rattle.term_eval.specs.declared.link.Link.{Link}
-use Rattle.term_eval.specs.declared.owner.Owner.{Owner}
 use Rattle.term_eval.specs.Code.{IsCode, IsReady, code}
 use Rattle.term_eval.specs.Linked.{CanRun}
 use Rattle.term_eval.specs.CellWords.{cell_at}
@@ -32,11 +31,12 @@ use Rattle.fwc_lane.specs.Visits.{IsCounted}
 use Rattle.fwc_lane.proofs.Askers.{nodes-apart}
 use Rattle.fwc_lane.proofs.Hears.{waits-by, heard-same}
 use Rattle.fwc_lane.proofs.NodeFrames.{waits-same, wake-same, ends-before}
+use Rattle.fwc_lane.proofs.Owning.{many-owners}
 use Rattle.fwc_lane.specs.Conditions.{IsAsked, IsLeft, IsWaiting, HalfStepped, TellsMoved}
 
 -- the code under a condition's number can be run
 pub is-ready : (b : Book) (t : Terms) (i : ℕ) (p : Placed) (steps : List Step) (start : ℕ) → TermsFit b t → slice_get (places b) i ≡ Some p
-    → IsCode p.tree p.at steps → start ≡ nodes_before (places b) i → IsReady steps t.cells t.nodes p.tree p.at start
+    → IsCode p.tree p.at steps → start ≡ nodes_before (places b) i → IsReady steps t.cells p.tree p.at start
 is-ready b t i p steps start fits here code at = record {
   held = record {
     code = code;
@@ -47,13 +47,17 @@ is-ready b t i p steps start fits here code at = record {
 }
 
 -- and its temporal nodes be gone through
-pub can-run : (b : Book) (t : Terms) (i : ℕ) (p : Placed) (own : List Link) (temporal : List Owner) (start at : ℕ) → TermsFit b t → slice_get (places b) i ≡ Some p
-    → own ≡ links_of p → temporal ≡ owners_of p → start ≡ nodes_before (places b) i → at ≡ p.at → CanRun own temporal t.cells t.nodes p.tree at start
-can-run b t i p own temporal start at fits here linked timed first is =
+pub can-run : (b : Book) (t : Terms) (i : ℕ) (p : Placed) (own : List Link) (count start at : ℕ) → TermsFit b t → slice_get (places b) i ≡ Some p
+    → own ≡ links_of p → count ≡ length (owners_of p) → start ≡ nodes_before (places b) i → at ≡ p.at → CanRun own count t.cells p.tree at start
+can-run b t i p own count start at fits here linked many first is =
     let coded = fits.codes.codes.codes i p here in
     let ready = is-ready b t i p (code p.at 0 p.tree) start fits here (record { is = refl; short = coded.short; small = coded.small }) first in
-    subst (λ n. CanRun own temporal t.cells t.nodes p.tree n start) (sym is)
-    (record { linked = record { links = linked; held = ready.held }; owners = timed; range = ready.range })
+    subst (λ n. CanRun own count t.cells p.tree n start) (sym is) record {
+      linked = record { links = linked; held = ready.held };
+      count = many ∙ many-owners p.tree p.at;
+      owners = fits.owners.each i p (slice_get_within (places b) i p here) here;
+      range = ready.range;
+    }
 
 -- a condition that is left is marked where the moment wakes it
 pub marked-is : (w : World) (hit : Operand → Bool) (k j start : ℕ) (p : Placed) (t : Terms) → k < 2 ^ 63 → TellsMoved hit w k p → IsLeft w hit k j start p t → woken w p.tree k ≡ is_marked t.woken j
@@ -64,9 +68,9 @@ marked-is w hit (suc h) j start p t small tells left =
 
 -- of the nodes of a condition that waits, those have been asked whose operand moved
 pub moved-asked : (w : World) (hit : Operand → Bool) (k h j start : ℕ) (p : Placed) (t : Terms) → TellsMoved hit w k p → IsWaiting w hit h j start p t
-    → NodesWait w h (heard (moved w k) p.tree) p.tree p.at start t.nodes
+    → NodesWait w h (heard (moved w k) p.tree) p.tree p.at start t.cells.nodes
 moved-asked w hit k h j start p t tells is =
-    waits-by w h (heard hit p.tree) (heard (moved w k) p.tree) p.tree p.at start t.nodes
+    waits-by w h (heard hit p.tree) (heard (moved w k) p.tree) p.tree p.at start t.cells.nodes
     (heard-same (moved w k) hit p.tree (λ i x asks. sym (tells.each i x asks))) is.nodes
 
 -- one that isn't stirred is as it was asked
@@ -77,14 +81,14 @@ rest-asked w hit (suc h) j start p t small tells left off =
     let is = left.later h refl in
     let calm = is.calm off in
     let waits = moved-asked w hit (suc h) h j start p t tells is in
-    let later : suc h < first_wake t.nodes.wakes p.at (slots p.tree) = subst (λ n. suc h < n) (sym calm.wakes) calm.later in
-    let wakes : slice_index t.dues j ≡ first_wake t.nodes.wakes p.at (slots p.tree) = is.kept off ∙ sym calm.wakes in
+    let later : suc h < first_wake t.cells.nodes.wakes p.at (slots p.tree) = subst (λ n. suc h < n) (sym calm.wakes) calm.later in
+    let wakes : slice_index t.dues j ≡ first_wake t.cells.nodes.wakes p.at (slots p.tree) = is.kept off ∙ sym calm.wakes in
     record {
-      stands = unstirred-cells w h p.tree p.at start t.nodes small left.short waits later t.cells.slots left.stands;
-      nodes = unstirred-nodes w h p.tree p.at start t.nodes small left.short waits later;
+      stands = unstirred-cells w h p.tree p.at start t.cells.nodes small left.short waits later t.cells.slots left.stands;
+      nodes = unstirred-nodes w h p.tree p.at start t.cells.nodes small left.short waits later;
       wakes = wakes;
-      told = is.told ∙ sym calm.told ∙ sym (unstirred-truth w h p.tree p.at start t.nodes small left.short waits later);
-      next = subst (IsDue (staying w (suc h)) p.tree (suc h)) (sym wakes) (unstirred-due w h p.tree p.at start t.nodes small left.short waits later);
+      told = is.told ∙ sym calm.told ∙ sym (unstirred-truth w h p.tree p.at start t.cells.nodes small left.short waits later);
+      next = subst (IsDue (staying w (suc h)) p.tree (suc h)) (sym wakes) (unstirred-due w h p.tree p.at start t.cells.nodes small left.short waits later);
     }
 
 -- and holds where it held
@@ -128,7 +132,7 @@ module _ (ps : List Placed) (worlds : ℕ → World) (k i : ℕ) (p : Placed) (h
   module _ (apart : AllPairs EndsBefore ps) (old new : Terms) (truth : Bool) (due : ℕ)
       (before : (j : ℕ) → j < p.at → cell_at new.cells.slots j ≡ cell_at old.cells.slots j)
       (behind : (j : ℕ) → p.at + slots p.tree ≤ j → cell_at new.cells.slots j ≡ cell_at old.cells.slots j)
-      (within : Within (nodes_before ps i) (nodes_before ps i + nodes p.tree) p.at (p.at + slots p.tree) old.nodes new.nodes)
+      (within : Within (nodes_before ps i) (nodes_before ps i + nodes p.tree) p.at (p.at + slots p.tree) old.cells.nodes new.cells.nodes)
       (truths : new.truths.items ≡ set old.truths.items i truth) (dues : new.dues ≡ set old.dues i due) (marks : new.woken ≡ old.woken) (stirs : new.stirred ≡ old.stirred)
       (visits : new.cells.visits ≡ old.cells.visits) where
     truth-other : (j : ℕ) → j ≢ i → get_or new.truths.items j false ≡ get_or old.truths.items j false
@@ -142,11 +146,11 @@ module _ (ps : List Placed) (worlds : ℕ → World) (k i : ℕ) (p : Placed) (h
         let ends : q.at + slots q.tree ≤ p.at = ends-before ps j i q p apart lt is here in
         let below : nodes_before ps j + nodes q.tree ≤ nodes_before ps i = nodes-apart ps j i q lt is in
         let ne : j ≢ i = omega arith in
-        let wakes : first_wake new.nodes.wakes q.at (slots q.tree) ≡ first_wake old.nodes.wakes q.at (slots q.tree) =
-        wake-same old.nodes.wakes new.nodes.wakes q.at (slots q.tree) (λ s low high. within.slots_before s (omega (arith, high, ends))) in
+        let wakes : first_wake new.cells.nodes.wakes q.at (slots q.tree) ≡ first_wake old.cells.nodes.wakes q.at (slots q.tree) =
+        wake-same old.cells.nodes.wakes new.cells.nodes.wakes q.at (slots q.tree) (λ s low high. within.slots_before s (omega (arith, high, ends))) in
         record {
           stands = Stand-same (worlds j) (suc k) q.tree q.at old.cells.slots new.cells.slots (record { same = λ n low high. before n (omega arith) }) asked.stands;
-          nodes = waits-same (worlds j) k (λ n. false) q.tree q.at (nodes_before ps j) old.nodes new.nodes
+          nodes = waits-same (worlds j) k (λ n. false) q.tree q.at (nodes_before ps j) old.cells.nodes new.cells.nodes
               (λ n low high. within.before n (omega (arith, high, below))) (λ s low high. within.slots_before s (omega (arith, high, ends))) asked.nodes;
           wakes = due-other j ne ∙ asked.wakes ∙ sym wakes;
           told = truth-other j ne ∙ asked.told;
@@ -160,8 +164,8 @@ module _ (ps : List Placed) (worlds : ℕ → World) (k i : ℕ) (p : Placed) (h
         let ne : j ≢ i = omega arith in
         let same : is_marked new.woken j ≡ is_marked old.woken j = ap (λ ws. is_marked ws j) marks in
         let stays : is_marked new.stirred j ≡ is_marked old.stirred j = ap (λ ws. is_marked ws j) stirs in
-        let wakes : first_wake new.nodes.wakes q.at (slots q.tree) ≡ first_wake old.nodes.wakes q.at (slots q.tree) =
-        wake-same old.nodes.wakes new.nodes.wakes q.at (slots q.tree) (λ s low high. within.slots_behind s (omega (arith, low, ends))) in
+        let wakes : first_wake new.cells.nodes.wakes q.at (slots q.tree) ≡ first_wake old.cells.nodes.wakes q.at (slots q.tree) =
+        wake-same old.cells.nodes.wakes new.cells.nodes.wakes q.at (slots q.tree) (λ s low high. within.slots_behind s (omega (arith, low, ends))) in
         record {
           short = left.short;
           stands = Stand-same (worlds j) k q.tree q.at old.cells.slots new.cells.slots (record { same = λ n low high. behind n (omega arith) }) left.stands;
@@ -173,7 +177,7 @@ module _ (ps : List Placed) (worlds : ℕ → World) (k i : ℕ) (p : Placed) (h
                 told = truth-other j ne ∙ was.told;
                 next = was.next;
                 marks = same ∙ was.marks;
-                nodes = waits-same (worlds j) h (heard hit q.tree) q.tree q.at (nodes_before ps j) old.nodes new.nodes
+                nodes = waits-same (worlds j) h (heard hit q.tree) q.tree q.at (nodes_before ps j) old.cells.nodes new.cells.nodes
                     (λ n low high. within.behind n (omega (arith, low, above))) (λ s low high. within.slots_behind s (omega (arith, low, ends))) was.nodes;
                 kept = λ off. due-other j ne ∙ was.kept (sym stays ∙ off);
                 calm = λ off.
@@ -186,7 +190,7 @@ module _ (ps : List Placed) (worlds : ℕ → World) (k i : ℕ) (p : Placed) (h
         }
 
     pub half-step : (hit : Operand → Bool) (visited : ℕ) → k < 2 ^ 63 → TellsMoved hit (worlds i) k p → i < length old.truths.items → i < length old.dues
-        → Stand (worlds i) (suc k) p.tree p.at new.cells.slots → NodesStand (worlds i) k p.tree p.at (nodes_before ps i) new.nodes → due ≡ first_wake new.nodes.wakes p.at (slots p.tree)
+        → Stand (worlds i) (suc k) p.tree p.at new.cells.slots → NodesStand (worlds i) k p.tree p.at (nodes_before ps i) new.cells.nodes → due ≡ first_wake new.cells.nodes.wakes p.at (slots p.tree)
         → truth ≡ holds (worlds i) p.tree k → IsDue (staying (worlds i) k) p.tree k due
         → HalfStepped ps worlds hit k i visited old → HalfStepped ps worlds hit k (suc i) visited new
     half-step hit visited small tells room room' stands kept first told next half =

@@ -142,7 +142,7 @@ terms-after b m k visited t params keys kept one two same all came =
     let back : (h : ℕ) → suc k ≡ suc h → k ≡ h = λ h e. omega (arith, e) in
     record {
       cells = λ j p is. (all.asked j p is).stands;
-      nodes = λ h e j p is. subst (λ n. NodesStand (world_of b m j) n p.tree p.at (nodes_before (places b) j) t.nodes) (back h e) (all.asked j p is).nodes;
+      nodes = λ h e j p is. subst (λ n. NodesStand (world_of b m j) n p.tree p.at (nodes_before (places b) j) t.cells.nodes) (back h e) (all.asked j p is).nodes;
       wakes = λ h e j p is. (all.asked j p is).wakes;
       told = λ h e j p is. (all.asked j p is).told ∙ ap (holds (world_of b m j) p.tree) (back h e);
       next = λ h e j p is. subst (λ n. IsDue (staying (world_of b m j) n) p.tree n (slice_index t.dues j)) (back h e) (all.asked j p is).next;

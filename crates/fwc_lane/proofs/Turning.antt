@@ -267,11 +267,12 @@ adds-few b c asking woken marks fresh coded adds =
 
 -- and then they are counted
 pub marks-all : (b : Book) (asking : List Asker) (woken marks : List ℕ) (fresh : ℕ) (cells after : Memory) → AddsEach b asking woken marks fresh
-    → after.slots ≡ cells.slots → after.visits ≡ min (cells.visits + fresh) (2 ^ 64 - 1) → MarksEach b asking woken cells marks after
-marks-all b asking woken marks fresh cells after adds slots visits = record {
+    → after.slots ≡ cells.slots → after.owners ≡ cells.owners → after.visits ≡ min (cells.visits + fresh) (2 ^ 64 - 1) → MarksEach b asking woken cells marks after
+marks-all b asking woken marks fresh cells after adds slots owners visits = record {
   same = adds.same;
   marked = adds.marked;
   slots = slots;
+  owners = owners;
   most = λ le. omega (arith, visits);
   counts = λ visited counted. omega (arith, counted, visits, adds.nodes);
 }

@@ -38,16 +38,16 @@ use Rattle.fwc_lane.specs.Visits.{visits, IsCounted}
 -- and its truth and when it turns are noted
 pub record IsAsked (w : World) (k j start : ℕ) (p : Placed) (t : Terms) : Type 0 where
   pub stands : Stand w (suc k) p.tree p.at t.cells.slots
-  pub nodes : NodesStand w k p.tree p.at start t.nodes
-  pub wakes : slice_index t.dues j ≡ first_wake t.nodes.wakes p.at (slots p.tree)
+  pub nodes : NodesStand w k p.tree p.at start t.cells.nodes
+  pub wakes : slice_index t.dues j ≡ first_wake t.cells.nodes.wakes p.at (slots p.tree)
   pub told : slice_index_or t.truths.items j false ≡ holds w p.tree k
   pub next : IsDue (staying w k) p.tree k (slice_index t.dues j)
 
 -- a condition that isn't stirred in moment h + 1 is due when it was, which is later, and its first node tells what it told
 pub record IsUnstirred (w : World) (h due start : ℕ) (p : Placed) (t : Terms) : Type 0 where
   pub later : suc h < due
-  pub wakes : first_wake t.nodes.wakes p.at (slots p.tree) ≡ due
-  pub told : (state_at t.nodes.states start).told ≡ holds w p.tree h
+  pub wakes : first_wake t.cells.nodes.wakes p.at (slots p.tree) ≡ due
+  pub told : (state_at t.cells.nodes.states start).told ≡ holds w p.tree h
 
 -- condition j waits to be asked in moment h + 1: what is noted of it is told of moment h, and it is marked where an operand
 -- passes the test or where it is due. Of its nodes those have been asked that ask for such an operand. Where it isn't
@@ -57,7 +57,7 @@ pub record IsWaiting (w : World) (hit : Operand → Bool) (h j start : ℕ) (p :
   pub told : slice_index_or t.truths.items j false ≡ holds w p.tree h
   pub next : IsDue (staying w h) p.tree h due
   pub marks : is_marked t.woken j ≡ (list_any hit (operands p.tree) || (due == suc h))
-  pub nodes : NodesWait w h (heard hit p.tree) p.tree p.at start t.nodes
+  pub nodes : NodesWait w h (heard hit p.tree) p.tree p.at start t.cells.nodes
   pub kept : is_marked t.stirred j ≡ false → slice_index t.dues j ≡ due
   pub calm : is_marked t.stirred j ≡ false → IsUnstirred w h due start p t
 
@@ -101,9 +101,9 @@ module _ (b : Book) (moments : ℕ → Moment) where
   pub record TermsStand (k : ℕ) (t : Terms) : Type 0 where
     pub cells : (j : ℕ) (p : Placed) → slice_get (places b) j ≡ Some p → Stand (world_of b moments j) k p.tree p.at t.cells.slots
     pub nodes : (h : ℕ) → k ≡ suc h → (j : ℕ) (p : Placed) → slice_get (places b) j ≡ Some p
-        → NodesStand (world_of b moments j) h p.tree p.at (nodes_before (places b) j) t.nodes
+        → NodesStand (world_of b moments j) h p.tree p.at (nodes_before (places b) j) t.cells.nodes
     pub wakes : (h : ℕ) → k ≡ suc h → (j : ℕ) (p : Placed) → slice_get (places b) j ≡ Some p
-        → slice_index t.dues j ≡ first_wake t.nodes.wakes p.at (slots p.tree)
+        → slice_index t.dues j ≡ first_wake t.cells.nodes.wakes p.at (slots p.tree)
     pub told : (h : ℕ) → k ≡ suc h → (j : ℕ) (p : Placed) → slice_get (places b) j ≡ Some p
         → slice_index_or t.truths.items j false ≡ holds (world_of b moments j) p.tree h
     pub next : (h : ℕ) → k ≡ suc h → (j : ℕ) (p : Placed) → slice_get (places b) j ≡ Some p

@@ -74,7 +74,7 @@ pub record Kept (j start : ℕ) (p : Placed) (nodes : NodeMemory) (stirred : Lis
 -- a condition that isn't stirred was kept so
 abbrev pub CalmBy : Book → Terms → Terms → Type 0
 CalmBy b old new = (j : ℕ) (p : Placed) → slice_get (places b) j ≡ Some p → is_marked new.stirred j ≡ false
-    → Kept j (nodes_before (places b) j) p old.nodes old.stirred new.nodes
+    → Kept j (nodes_before (places b) j) p old.cells.nodes old.stirred new.cells.nodes
 
 -- of a condition that names no such operand the first of the temporal nodes that is due is due when it was
 abbrev pub SameBy : Book → (ℕ → Bool) → NodeMemory → NodeMemory → Type 0
@@ -116,6 +116,7 @@ pub record MarksEach (b : Book) (asking : List Asker) (woken : List ℕ) (cells 
   pub same : room marks ≡ room woken
   pub marked : (j : ℕ) → is_marked marks j ≡ (is_marked woken j || is_asking asking j)
   pub slots : after.slots ≡ cells.slots
+  pub owners : after.owners ≡ cells.owners
   pub most : cells.visits ≤ 2 ^ 64 - 1 → after.visits ≤ 2 ^ 64 - 1
   pub counts : (visited : ℕ) → IsCounted (places b) visited woken cells.visits → IsCounted (places b) visited marks after.visits
 
@@ -123,18 +124,19 @@ pub record MarksEach (b : Book) (asking : List Asker) (woken : List ℕ) (cells 
 -- wasn't woken are counted, those that ask for the operands are told, a condition that isn't stirred was kept so, and where each
 -- that was stirred was woken, so it is. Nothing else changes
 pub record HasWoken (b : Book) (f : ℕ → Bool) (reads : ℕ → Reading) (old new : Terms) : Type 0 where
-  pub rest : new ≡ record old { woken = new.woken; stirred = new.stirred; nodes = new.nodes; cells = new.cells }
+  pub rest : new ≡ record old { woken = new.woken; stirred = new.stirred; cells = new.cells }
   pub woken_room : room new.woken ≡ room old.woken
   pub stirred_room : room new.stirred ≡ room old.stirred
-  pub states : length new.nodes.states ≡ length old.nodes.states
-  pub wakes : length new.nodes.wakes ≡ length old.nodes.wakes
+  pub states : length new.cells.nodes.states ≡ length old.cells.nodes.states
+  pub wakes : length new.cells.nodes.wakes ≡ length old.cells.nodes.wakes
   pub slots : new.cells.slots ≡ old.cells.slots
+  pub owners : new.cells.owners ≡ old.cells.owners
   pub terms : WakesBy b f old.woken new.woken
   pub counts : (visited : ℕ) → IsCounted (places b) visited old.woken old.cells.visits → IsCounted (places b) visited new.woken new.cells.visits
-  pub turns : TurnsBy b f reads old.nodes new.nodes
+  pub turns : TurnsBy b f reads old.cells.nodes new.cells.nodes
   pub calm : CalmBy b old new
   pub stirs : AreWoken old.woken old.stirred → AreWoken new.woken new.stirred
-  pub same : SameBy b f old.nodes new.nodes
+  pub same : SameBy b f old.cells.nodes new.cells.nodes
 
 -- no condition of these numbers is marked
 abbrev pub NoneMarked : List ℕ → ℕ → ℕ → Type 0

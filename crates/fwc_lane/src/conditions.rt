@@ -139,7 +139,7 @@ fn begin_term(terms: &mut Terms, number: usize, env: &Env<'_>) -> bool
     let codes = terms.codes.table();
     let steps = codes.code(number);
     let start = codes.start(number);
-    let turn = terms.cells.begin(&mut terms.nodes, steps, start, env);
+    let turn = terms.cells.begin(steps, start, env);
     note(terms, number, turn)
 }
 
@@ -160,10 +160,9 @@ pub fn run_term(terms: &mut Terms, number: usize, now: u64) -> bool
     let codes = terms.codes.table();
     let parts = codes.parts(number);
     let turn = terms.cells.run(
-        &mut terms.nodes,
         parts.links,
         parts.first,
-        parts.owners,
+        parts.owners.len(),
         parts.slot,
         now,
     );

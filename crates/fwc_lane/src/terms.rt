@@ -1,20 +1,21 @@
 // What a lane keeps of the book's conditions from moment to moment.
 ghost use Rattle.std.specs.Prelude.{◌≡◌, ◌<◌, ◌^◌, length, IfOk};
 ghost use Rattle.ecam_spec.specs.Book as plain;
+ghost use Rattle.ecam_spec.specs.BookTerms.{terms_of, slots_in};
 ghost use Rattle.book_model.specs.Sealed.{the_book};
 ghost use Rattle.book_model.specs.Conditions.{places};
 ghost use Rattle.condition_codes.specs.IsCodes.{IsCodes};
 ghost use Rattle.condition_codes.specs.IsAskers.{IsAskers};
 ghost use Rattle.watch_lists.specs.Watching.{IsWatch};
 ghost use Rattle.term_eval.specs.CellState.{StandForNone};
-ghost use Rattle.fwc_lane.specs.TermsFit.{TermsFit, TookTerms};
+ghost use Rattle.fwc_lane.specs.TermsFit.{TermsFit, TookTerms, OwnsBelow};
 
 use crate::line_alerts::alerts_of_lines;
 use crate::strokes::Strokes;
 use book_model::Book;
-use condition_codes::{Askers, Codes};
+use condition_codes::{Askers, CodeTable, Codes};
 use std::alloc::{AllocError, Global};
-use term_eval::{Cells, Nodes};
+use term_eval::Cells;
 use wakes::{BitSet, Marked, Wakes};
 use watch_lists::Watch;
 
@@ -24,11 +25,9 @@ use watch_lists::Watch;
 pub struct Terms {
     /// The code by which each is stepped. Nothing changes it, and lanes of one book may share it.
     pub codes: Codes,
-    /// What is kept of the nodes of all, one code behind another.
-    pub nodes: Nodes,
     /// Which nodes ask for what. Nothing changes it, and lanes of one book may share it.
     pub askers: Askers,
-    /// What the conditions remember.
+    /// What the conditions remember, and what is kept of their nodes, one code behind another.
     pub cells: Cells,
     /// Per condition whether it held in the last moment.
     pub truths: Vec<bool>,
@@ -86,8 +85,8 @@ impl Terms {
         ensures watch { IfOk result (λ t. IsWatch book.now t.watch) }
     {
         let count = condition_count(book);
-        let nodes = Nodes::new(alloc, codes.table().count(), book.slots())?;
-        let cells = Cells::new(alloc, book.slots())?;
+        let mut cells = Cells::with_nodes(alloc, codes.table().count(), book.slots())?;
+        own_slots(&mut cells, codes.table(), count);
         let truths = vec![in alloc; false; count]?;
         let dues = Wakes::new(alloc, count)?;
         let woken = BitSet::new(alloc, count)?;
@@ -96,7 +95,6 @@ impl Terms {
         let line_alerts = alerts_of_lines(alloc, book)?;
         Ok(Terms {
             codes,
-            nodes,
             askers,
             cells,
             truths,
@@ -122,7 +120,7 @@ impl Terms {
     }
 
     /// Takes over what is kept of the same book's conditions by another lane, but for the count of visits. Its cost is a
-    /// write a node, two a slot, and a few a condition.
+    /// write a node and a slot, and a few a condition.
     pub fn copy_from(&mut self, other: &Terms)
         requires { (b : plain.Book) × TermsFit b self.old × TermsFit b other.now }
         ensures fits { (b : plain.Book) → TermsFit b self.old → TermsFit b self.new }
@@ -130,12 +128,29 @@ impl Terms {
         ensures visits { self.new.cells.visits ≡ self.old.cells.visits }
     {
         self.cells.copy_from(&other.cells);
-        self.nodes.copy_from(&other.nodes);
         self.truths.copy_from_slice(&other.truths);
         self.dues.copy_from(&other.dues);
         self.keys.copy_from(&other.keys);
         self.one_up = other.one_up;
         self.two_up = other.two_up;
+    }
+}
+
+// Tells each slot of the temporal node that it is of, for so many conditions. Its cost is a look at each of them, and a write
+// a slot.
+fn own_slots(cells: &mut Cells, codes: &CodeTable, count: usize)
+    requires codes { (b : plain.Book) × IsCodes b codes.now × (count ≡ length (places b))
+        × (length cells.old.slots ≡ slots_in (terms_of b)) }
+    ensures owners { (b : plain.Book) → IsCodes b codes.now → count ≡ length (places b)
+        → OwnsBelow b count cells.new.owners }
+    ensures many { length cells.new.owners ≡ length cells.old.owners }
+    ensures slots { cells.new.slots ≡ cells.old.slots }
+    ensures nodes { cells.new.nodes ≡ cells.old.nodes }
+    ensures visits { cells.new.visits ≡ cells.old.visits }
+{
+    for number in 0..count {
+        let parts = codes.parts(number);
+        cells.own(parts.slot, parts.owners);
     }
 }
 

@@ -21,7 +21,7 @@ use crate::terms::Terms;
 use book_model::Book;
 use condition_codes::{Asker, CodeTable};
 use ecam_kinds::{Key, Keys, Phase};
-use term_eval::{Cells, Nodes, Reading};
+use term_eval::{Cells, Reading};
 use wakes::{BitSet, Marked, Wakes};
 use watch_lists::Watch;
 
@@ -40,7 +40,6 @@ pub fn wake(terms: &mut Terms, book: &Book, operand: usize, other: bool, reading
 {
     if other {
         turn_each(
-            &mut terms.nodes,
             &mut terms.cells,
             &mut terms.woken,
             &mut terms.stirred,
@@ -55,7 +54,6 @@ pub fn wake(terms: &mut Terms, book: &Book, operand: usize, other: bool, reading
 // marked before, and marks as stirred those that may turn by that.
 #[inline(always)]
 fn turn_each(
-    nodes: &mut Nodes,
     cells: &mut Cells,
     woken: &mut BitSet,
     stirred: &mut Marked,
@@ -64,13 +62,13 @@ fn turn_each(
     reading: Reading,
 )
     requires can { (b : plain.Book)
-        × CanTurn b asking.now codes.now nodes.old woken.old stirred.old }
+        × CanTurn b asking.now codes.now cells.old.nodes woken.old stirred.old }
     requires reading { IsReading reading }
     ensures turns { (b : plain.Book)
-        → CanTurn b asking.now codes.now nodes.old woken.old stirred.old
-        → TurnsEach b asking.now reading nodes.old stirred.old nodes.new stirred.new }
+        → CanTurn b asking.now codes.now cells.old.nodes woken.old stirred.old
+        → TurnsEach b asking.now reading cells.old.nodes stirred.old cells.new.nodes stirred.new }
     ensures marks { (b : plain.Book)
-        → CanTurn b asking.now codes.now nodes.old woken.old stirred.old
+        → CanTurn b asking.now codes.now cells.old.nodes woken.old stirred.old
         → MarksEach b asking.now woken.old cells.old woken.new cells.new }
     ensures stirs { AreWoken woken.old stirred.old → AreWoken woken.new stirred.new }
 {
@@ -83,7 +81,7 @@ fn turn_each(
         let holds = codes.says(asker, reading);
         let links = codes.links_by(asker);
         let first = asker.first as usize;
-        if nodes.turn(asker.link, links, first, usize::from(asker.node), holds) {
+        if cells.turn(asker.link, links, first, usize::from(asker.node), holds) {
             stirred.mark(term);
         }
         fresh += usize::from(asker.size) * usize::from(woken.put(term));
@@ -98,6 +96,8 @@ fn mark_counted(woken: &mut BitSet, cells: &mut Cells, term: usize, size: usize)
     ensures room { room woken.new ≡ room woken.old }
     ensures marks { (j : ℕ) → is_marked woken.new j ≡ (j == term || is_marked woken.old j) }
     ensures slots { cells.new.slots ≡ cells.old.slots }
+    ensures nodes { cells.new.nodes ≡ cells.old.nodes }
+    ensures owners { cells.new.owners ≡ cells.old.owners }
     ensures most { cells.old.visits ≤ 2 ^ 64 - 1 → cells.new.visits ≤ 2 ^ 64 - 1 }
     ensures counts { (ps : List Placed) (visited : ℕ) → term < length ps
         → ((p : Placed) → slice_get ps term ≡ Some p → size ≡ nodes p.tree)
@@ -337,6 +337,8 @@ pub fn wake_first(
     ensures dues { (j : ℕ) → is_marked woken.new j ≡ false
         → slice_index dues.new j ≡ slice_index dues.old j }
     ensures slots { cells.new.slots ≡ cells.old.slots }
+    ensures nodes { cells.new.nodes ≡ cells.old.nodes }
+    ensures owners { cells.new.owners ≡ cells.old.owners }
     ensures most { cells.old.visits ≤ 2 ^ 64 - 1 → cells.new.visits ≤ 2 ^ 64 - 1 }
     ensures counts { (b : plain.Book) (visited : ℕ) → IsCodes b codes.now
         → count ≡ length (places b) → cells.old.visits ≡ min visited (2 ^ 64 - 1)
@@ -371,6 +373,8 @@ fn wake_all(
     ensures same { (j : ℕ) → is_marked stirred.new j ≡ is_marked woken.new j }
     ensures marks { (j : ℕ) → j < count → is_marked woken.new j ≡ true }
     ensures slots { cells.new.slots ≡ cells.old.slots }
+    ensures nodes { cells.new.nodes ≡ cells.old.nodes }
+    ensures owners { cells.new.owners ≡ cells.old.owners }
     ensures most { cells.old.visits ≤ 2 ^ 64 - 1 → cells.new.visits ≤ 2 ^ 64 - 1 }
     ensures counts { (b : plain.Book) (visited : ℕ) → IsCodes b codes.now
         → count ≡ length (places b)
@@ -408,6 +412,8 @@ fn wake_due(
     ensures dues { (j : ℕ) → is_marked woken.new j ≡ false
         → slice_index dues.new j ≡ slice_index dues.old j }
     ensures slots { cells.new.slots ≡ cells.old.slots }
+    ensures nodes { cells.new.nodes ≡ cells.old.nodes }
+    ensures owners { cells.new.owners ≡ cells.old.owners }
     ensures most { cells.old.visits ≤ 2 ^ 64 - 1 → cells.new.visits ≤ 2 ^ 64 - 1 }
     ensures counts { (b : plain.Book) (visited : ℕ) → IsCodes b codes.now
         → length dues.old ≡ length (places b)

@@ -10,7 +10,7 @@ use Rattle.term_eval.specs.declared.code.Step.{Step}
 use Rattle.term_eval.specs.CellWords.{never}
 use Rattle.term_eval.specs.CellState.{Stand}
 use Rattle.term_eval.specs.Shown.{Shows}
-use Rattle.term_eval.specs.Memory.{Memory, NodeMemory}
+use Rattle.term_eval.specs.Memory.{Memory}
 use Rattle.term_eval.specs.Due.{staying, IsDue}
 use Rattle.term_eval.specs.Code.{IsReady}
 use Rattle.term_eval.specs.NodeState.{SayTheSame, NodesStand, Within, first_wake}
@@ -26,48 +26,48 @@ use Rattle.term_eval.proofs.AskedCode.{over}
 use Rattle.term_eval.proofs.CanAsk.{can, names-of}
 
 -- what is kept before any node was asked
-abbrev pub start : ℕ → ℕ → Memory → NodeMemory → Run
-start first count m n = record { states = unasked_from first count n.states; wakes = n.wakes; cells = m.slots; due = never }
+abbrev pub start : ℕ → ℕ → Memory → Run
+start first count m = record { states = unasked_from first count m.nodes.states; wakes = m.nodes.wakes; cells = m.slots; due = never }
 
 say-the-same : (w : World) (cs : Trees) (p : ℕ) → SayTheSame w 0 (λ i. false) cs p
 unfolding SayTheSame
 say-the-same w none p = tt
 say-the-same w (more c cs) p = (says-before w 0 (λ i. false) c p (λ i low high. refl), say-the-same w cs (p + nodes c))
 
-module _ (env : Env) (steps : List Step) (m : Memory) (n : NodeMemory) (c : Tree) (at first : ℕ) (ready : IsReady steps m n c at first) where
+module _ (env : Env) (steps : List Step) (m : Memory) (c : Tree) (at first : ℕ) (ready : IsReady steps m c at first) where
   pub length-ready : length steps ≡ nodes c
   length-ready = ap length ready.held.code.is ∙ length-code c at 0
 
-  pub room-ready : first + length steps ≤ length n.states
+  pub room-ready : first + length steps ≤ length m.nodes.states
   room-ready = omega (arith, length-ready, ready.held.nodes)
 
   -- what each node asks for is there
-  pub can-ready : IsWithin (length env.values.now) (length env.active.now) c → AllCanAsk env (length n.states) (length n.wakes) (length m.slots) first steps
+  pub can-ready : IsWithin (length env.values.now) (length env.active.now) c → AllCanAsk env (length m.nodes.states) (length m.nodes.wakes) (length m.slots) first steps
   can-ready names =
-      subst (AllCanAsk env (length n.states) (length n.wakes) (length m.slots) first) (sym ready.held.code.is)
-      (can env (length n.states) (length n.wakes) (length m.slots) c at first 0
+      subst (AllCanAsk env (length m.nodes.states) (length m.nodes.wakes) (length m.slots) first) (sym ready.held.code.is)
+      (can env (length m.nodes.states) (length m.nodes.wakes) (length m.slots) c at first 0
       (record { range = ready.range; slot = ready.held.slots; room = ready.held.nodes; far = omega arith; names = names }))
 
-  pub begun : AllCanAsk env (length n.states) (length n.wakes) (length m.slots) first steps →
-      After env c at first 0 (start first (length steps) m n) (ask_over env first steps (start first (length steps) m n))
+  pub begun : AllCanAsk env (length m.nodes.states) (length m.nodes.wakes) (length m.slots) first steps →
+      After env c at first 0 (start first (length steps) m) (ask_over env first steps (start first (length steps) m))
   begun all =
-      let s = start first (length steps) m n in
-      let len = cleared-len first (length steps) n.states room-ready in
-      let names = names-of env (length n.states) (length n.wakes) (length m.slots) c at first 0 (subst (AllCanAsk env (length n.states) (length n.wakes) (length m.slots) first) ready.held.code.is all) in
+      let s = start first (length steps) m in
+      let len = cleared-len first (length steps) m.nodes.states room-ready in
+      let names = names-of env (length m.nodes.states) (length m.nodes.wakes) (length m.slots) c at first 0 (subst (AllCanAsk env (length m.nodes.states) (length m.nodes.wakes) (length m.slots) first) ready.held.code.is all) in
       subst (λ l. After env c at first 0 s (ask_over env first l s)) (sym ready.held.code.is)
       (over env c at first 0 s names
       (record { range = ready.range; slot = ready.held.slots; room = omega (arith, len, ready.held.nodes); small = ready.held.code.small; far = omega arith; due = omega arith }))
 
-  module _ (t : Run) (a : After env c at first 0 (start first (length steps) m n) t) where
+  module _ (t : Run) (a : After env c at first 0 (start first (length steps) m) t) where
     pub is-first : t.due ≡ first_wake t.wakes at (slots c)
     is-first = omega (arith, a.due, first-most t.wakes at (slots c))
 
-    pub within : Within first (first + nodes c) at (at + slots c) n (record { states = t.states; wakes = t.wakes })
+    pub within : Within first (first + nodes c) at (at + slots c) m.nodes (record { states = t.states; wakes = t.wakes })
     within = record {
-      nodes = a.frame.nodes ∙ cleared-len first (length steps) n.states room-ready;
+      nodes = a.frame.nodes ∙ cleared-len first (length steps) m.nodes.states room-ready;
       slots = a.frame.slots;
-      before = λ i low. a.frame.before i low (λ e. absurd (let w : ⊥ = omega (arith, e, low) in w)) ∙ cleared-before first (length steps) n.states room-ready i low;
-      behind = λ i high. a.frame.behind i high ∙ cleared-behind first (length steps) n.states room-ready i (omega (arith, length-ready, high));
+      before = λ i low. a.frame.before i low (λ e. absurd (let w : ⊥ = omega (arith, e, low) in w)) ∙ cleared-before first (length steps) m.nodes.states room-ready i low;
+      behind = λ i high. a.frame.behind i high ∙ cleared-behind first (length steps) m.nodes.states room-ready i (omega (arith, length-ready, high));
       slots_before = a.frame.wakes_before;
       slots_behind = a.frame.wakes_behind;
     }
@@ -76,7 +76,7 @@ module _ (env : Env) (steps : List Step) (m : Memory) (n : NodeMemory) (c : Tree
     done w shows stands = a.done w (record {
       shows = shows;
       cells = stands;
-      fresh = λ i low high. ap (λ (s : NodeState). s.count) (cleared-within first (length steps) n.states room-ready i low (omega (arith, length-ready, high)));
+      fresh = λ i low high. ap (λ (s : NodeState). s.count) (cleared-within first (length steps) m.nodes.states room-ready i low (omega (arith, length-ready, high)));
     })
 
     pub nodes-stand : (w : World) → Done w c at first 0 t → NodesStand w 0 c at first (record { states = t.states; wakes = t.wakes })

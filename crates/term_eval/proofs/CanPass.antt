@@ -5,8 +5,8 @@ use Rattle.std.proofs.lemmas.Option.{same_Some}
 use Rattle.ecam_spec.specs.Book.{Tree}
 use Rattle.term_eval.specs.declared.link.Link.{Link}
 use Rattle.term_eval.specs.declared.owner.Owner.{Owner}
-use Rattle.term_eval.specs.Memory.{Memory, NodeMemory}
-use Rattle.term_eval.specs.Code.{owner_of, owners}
+use Rattle.term_eval.specs.Memory.{Memory}
+use Rattle.term_eval.specs.Code.{code, owner_of, owners}
 use Rattle.term_eval.specs.Linked.{CanRun}
 use Rattle.term_eval.specs.Parts.{Part, parts, Heads, is_temporal}
 use Rattle.term_eval.specs.Run.{CanPass}
@@ -49,17 +49,16 @@ owns c at m slot (x ∷ xs) place j o is =
     (ap (λ b. slice_get (cond b (owner_of m (node_at x.at x.tree) ∷ owners (m + 1) (map step_of xs))
     (owners (m + 1) (map step_of xs))) j) (sym (has-slot x.tree x.at)) ∙ is)
 
-pub can-pass : (own : List Link) (temporal : List Owner) (m : Memory) (n : NodeMemory) (c : Tree) (at first : ℕ) →
-    CanRun own temporal m n c at first →
-    CanPass own first (length n.states) (length n.wakes) (length m.slots) temporal at
-can-pass own temporal m n c at first can j o is =
+pub can-pass : (own : List Link) (n : ℕ) (m : Memory) (c : Tree) (at first : ℕ) → CanRun own n m c at first →
+    CanPass own first (length m.nodes.states) (length m.nodes.wakes) (length m.slots) (owners 0 (code at 0 c)) at
+can-pass own n m c at first can j o is =
     let owned = owns c at 0 at (parts at 0 c) (place-first c at) j o
-    (ap (λ l. slice_get (owners 0 l) j) (sym (parts-code at 0 c)) ∙ ap (λ l. slice_get l j) (sym can.owners) ∙ is) in
+    (ap (λ l. slice_get (owners 0 l) j) (sym (parts-code at 0 c)) ∙ is) in
     let size = length-links c at own can.linked.links in
     let within = slots-within at 0 c o.node owned.part owned.heads in
     let some = own-slot owned.part.tree owned.temporal in
     record {
-      climb = can-climb c at first n own can.linked;
+      climb = can-climb c at first m.nodes own can.linked;
       within = omega (arith, size, stands-over owned.part.tree owned.temporal, parts-ends at 0 c o.node owned.part owned.heads);
       room = omega (arith, within.1, some, owned.own, can.linked.held.slots);
       has = omega (arith, within.1, some, owned.own, can.range);

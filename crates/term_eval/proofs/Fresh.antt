@@ -1,5 +1,5 @@
 -- Cells that are all off stand for no moment.
-use Rattle.std.proofs.Common.{◌≡◌, ℕ, zero, suc, ◌+◌, List, replicate, refl, ◌∙◌, ap}
+use Rattle.std.proofs.Common.{◌≡◌, ℕ, zero, suc, ◌+◌, List, replicate, refl}
 use Rattle.ecam_spec.specs.Past.{previous}
 use Rattle.ecam_spec.specs.Book.{Tree, Trees, constant, discrete, valid, compared, in_phase, alert, press, computer, negation, all, any, at_least, confirmed, held, risen, latched, none, more}
 use Rattle.ecam_spec.specs.Term.{World}
@@ -7,6 +7,7 @@ use Rattle.ecam_spec.specs.TermSize.{slots}
 use Rattle.term_eval.specs.declared.memory.Cell.{Cell}
 use Rattle.term_eval.specs.declared.memory.Cell.TheVariants.{Off}
 use Rattle.term_eval.specs.CellWords.{cell_at, stretch, lasted}
+use Rattle.term_eval.specs.Slots.{cells_of, empty}
 use Rattle.term_eval.specs.CellState.{Stand, StandAll, StandForNone}
 
 mutual
@@ -34,10 +35,11 @@ mutual
   blank-StandAll w none at cells blank = tt
   blank-StandAll w (more c cs) at cells blank = (blank-Stand w c at cells blank, blank-StandAll w cs (at + slots c) cells blank)
 
-blank_at : (n i : ℕ) → cell_at (replicate n Off) i ≡ Off
+-- so are those of slots that no node has yet
+pub blank_at : (n i : ℕ) → cell_at (cells_of (replicate n empty)) i ≡ Off
 blank_at zero i = refl
 blank_at (suc n) zero = refl
 blank_at (suc n) (suc i) = blank_at n i
 
-pub blank-StandForNone : (cells : List Cell) (n : ℕ) → cells ≡ replicate n Off → StandForNone cells
-blank-StandForNone cells n are w c at within = blank-Stand w c at cells (λ i. ap (λ xs. cell_at xs i) are ∙ blank_at n i)
+pub blank-StandForNone : (cells : List Cell) → ((i : ℕ) → cell_at cells i ≡ Off) → StandForNone cells
+blank-StandForNone cells blank w c at within = blank-Stand w c at cells blank

@@ -1,3 +1,6 @@
+pub mod Seen
+pub mod OwnSlots
+pub mod Slots
 pub mod Frames
 pub mod NodeSteps
 pub mod Members

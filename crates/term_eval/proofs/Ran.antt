@@ -6,13 +6,12 @@ use Rattle.ecam_spec.specs.Book.{Tree, Trees, none, more}
 use Rattle.ecam_spec.specs.Term.{World, holds}
 use Rattle.ecam_spec.specs.TermSize.{nodes, slots, children}
 use Rattle.term_eval.specs.declared.link.Link.{Link}
-use Rattle.term_eval.specs.declared.owner.Owner.{Owner}
 use Rattle.term_eval.specs.CellWords.{never}
 use Rattle.term_eval.specs.CellState.{Stand}
 use Rattle.term_eval.specs.Due.{staying, IsDue}
 use Rattle.term_eval.specs.OwnDue.{own_due}
 use Rattle.term_eval.specs.Memory.{Memory, NodeMemory}
-use Rattle.term_eval.specs.Code.{owners}
+use Rattle.term_eval.specs.Code.{code, owners}
 use Rattle.term_eval.specs.Links.{links}
 use Rattle.term_eval.specs.Linked.{CanRun}
 use Rattle.term_eval.specs.Asked.{heard}
@@ -29,8 +28,8 @@ use Rattle.term_eval.proofs.AskedSoFar.{gone, gone-through}
 use Rattle.term_eval.proofs.Over.{Gone, gone-over}
 
 -- what is kept of nodes, and cells, before the first was looked at
-abbrev pub fresh : Memory → NodeMemory → Run
-fresh m n = record { states = n.states; wakes = n.wakes; cells = m.slots; due = never }
+abbrev pub fresh : Memory → Run
+fresh m = record { states = m.nodes.states; wakes = m.nodes.wakes; cells = m.slots; due = never }
 
 -- ---- the last of them was gone through
 
@@ -67,27 +66,25 @@ module _ (w : World) (h : ℕ) (c : Tree) (at first : ℕ) (n : NodeMemory) (wai
 
 -- ---- the whole
 
-module _ (k : ℕ) (own : List Link) (temporal : List Owner) (m : Memory) (n : NodeMemory) (c : Tree) (at first : ℕ)
-    (can : CanRun own temporal m n c at first) where
+module _ (k : ℕ) (own : List Link) (n : ℕ) (m : Memory) (c : Tree) (at first : ℕ) (can : CanRun own n m c at first) where
   abbrev pub ran : Run
-  ran = pass_over k own first temporal at (fresh m n)
+  ran = pass_over k own first (owners 0 (code at 0 c)) at (fresh m)
 
-  goes : over k first c at 0 at (parts at 0 c) (fresh m n) ≡ ran
+  goes : over k first c at 0 at (parts at 0 c) (fresh m) ≡ ran
   goes =
-      ap (λ l. pass_over k (links at c) first (owners 0 l) at (fresh m n)) (sym (parts-code at 0 c))
-      ∙ ap (λ l. pass_over k (links at c) first l at (fresh m n)) (sym can.owners)
-      ∙ ap (λ l. pass_over k l first temporal at (fresh m n)) (sym can.linked.links)
+      ap (λ l. pass_over k (links at c) first (owners 0 l) at (fresh m)) (sym (parts-code at 0 c))
+      ∙ ap (λ l. pass_over k l first (owners 0 (code at 0 c)) at (fresh m)) (sym can.linked.links)
 
-  room : Room k first c at (fresh m n)
+  room : Room k first c at (fresh m)
   room = record { nodes = can.linked.held; cells = can.range }
 
-  pub ran-frame : Framed first (first + nodes c) at (at + slots c) at (slots c) (fresh m n) ran
+  pub ran-frame : Framed first (first + nodes c) at (at + slots c) at (slots c) (fresh m) ran
   ran-frame =
       let many = many-slots at (at + slots c) (parts at 0 c) (follow c at) in
       let e : temporal_count (parts at 0 c) ≡ slots c = omega (arith, many) in
-      subst (λ count. FramedTo k first c at at count (fresh m n) ran) e
-      (subst (FramedTo k first c at at (temporal_count (parts at 0 c)) (fresh m n)) goes
-      (framed k first c at (parts at 0 c) 0 at (fresh m n) (place-first c at) room refl))
+      subst (λ count. FramedTo k first c at at count (fresh m) ran) e
+      (subst (FramedTo k first c at at (temporal_count (parts at 0 c)) (fresh m)) goes
+      (framed k first c at (parts at 0 c) 0 at (fresh m) (place-first c at) room refl))
 
 -- it tells the condition's truth and when it is due, and all stands for the moment
 pub record Done (w : World) (k : ℕ) (c : Tree) (at first : ℕ) (r : Run) : Type 0 where
@@ -96,17 +93,16 @@ pub record Done (w : World) (k : ℕ) (c : Tree) (at first : ℕ) (r : Run) : Ty
   pub stands : Stand w (suc k) c at r.cells
   pub nodes : NodesStand w k c at first (nodes_of_run r)
 
-module _ (own : List Link) (temporal : List Owner) (m : Memory) (n : NodeMemory) (c : Tree) (at first : ℕ)
-    (can : CanRun own temporal m n c at first) (w : World) (h : ℕ) where
-  done-next : suc h < 2 ^ 63 → Stand w (suc h) c at m.slots → NodesWait w h (heard (moved w (suc h)) c) c at first n →
-      Done w (suc h) c at first (ran (suc h) own temporal m n c at first can)
+module _ (own : List Link) (n : ℕ) (m : Memory) (c : Tree) (at first : ℕ) (can : CanRun own n m c at first) (w : World) (h : ℕ) where
+  done-next : suc h < 2 ^ 63 → Stand w (suc h) c at m.slots → NodesWait w h (heard (moved w (suc h)) c) c at first m.nodes →
+      Done w (suc h) c at first (ran (suc h) own n m c at first can)
   done-next small stand waits =
-      let r = ran (suc h) own temporal m n c at first can in
+      let r = ran (suc h) own n m c at first can in
       let g : Gone w h c at first 0 r =
-      subst (Gone w h c at first 0) (goes (suc h) own temporal m n c at first can)
-      (gone-over w h c at first small (parts at 0 c) 0 at (fresh m n) (place-first c at)
-      (room (suc h) own temporal m n c at first can) refl waits stand) in
-      let f = ran-frame (suc h) own temporal m n c at first can in
+      subst (Gone w h c at first 0) (goes (suc h) own n m c at first can)
+      (gone-over w h c at first small (parts at 0 c) 0 at (fresh m) (place-first c at)
+      (room (suc h) own n m c at first can) refl waits stand) in
+      let f = ran-frame (suc h) own n m c at first can in
       record {
         told = first-told w h c at first (nodes_of_run r) g.waits;
         due =
@@ -117,9 +113,9 @@ module _ (own : List Link) (temporal : List Owner) (m : Memory) (n : NodeMemory)
         nodes = stand-after w h c at first (nodes_of_run r) g.waits;
       }
 
-  pub done : (k : ℕ) → k ≡ suc h → k < 2 ^ 63 → Stand w k c at m.slots → NodesWait w h (heard (moved w k) c) c at first n →
-      Done w k c at first (ran k own temporal m n c at first can)
+  pub done : (k : ℕ) → k ≡ suc h → k < 2 ^ 63 → Stand w k c at m.slots → NodesWait w h (heard (moved w k) c) c at first m.nodes →
+      Done w k c at first (ran k own n m c at first can)
   done k is =
-      subst (λ k. k < 2 ^ 63 → Stand w k c at m.slots → NodesWait w h (heard (moved w k) c) c at first n →
-      Done w k c at first (ran k own temporal m n c at first can))
+      subst (λ k. k < 2 ^ 63 → Stand w k c at m.slots → NodesWait w h (heard (moved w k) c) c at first m.nodes →
+      Done w k c at first (ran k own n m c at first can))
       (sym is) done-next

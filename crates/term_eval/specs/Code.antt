@@ -105,6 +105,6 @@ pub record IsHeld (steps : List Step) (n : NodeMemory) (c : Tree) (at first : �
   pub slots : at + slots c ≤ length n.wakes
 
 -- and so have the cells
-pub record IsReady (steps : List Step) (m : Memory) (n : NodeMemory) (c : Tree) (at first : ℕ) : Type 0 where
-  pub held : IsHeld steps n c at first
+pub record IsReady (steps : List Step) (m : Memory) (c : Tree) (at first : ℕ) : Type 0 where
+  pub held : IsHeld steps m.nodes c at first
   pub range : at + slots c ≤ length m.slots

@@ -1,5 +1,6 @@
 pub mod Shown
 pub mod CellWords
+pub mod Slots
 pub mod Memory
 pub mod CellState
 pub mod Woken

@@ -1,5 +1,5 @@
--- What a condition is stepped by in place of its code: the links of its nodes, and what is read of its temporal ones.
-use Rattle.std.specs.Prelude.{◌≡◌, ℕ, ◌+◌, ◌≤◌, List, length}
+-- What a condition is stepped by in place of its code: the links of its nodes, and what its slots say of its temporal ones.
+use Rattle.std.specs.Prelude.{◌≡◌, ℕ, ◌+◌, ◌≤◌, List, length, slice_get, Some}
 use Rattle.ecam_spec.specs.Book.{Tree}
 use Rattle.ecam_spec.specs.TermSize.{slots}
 use Rattle.term_eval.specs.declared.link.Link.{Link}
@@ -13,9 +13,13 @@ pub record AreLinked (own : List Link) (n : NodeMemory) (c : Tree) (at first : �
   pub links : own ≡ links at c
   pub held : IsHeld (code at 0 c) n c at first
 
--- and the temporal nodes are its own, and the cells have room for its slots
-pub record CanRun (own : List Link) (temporal : List Owner) (m : Memory) (n : NodeMemory) (c : Tree) (at first : ℕ)
-    : Type 0 where
-  pub linked : AreLinked own n c at first
-  pub owners : temporal ≡ owners 0 (code at 0 c)
+-- the slots from a place on are of these temporal nodes
+abbrev pub AreOwned : List Owner → ℕ → List Owner → Type 0
+AreOwned all at own = (i : ℕ) (o : Owner) → slice_get own i ≡ Some o → slice_get all (at + i) ≡ Some o
+
+-- and there are so many temporal nodes, whose slots are there and are their own
+pub record CanRun (own : List Link) (n : ℕ) (m : Memory) (c : Tree) (at first : ℕ) : Type 0 where
+  pub linked : AreLinked own m.nodes c at first
+  pub count : n ≡ slots c
+  pub owners : AreOwned m.owners at (owners 0 (code at 0 c))
   pub range : at + slots c ≤ length m.slots

@@ -1,6 +1,7 @@
 // In the first moment each node of a condition is asked, from the last to the first.
 ghost use Rattle.std.specs.Prelude.{◌≡◌, ◌+◌, ◌<◌, ◌≤◌, length, slice_set};
 ghost use Rattle.term_eval.specs.CellWords.{never};
+ghost use Rattle.term_eval.specs.Slots.{wakes_of, cells_of, owners_of};
 ghost use Rattle.term_eval.specs.Climb.{told_as};
 ghost use Rattle.term_eval.specs.NodeState.{state_at};
 ghost use Rattle.term_eval.specs.Run.{cells_after, due_after, SlotWithin};
@@ -8,19 +9,21 @@ ghost use Rattle.term_eval.specs.Begin.{answer, wakes_after, count_up, ask, ask_
 
 use crate::code::{Node, Step};
 use crate::env::Env;
-use crate::memory::Cell;
 use crate::nodes::{NodeState, unasked};
 use crate::run::{earlier, tell};
+use crate::slot::{Slot, keep_wake};
 use crate::turn::{NEVER, Turn, lasting};
 
 // What a node says of whose children so many hold, and the first or not, and when it turns by itself.
-fn answer(node: &Node, count: usize, first: bool, cells: &mut [Cell], env: &Env<'_>) -> Turn
-    requires has { Has env.now (length cells.old) node.now }
+fn answer(node: &Node, count: usize, first: bool, slots: &mut [Slot], env: &Env<'_>) -> Turn
+    requires has { Has env.now (length slots.old) node.now }
     requires phase { 1 ≤ env.now.phase.number }
     requires last { env.now.phase.number ≤ 10 }
-    ensures holds { result.holds ≡ answer env.now cells.old count first node.now }
-    ensures due { result.due ≡ due_after 0 cells.old count node.now }
-    ensures cells { cells.new ≡ cells_after 0 cells.old count first node.now }
+    ensures holds { result.holds ≡ answer env.now (cells_of slots.old) count first node.now }
+    ensures due { result.due ≡ due_after 0 (cells_of slots.old) count node.now }
+    ensures cells { cells_of slots.new ≡ cells_after 0 (cells_of slots.old) count first node.now }
+    ensures wakes { wakes_of slots.new ≡ wakes_of slots.old }
+    ensures owners { owners_of slots.new ≡ owners_of slots.old }
 {
     match node {
         Node::Const(truth) => lasting(*truth),
@@ -35,18 +38,20 @@ fn answer(node: &Node, count: usize, first: bool, cells: &mut [Cell], env: &Env<
         Node::All(members) => lasting(count == *members),
         Node::Any => lasting(count > 0),
         Node::AtLeast(least) => lasting(*least as usize <= count),
-        _ => tell(node, count, first, cells, 0),
+        _ => tell(node, count, first, slots, 0),
     }
 }
 
 // When a temporal node is to be looked at again.
-fn keep_wake(node: &Node, wakes: &mut [u64], due: u64)
-    requires { SlotWithin (length wakes.old) node.now }
-    ensures { wakes.new ≡ wakes_after node.now wakes.old due }
+fn keep_due(node: &Node, slots: &mut [Slot], due: u64)
+    requires { SlotWithin (length slots.old) node.now }
+    ensures wakes { wakes_of slots.new ≡ wakes_after node.now (wakes_of slots.old) due }
+    ensures cells { cells_of slots.new ≡ cells_of slots.old }
+    ensures owners { owners_of slots.new ≡ owners_of slots.old }
 {
     match node {
-        Node::Conf(_, slot) | Node::Hold(_, slot) => wakes[*slot] = due,
-        Node::Rise(slot) | Node::Latch(slot) => wakes[*slot] = due,
+        Node::Conf(_, slot) | Node::Hold(_, slot) => keep_wake(slots, *slot, due),
+        Node::Rise(slot) | Node::Latch(slot) => keep_wake(slots, *slot, due),
         _ => {}
     }
 }
@@ -83,28 +88,33 @@ fn ask(
     step: &Step,
     i: usize,
     states: &mut [NodeState],
-    wakes: &mut [u64],
-    cells: &mut [Cell],
+    slots: &mut [Slot],
     due: &mut u64,
     env: &Env<'_>,
 )
-    requires can { CanAsk env.now (length states.old) (length wakes.old) (length cells.old) i
+    requires can { CanAsk env.now (length states.old) (length slots.old) (length slots.old) i
         step.now }
     requires phase { 1 ≤ env.now.phase.number }
     requires last { env.now.phase.number ≤ 10 }
-    ensures { record { states = states.new; wakes = wakes.new; cells = cells.new; due = due.new }
+    ensures asks { record {
+      states = states.new;
+      wakes = wakes_of slots.new;
+      cells = cells_of slots.new;
+      due = due.new;
+    }
         ≡ ask env.now i step.now (record {
           states = states.old;
-          wakes = wakes.old;
-          cells = cells.old;
+          wakes = wakes_of slots.old;
+          cells = cells_of slots.old;
           due = due.old;
         }) }
+    ensures owners { owners_of slots.new ≡ owners_of slots.old }
 {
     let first = first_child(states, i);
     let count = usize::from(states[i].count);
-    let turn = answer(&step.node, count, first, cells, env);
+    let turn = answer(&step.node, count, first, slots, env);
     earlier(due, turn.due);
-    keep_wake(&step.node, wakes, turn.due);
+    keep_due(&step.node, slots, turn.due);
     keep_told(states, i, turn.holds);
     count_up(states, i, step.up, turn.holds);
 }
@@ -123,29 +133,34 @@ pub fn ask_all(
     steps: &[Step],
     first: usize,
     states: &mut [NodeState],
-    wakes: &mut [u64],
-    cells: &mut [Cell],
+    slots: &mut [Slot],
     env: &Env<'_>,
 ) -> u64
-    requires can { AllCanAsk env.now (length states.old) (length wakes.old) (length cells.old) first
+    requires can { AllCanAsk env.now (length states.old) (length slots.old) (length slots.old) first
         steps.now }
     requires room { first + length steps.now ≤ length states.old }
     requires phase { 1 ≤ env.now.phase.number }
     requires last { env.now.phase.number ≤ 10 }
-    ensures { record { states = states.new; wakes = wakes.new; cells = cells.new; due = result }
+    ensures asks { record {
+      states = states.new;
+      wakes = wakes_of slots.new;
+      cells = cells_of slots.new;
+      due = result;
+    }
         ≡ ask_over env.now first steps.now (record {
           states = unasked_from first (length steps.now) states.old;
-          wakes = wakes.old;
-          cells = cells.old;
+          wakes = wakes_of slots.old;
+          cells = cells_of slots.old;
           due = never;
         }) }
+    ensures owners { owners_of slots.new ≡ owners_of slots.old }
 {
     clear(states, first, steps.len());
     let mut due = NEVER;
     let mut i = steps.len();
     while i > 0 {
         i -= 1;
-        ask(&steps[i], first + i, states, wakes, cells, &mut due, env);
+        ask(&steps[i], first + i, states, slots, &mut due, env);
     }
     due
 }

@@ -1,10 +1,12 @@
 // A node that turned is told to the gates above it.
 ghost use Rattle.std.specs.Prelude.{◌≡◌, ◌≢◌, ◌+◌, ◌<◌, length, Ok};
 ghost use Rattle.term_eval.specs.declared.link.Gate.TheVariants as kind;
+ghost use Rattle.term_eval.specs.Slots.{wakes_of, cells_of, owners_of};
 ghost use Rattle.term_eval.specs.Climb.{climb, count_with, gate_says, link_at, CanClimb};
 
 use crate::link::{Gate, Link};
 use crate::nodes::NodeState;
+use crate::slot::{Slot, keep_wake};
 
 // How many children hold where one turned, modulo 256: this asks for no test.
 #[inline(always)]
@@ -32,17 +34,19 @@ fn gate_says(link: Link, count: u8) -> bool
 pub fn climb(
     link: Link,
     states: &mut [NodeState],
-    wakes: &mut [u64],
+    slots: &mut [Slot],
     links: &[Link],
     first: usize,
     node: usize,
     holds: bool,
 ) -> bool
-    requires can { CanClimb links.now first (length states.old) (length wakes.old) }
+    requires can { CanClimb links.now first (length states.old) (length slots.old) }
     requires node { node < length links.now }
     requires link { link ≡ link_at links.now node }
-    ensures { record { states = states.new; wakes = wakes.new; stirs = result }
-        ≡ climb (node + 1) links.now first node holds states.old wakes.old }
+    ensures climbs { record { states = states.new; wakes = wakes_of slots.new; stirs = result }
+        ≡ climb (node + 1) links.now first node holds states.old (wakes_of slots.old) }
+    ensures cells { cells_of slots.new ≡ cells_of slots.old }
+    ensures owners { owners_of slots.new ≡ owners_of slots.old }
 {
     let mut link = link;
     let mut node = node;
@@ -59,7 +63,7 @@ pub fn climb(
         let count = count_with(states[first + node].count, holds);
         states[first + node].count = count;
         if link.gate == Gate::Temporal {
-            wakes[link.number as usize] = 0;
+            keep_wake(slots, link.number as usize, 0);
             return true;
         }
         holds = gate_says(link, count);

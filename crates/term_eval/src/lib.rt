@@ -15,6 +15,7 @@ mod nodes;
 mod owner;
 mod reading;
 mod run;
+mod slot;
 mod turn;
 mod walk;
 
@@ -27,7 +28,7 @@ pub use laws::{
     nodes_wait_by_whom_was_asked, operands_and_the_due_moment_wake, what_is_named_decides,
 };
 pub use link::{Gate, Link, add_links, link_at};
-pub use nodes::{NodeState, Nodes};
+pub use nodes::NodeState;
 pub use owner::{Owner, Timing, add_owners};
 pub use reading::{Reading, Test, says, test_of};
 pub use turn::Turn;

@@ -11,7 +11,7 @@ ghost use Rattle.term_eval.specs.Code.{IsCode, IsHeld};
 ghost use Rattle.term_eval.specs.Links.{links_from};
 
 use crate::{
-    Cells, Env, Link, Node, Nodes, Reading, Step, add_code, add_links, add_owners, says, test_of,
+    Cells, Env, Link, Node, Reading, Step, add_code, add_links, add_owners, says, test_of,
 };
 use ecam_kinds::{Keys, Phase};
 use std::alloc::{AllocError, Global};
@@ -79,16 +79,18 @@ fn value_at(values: &[Option<i64>], param: u32) -> Option<i64> {
 
 // Tells each discrete that reads otherwise than it did.
 fn hear(
-    nodes: &mut Nodes,
+    cells: &mut Cells,
     steps: &[Step],
     links: &[Link],
     was: &[Option<i64>],
     values: &[Option<i64>],
 )
-    requires held { (c : Tree) × IsHeld steps.now nodes.old c 0 0 }
+    requires held { (c : Tree) × IsHeld steps.now cells.old.nodes c 0 0 }
     requires links { links.now ≡ links_from steps.now }
-    ensures states { length nodes.new.states ≡ length nodes.old.states }
-    ensures wakes { length nodes.new.wakes ≡ length nodes.old.wakes }
+    ensures states { length cells.new.nodes.states ≡ length cells.old.nodes.states }
+    ensures wakes { length cells.new.nodes.wakes ≡ length cells.old.nodes.wakes }
+    ensures slots { cells.new.slots ≡ cells.old.slots }
+    ensures owners { cells.new.owners ≡ cells.old.owners }
 {
     for (node, step) in steps.iter().enumerate() {
         if let Node::Disc(param) = step.node {
@@ -96,7 +98,7 @@ fn hear(
             if value != value_at(was, param) {
                 let test = test_of(&step.node);
                 let holds = says(test, &step.node, Reading::Value(value));
-                nodes.turn(links[node], links, 0, node, holds);
+                cells.turn(links[node], links, 0, node, holds);
             }
         }
     }
@@ -119,8 +121,8 @@ fn answers_by_code(
     add_links(&mut links, &steps)?;
     let mut owners = Vec::new(alloc);
     add_owners(&mut owners, &steps)?;
-    let mut nodes = Nodes::new(alloc, steps.len(), 2)?;
-    let mut cells = Cells::new(alloc, 2)?;
+    let mut cells = Cells::with_nodes(alloc, steps.len(), 2)?;
+    cells.own(0, &owners);
     let keys = Keys::new();
     let mut values = values_in(0, a, b);
     let env = Env {
@@ -131,7 +133,7 @@ fn answers_by_code(
         one_up: true,
         two_up: true,
     };
-    let first = cells.begin(&mut nodes, &steps, 0, &env);
+    let first = cells.begin(&steps, 0, &env);
     let mut found = [first.holds; 5];
     let mut dues = [first.due; 5];
     for moment in 1..5usize {
@@ -140,9 +142,9 @@ fn answers_by_code(
         } else {
             values
         };
-        hear(&mut nodes, &steps, &links, &values, &next);
+        hear(&mut cells, &steps, &links, &values, &next);
         values = next;
-        let turn = cells.run(&mut nodes, &links, 0, &owners, 0, moment as u64);
+        let turn = cells.run(&links, 0, owners.len(), 0, moment as u64);
         found[moment] = turn.holds;
         dues[moment] = turn.due;
     }

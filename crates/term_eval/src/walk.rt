@@ -4,11 +4,13 @@ ghost use Rattle.ecam_spec.specs.TermSize.{slots, slots_of, nodes, nodes_of};
 ghost use Rattle.ecam_spec.specs.TermNames.{IsWithin, AreWithin};
 ghost use Rattle.term_tree.specs.View.{tree_of, trees_of};
 ghost use Rattle.term_eval.specs.CellWords.{never};
+ghost use Rattle.term_eval.specs.Slots.{wakes_of, cells_of, owners_of};
 ghost use Rattle.term_eval.specs.Steps.{Steps, StepsAll};
 
 use crate::env::Env;
 use crate::leaf::atom;
-use crate::memory::{Cell, confirm, hold, latch, rise};
+use crate::memory::{confirm, hold, latch, rise};
+use crate::slot::Slot;
 use crate::turn::{NEVER, Turn, lasting, sooner};
 use term_tree::Cond;
 
@@ -19,13 +21,13 @@ use term_tree::Cond;
 #[tactic(auto, unfolding(ecam_spec::specs::TermSize::slots, ecam_spec::specs::TermSize::nodes, ecam_spec::specs::TermNames::IsWithin))]
 pub fn step(
     cond: &Cond,
-    cells: &mut [Cell],
+    kept: &mut [Slot],
     next: &mut usize,
     visits: &mut u64,
     env: &Env,
     now: u64,
 ) -> Turn
-    requires range { next.old + slots (tree_of cond.now) ≤ length cells.old }
+    requires range { next.old + slots (tree_of cond.now) ≤ length kept.old }
     requires names { IsWithin (length env.now.values.now) (length env.now.active.now)
         (tree_of cond.now) }
     requires first { 1 ≤ env.now.phase.number }
@@ -33,8 +35,10 @@ pub fn step(
     requires now { now < 2 ^ 63 }
     ensures next { next.new ≡ next.old + slots (tree_of cond.now) }
     ensures visits { visits.new ≡ min (visits.old + nodes (tree_of cond.now)) (2 ^ 64 - 1) }
-    ensures steps { Steps env.now now (tree_of cond.now) next.old cells.old cells.new result.holds
-        result.due }
+    ensures steps { Steps env.now now (tree_of cond.now) next.old (cells_of kept.old)
+        (cells_of kept.new) result.holds result.due }
+    ensures wakes { wakes_of kept.new ≡ wakes_of kept.old }
+    ensures owners { owners_of kept.new ≡ owners_of kept.old }
 {
     *visits = visits.saturating_add(1);
     match cond {
@@ -47,28 +51,28 @@ pub fn step(
         Cond::Press(key) => lasting(env.keys.pressed(*key)),
         Cond::Fwc(computer) => lasting(env.is_up(*computer)),
         Cond::Not(of) => {
-            let inner = step(of, cells, next, visits, env, now);
+            let inner = step(of, kept, next, visits, env, now);
             Turn {
                 holds: !inner.holds,
                 due: inner.due,
             }
         }
         Cond::All(members) => {
-            let tally = step_each(members, cells, next, visits, env, now);
+            let tally = step_each(members, kept, next, visits, env, now);
             Turn {
                 holds: tally.count == members.len(),
                 due: tally.due,
             }
         }
         Cond::Any(members) => {
-            let tally = step_each(members, cells, next, visits, env, now);
+            let tally = step_each(members, kept, next, visits, env, now);
             Turn {
                 holds: tally.count > 0,
                 due: tally.due,
             }
         }
         Cond::AtLeast(least, members) => {
-            let tally = step_each(members, cells, next, visits, env, now);
+            let tally = step_each(members, kept, next, visits, env, now);
             Turn {
                 holds: tally.count >= *least as usize,
                 due: tally.due,
@@ -76,27 +80,30 @@ pub fn step(
         }
         Cond::Conf(of, moments) => {
             let own = take_slot(next);
-            let inner = step(of, cells, next, visits, env, now);
+            let inner = step(of, kept, next, visits, env, now);
             sooner(
-                confirm(&mut cells[own], inner.holds, *moments, now),
+                confirm(&mut kept[own].cell, inner.holds, *moments, now),
                 inner.due,
             )
         }
         Cond::Hold(of, moments) => {
             let own = take_slot(next);
-            let inner = step(of, cells, next, visits, env, now);
-            sooner(hold(&mut cells[own], inner.holds, *moments, now), inner.due)
+            let inner = step(of, kept, next, visits, env, now);
+            sooner(
+                hold(&mut kept[own].cell, inner.holds, *moments, now),
+                inner.due,
+            )
         }
         Cond::Rise(of) => {
             let own = take_slot(next);
-            let inner = step(of, cells, next, visits, env, now);
-            sooner(rise(&mut cells[own], inner.holds, now), inner.due)
+            let inner = step(of, kept, next, visits, env, now);
+            sooner(rise(&mut kept[own].cell, inner.holds, now), inner.due)
         }
         Cond::Latch(set, reset) => {
             let own = take_slot(next);
-            let set = step(set, cells, next, visits, env, now);
-            let reset = step(reset, cells, next, visits, env, now);
-            let holds = latch(&mut cells[own], set.holds, reset.holds);
+            let set = step(set, kept, next, visits, env, now);
+            let reset = step(reset, kept, next, visits, env, now);
+            let holds = latch(&mut kept[own].cell, set.holds, reset.holds);
             Turn {
                 holds,
                 due: set.due.min(reset.due),
@@ -146,13 +153,13 @@ fn visit(visits: &mut u64, holds: bool) -> Turn
 #[tactic(auto, unfolding(ecam_spec::specs::TermSize::slots, ecam_spec::specs::TermSize::nodes, ecam_spec::specs::TermNames::IsWithin))]
 fn step_inner(
     cond: &Cond,
-    cells: &mut [Cell],
+    kept: &mut [Slot],
     next: &mut usize,
     visits: &mut u64,
     env: &Env,
     now: u64,
 ) -> Turn
-    requires range { next.old + slots (tree_of cond.now) ≤ length cells.old }
+    requires range { next.old + slots (tree_of cond.now) ≤ length kept.old }
     requires names { IsWithin (length env.now.values.now) (length env.now.active.now)
         (tree_of cond.now) }
     requires first { 1 ≤ env.now.phase.number }
@@ -160,13 +167,15 @@ fn step_inner(
     requires now { now < 2 ^ 63 }
     ensures next { next.new ≡ next.old + slots (tree_of cond.now) }
     ensures visits { visits.new ≡ min (visits.old + nodes (tree_of cond.now)) (2 ^ 64 - 1) }
-    ensures steps { Steps env.now now (tree_of cond.now) next.old cells.old cells.new result.holds
-        result.due }
+    ensures steps { Steps env.now now (tree_of cond.now) next.old (cells_of kept.old)
+        (cells_of kept.new) result.holds result.due }
+    ensures wakes { wakes_of kept.new ≡ wakes_of kept.old }
+    ensures owners { owners_of kept.new ≡ owners_of kept.old }
 {
     match cond {
         Cond::All(members) => {
             count_visit(visits);
-            let tally = step_each(members, cells, next, visits, env, now);
+            let tally = step_each(members, kept, next, visits, env, now);
             Turn {
                 holds: tally.count == members.len(),
                 due: tally.due,
@@ -174,7 +183,7 @@ fn step_inner(
         }
         Cond::Any(members) => {
             count_visit(visits);
-            let tally = step_each(members, cells, next, visits, env, now);
+            let tally = step_each(members, kept, next, visits, env, now);
             Turn {
                 holds: tally.count > 0,
                 due: tally.due,
@@ -182,7 +191,7 @@ fn step_inner(
         }
         Cond::AtLeast(least, members) => {
             count_visit(visits);
-            let tally = step_each(members, cells, next, visits, env, now);
+            let tally = step_each(members, kept, next, visits, env, now);
             Turn {
                 holds: *least as usize <= tally.count,
                 due: tally.due,
@@ -200,7 +209,7 @@ fn step_inner(
         | Cond::Conf(_, _)
         | Cond::Hold(_, _)
         | Cond::Rise(_)
-        | Cond::Latch(_, _) => step(cond, cells, next, visits, env, now),
+        | Cond::Latch(_, _) => step(cond, kept, next, visits, env, now),
     }
 }
 
@@ -208,13 +217,13 @@ fn step_inner(
 #[cycle(walk)]
 fn step_each(
     members: &[Cond],
-    cells: &mut [Cell],
+    kept: &mut [Slot],
     next: &mut usize,
     visits: &mut u64,
     env: &Env,
     now: u64,
 ) -> Tally
-    requires range { next.old + slots_of (trees_of members.now) ≤ length cells.old }
+    requires range { next.old + slots_of (trees_of members.now) ≤ length kept.old }
     requires names { AreWithin (length env.now.values.now) (length env.now.active.now)
         (trees_of members.now) }
     requires first { 1 ≤ env.now.phase.number }
@@ -223,15 +232,17 @@ fn step_each(
     requires visits { visits.old ≤ 2 ^ 64 - 1 }
     ensures next { next.new ≡ next.old + slots_of (trees_of members.now) }
     ensures visits { visits.new ≡ min (visits.old + nodes_of (trees_of members.now)) (2 ^ 64 - 1) }
-    ensures steps { StepsAll env.now now (trees_of members.now) next.old cells.old cells.new
-        result.count result.due }
+    ensures steps { StepsAll env.now now (trees_of members.now) next.old (cells_of kept.old)
+        (cells_of kept.new) result.count result.due }
+    ensures wakes { wakes_of kept.new ≡ wakes_of kept.old }
+    ensures owners { owners_of kept.new ≡ owners_of kept.old }
 {
     let mut count = 0usize;
     let mut due = NEVER;
     for member in members {
         let turn = match atom(member, env) {
             Some(holds) => visit(visits, holds),
-            None => step_inner(member, cells, next, visits, env, now),
+            None => step_inner(member, kept, next, visits, env, now),
         };
         if turn.holds {
             count += 1;

@@ -42,6 +42,7 @@ returns-clause-begins c = λ m came stands before.
     (λ j lt. c.wake_first.ensures.same j)
     (λ j lt off. c.wake_first.ensures.dues j off)
     c.wake_first.ensures.slots
+    c.wake_first.ensures.nodes
     (c.wake_first.ensures.counts b old.cells.visits (subst (IsCodes b) (sym c.table.ensures) c.requires.fits.codes) (omega (arith, c.len.ensures, old.truths.ok.0, c.requires.fits.truths)) (omega (arith, c.requires.fits.visits))) in
     -- what the values wake, by the flags of those that turned
     let all : (values : ℕ → Bool) → HasWoken b (ranged 0 (length b.parameters) values) by-values first read

@@ -50,8 +50,8 @@ returns-clause-fits c b fits =
     let ready = is-ready b' c.args.terms.now c.args.number p c.code-steps.result.now first own here (c.code-steps.ensures b' coded p here) (c.start-start.ensures b' coded inside) in
     let begun = c.begin-turn.ensures in
     run-fits b c.args.number first p c.begin-turn.result.holds c.begin-turn.result.due c.args.terms.now c.note.new.terms
-    (noted c.args.number first p c.begin-turn.result.holds c.begin-turn.result.due c.args.terms.now c.note.new.terms c.begin-turn.new.states c.begin-turn.new.self c.note.ensures.rest
-    (begun.within p.tree p.at ready) (begun.before p.tree p.at ready) (begun.behind p.tree p.at ready) begun.len begun.visits c.note.ensures.truths c.note.ensures.dues)
+    (noted c.args.number first p c.begin-turn.result.holds c.begin-turn.result.due c.args.terms.now c.note.new.terms c.begin-turn.new.self c.note.ensures.rest
+    (begun.within p.tree p.at ready) (begun.before p.tree p.at ready) (begun.behind p.tree p.at ready) begun.len begun.owners begun.visits c.note.ensures.truths c.note.ensures.dues)
     fits
 
 pub returns-clause-steps : goal.returns-clause-steps
@@ -64,9 +64,9 @@ returns-clause-steps c b p fits here names =
     let begun = rw at at c.begin-turn.ensures in
     subst (StepsTerm (places b) c.args.env.now 0 c.args.number p c.args.terms.now c.note.new.terms) (sym c.note.ensures.holds)
     (run-steps b c.args.env.now 0 c.args.number p c.begin-turn.result.holds c.begin-turn.result.due c.args.terms.now c.note.new.terms (let early : 0 < 2 ^ 63 = omega arith in early) here fits
-    (noted c.args.number start p c.begin-turn.result.holds c.begin-turn.result.due c.args.terms.now c.note.new.terms c.begin-turn.new.states c.begin-turn.new.self c.note.ensures.rest
-    (begun.within p.tree p.at ready) (begun.before p.tree p.at ready) (begun.behind p.tree p.at ready) begun.len begun.visits c.note.ensures.truths c.note.ensures.dues)
+    (noted c.args.number start p c.begin-turn.result.holds c.begin-turn.result.due c.args.terms.now c.note.new.terms c.begin-turn.new.self c.note.ensures.rest
+    (begun.within p.tree p.at ready) (begun.before p.tree p.at ready) (begun.behind p.tree p.at ready) begun.len begun.owners begun.visits c.note.ensures.truths c.note.ensures.dues)
     (λ w hit shows tells left.
-    noted-run c.args.number start p c.begin-turn.result.holds c.begin-turn.result.due c.args.terms.now c.note.new.terms c.begin-turn.new.states c.begin-turn.new.self c.note.ensures.rest w 0
+    noted-run c.args.number start p c.begin-turn.result.holds c.begin-turn.result.due c.args.terms.now c.note.new.terms c.begin-turn.new.self c.note.ensures.rest w 0
     (begun.truth p.tree p.at ready w (shows refl) left.stands) (begun.due p.tree p.at ready w (shows refl) left.stands) (begun.wake p.tree p.at ready)
     (begun.stands p.tree p.at ready w (shows refl) left.stands) (begun.nodes p.tree p.at ready w (shows refl) left.stands)))

@@ -1,4 +1,4 @@
-use Rattle.std.proofs.Common.{◌≡◌, ◌<◌, ℕ, zero, suc, length, refl, sym, subst, arith}
+use Rattle.std.proofs.Common.{◌≡◌, ◌<◌, ℕ, zero, suc, length, refl, sym, ap, subst, arith}
 use Rattle.std.proofs.lemmas.Option.{slice_get_within}
 use Rattle.book_model.specs.Conditions.{places}
 use Rattle.condition_codes.specs.IsCodes.{IsCodes}
@@ -28,8 +28,8 @@ run-turn-requires-clause-ready c =
     let are = c.parts-parts.ensures in
     let parts = c.parts-parts.result in (
       p.tree,
-      can-run b c.args.terms.now c.args.number p parts.links.now parts.owners.now parts.first parts.slot fits here
-          (are.links b coded p here) (are.owners b coded p here) (are.first b coded inside) (are.slot b coded p here),
+      can-run b c.args.terms.now c.args.number p parts.links.now (length parts.owners.now) parts.first parts.slot fits here
+          (are.links b coded p here) (ap length (are.owners b coded p here)) (are.first b coded inside) (are.slot b coded p here),
     )
 
 pub note-requires-clause-truths : goal.note-requires-clause-truths
@@ -52,12 +52,12 @@ returns-clause-fits c b fits =
     let parts = c.parts-parts.result in
     let are = c.parts-parts.ensures in
     let first = parts.first in
-    let can = can-run b' c.args.terms.now c.args.number p parts.links.now parts.owners.now first p.at own here
-    (are.links b' coded p here) (are.owners b' coded p here) (are.first b' coded inside) refl in
+    let can = can-run b' c.args.terms.now c.args.number p parts.links.now (length parts.owners.now) first p.at own here
+    (are.links b' coded p here) (ap length (are.owners b' coded p here)) (are.first b' coded inside) refl in
     let run = rw (are.slot b' coded p here) at c.run-turn.ensures in
     run-fits b c.args.number first p c.run-turn.result.holds c.run-turn.result.due c.args.terms.now c.note.new.terms
-    (noted c.args.number first p c.run-turn.result.holds c.run-turn.result.due c.args.terms.now c.note.new.terms c.run-turn.new.states c.run-turn.new.self c.note.ensures.rest
-    (run.within p.tree can) (run.before p.tree can) (run.behind p.tree can) run.len run.visits c.note.ensures.truths c.note.ensures.dues)
+    (noted c.args.number first p c.run-turn.result.holds c.run-turn.result.due c.args.terms.now c.note.new.terms c.run-turn.new.self c.note.ensures.rest
+    (run.within p.tree can) (run.before p.tree can) (run.behind p.tree can) run.len run.owners run.visits c.note.ensures.truths c.note.ensures.dues)
     fits
 
 pub returns-clause-steps : goal.returns-clause-steps
@@ -67,18 +67,18 @@ returns-clause-steps c b p env fits here =
     let start = nodes_before (places b) c.args.number in
     let parts = c.parts-parts.result in
     let are = c.parts-parts.ensures in
-    let can = can-run b c.args.terms.now c.args.number p parts.links.now parts.owners.now start p.at fits here
-    (are.links b coded p here) (are.owners b coded p here) refl refl in
+    let can = can-run b c.args.terms.now c.args.number p parts.links.now (length parts.owners.now) start p.at fits here
+    (are.links b coded p here) (ap length (are.owners b coded p here)) refl refl in
     let run = rw (are.first b coded inside, are.slot b coded p here) at c.run-turn.ensures in
     subst (StepsTerm (places b) env c.args.now c.args.number p c.args.terms.now c.note.new.terms) (sym c.note.ensures.holds)
     (run-steps b env c.args.now c.args.number p c.run-turn.result.holds c.run-turn.result.due c.args.terms.now c.note.new.terms c.requires.now here fits
-    (noted c.args.number start p c.run-turn.result.holds c.run-turn.result.due c.args.terms.now c.note.new.terms c.run-turn.new.states c.run-turn.new.self c.note.ensures.rest
-    (run.within p.tree can) (run.before p.tree can) (run.behind p.tree can) run.len run.visits c.note.ensures.truths c.note.ensures.dues)
+    (noted c.args.number start p c.run-turn.result.holds c.run-turn.result.due c.args.terms.now c.note.new.terms c.run-turn.new.self c.note.ensures.rest
+    (run.within p.tree can) (run.before p.tree can) (run.behind p.tree can) run.len run.owners run.visits c.note.ensures.truths c.note.ensures.dues)
     (λ w hit shows tells left.
     let later = before-it c.args.now c.requires.later in
     let h = later.0 in
     let is = later.1 in
     let waits = moved-asked w hit c.args.now h c.args.number start p c.args.terms.now tells (left.later h is) in
-    noted-run c.args.number start p c.run-turn.result.holds c.run-turn.result.due c.args.terms.now c.note.new.terms c.run-turn.new.states c.run-turn.new.self c.note.ensures.rest w c.args.now
+    noted-run c.args.number start p c.run-turn.result.holds c.run-turn.result.due c.args.terms.now c.note.new.terms c.run-turn.new.self c.note.ensures.rest w c.args.now
     (run.truth p.tree can w h is left.stands waits) (run.due p.tree can w h is left.stands waits) (run.wake p.tree can w h is left.stands waits)
     (run.stands p.tree can w h is left.stands waits) (run.nodes p.tree can w h is left.stands waits)))

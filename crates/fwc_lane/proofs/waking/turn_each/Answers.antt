@@ -1,4 +1,4 @@
-use Rattle.std.proofs.Common.{◌≡◌, ◌+◌, ◌*◌, ◌&&◌, ◌||◌, false, ◌==◌, ℕ, take, get_or, subst, sym, ap, ◌∙◌, arith}
+use Rattle.std.proofs.Common.{◌≡◌, ◌+◌, ◌-◌, ◌*◌, ◌^◌, min, ◌&&◌, ◌||◌, false, ◌==◌, ℕ, take, get_or, subst, sym, ap, ◌∙◌, arith}
 use Rattle.std.proofs.lemmas.Bool.Decides.{nat_tests}
 use Rattle.std.proofs.lemmas.List.{take_all}
 use Rattle.std.proofs.lemmas.List.Folds.{list_any_more}
@@ -51,7 +51,7 @@ turn-requires c =
     let before = c.loop-asker.invariant.turns b can in (
       own.place.tree,
       own.place.at,
-      are-linked b c.args.asking.now c.args.codes.now c.args.nodes.now c.loop-asker.nodes c.args.woken.now c.args.stirred.now can before.states before.wakes a.term own.place
+      are-linked b c.args.asking.now c.args.codes.now c.args.cells.now.nodes c.loop-asker.cells.nodes c.args.woken.now c.args.stirred.now can before.states before.wakes a.term own.place
           c.links_by-links.result.now a.first own.there (c.links_by-links.ensures b o can.are own own.place own.there) own.first,
       omega (arith, c.from.ensures, asks-within own.place.tree a.node own.operand own.asks),
       rw c.from.ensures own.link,
@@ -81,9 +81,9 @@ loop-asker-preserved c = record {
       let (o, own) = can.asks i a (slice_get-get_or asking i none lt) in
       let q = own.place in
       let before = c.loop-asker.invariant.turns b can in
-      let mid = c.loop-asker.nodes in
-      let new = c.turn.new.self in
-      let linked = are-linked b asking c.args.codes.now c.args.nodes.now mid c.args.woken.now c.args.stirred.now can before.states before.wakes a.term q c.links_by-links.result.now a.first own.there
+      let mid = c.loop-asker.cells.nodes in
+      let new = c.turn.new.self.nodes in
+      let linked = are-linked b asking c.args.codes.now c.args.cells.now.nodes mid c.args.woken.now c.args.stirred.now can before.states before.wakes a.term q c.links_by-links.result.now a.first own.there
       (c.links_by-links.ensures b o can.are own q own.there) own.first in
       let turned = rw c.from.ensures at c.turn.ensures.waits in
       let rooms : room c.if-turn.stirred ≡ room c.loop-asker.stirred = elim c.if-turn.branch [
@@ -94,7 +94,7 @@ loop-asker-preserved c = record {
         | then-turn w ↦ marks-then c.turn.result (is_marked c.if-turn.stirred j) (is_marked c.loop-asker.stirred j) j a.term w.if-turn.true (ap (λ m. is_marked m j) w.stirred-is ∙ w.mark.ensures.marks j)
         | else-turn w ↦ ap (λ m. is_marked m j) w.stirred-is ∙ marks-else c.turn.result (is_marked c.loop-asker.stirred j) j a.term w.if-turn.false
       ] in
-      turns-more b c.args.reading (take i asking) (take (i + 1) asking) a c.args.nodes.now mid new c.args.stirred.now c.loop-asker.stirred c.if-turn.stirred c.turn.result
+      turns-more b c.args.reading (take i asking) (take (i + 1) asking) a c.args.cells.now.nodes mid new c.args.stirred.now c.loop-asker.stirred c.if-turn.stirred c.turn.result
       (λ j n. list_any_more (λ (x : Asker). x.term == j && x.node == n) asking i none lt)
       (listed-asks b i asking can.asks)
       q own.operand own.there own.asks
@@ -106,6 +106,9 @@ loop-asker-preserved c = record {
       c.turn.ensures.wakes
       (subst (λ n. c.turn.result ≡ false → (state_at new.states n).told ≡ (state_at mid.states n).told) own.first c.turn.ensures.told)
       rooms marked before;
+  slots = c.turn.ensures.slots ∙ c.loop-asker.invariant.slots;
+  owners = c.turn.ensures.owners ∙ c.loop-asker.invariant.owners;
+  visits = c.turn.ensures.visits ∙ c.loop-asker.invariant.visits;
   adds = λ b can.
       let asking = c.args.asking.now in
       let i = c.loop-asker.asker-index in
@@ -123,18 +126,20 @@ loop-asker-preserved c = record {
 
 pub returns-then-is_empty-clause-turns : goal.returns-then-is_empty-clause-turns
 returns-then-is_empty-clause-turns c b can =
-    subst (λ l. TurnsEach b l c.args.reading c.args.nodes.now c.args.stirred.now c.args.nodes.now c.args.stirred.now)
-    (take_all 0 c.args.asking.now (grind (arith, nat_tests))) (turns-none b c.args.reading c.args.nodes.now c.args.stirred.now)
+    subst (λ l. TurnsEach b l c.args.reading c.args.cells.now.nodes c.args.stirred.now c.args.cells.now.nodes c.args.stirred.now)
+    (take_all 0 c.args.asking.now (grind (arith, nat_tests))) (turns-none b c.args.reading c.args.cells.now.nodes c.args.stirred.now)
 
 pub returns-clause-turns : goal.returns-clause-turns
 returns-clause-turns c b can =
     let asking = c.args.asking.now in
-    subst (λ l. TurnsEach b l c.args.reading c.args.nodes.now c.args.stirred.now c.loop-asker.nodes c.loop-asker.stirred)
-    (take_all c.loop-asker.asker-index asking (omega (arith, c.loop-asker-test.false))) (c.loop-asker.invariant.turns b can)
+    subst (λ n. TurnsEach b asking c.args.reading c.args.cells.now.nodes c.args.stirred.now n c.loop-asker.stirred) (sym c.count.ensures.nodes)
+    (subst (λ l. TurnsEach b l c.args.reading c.args.cells.now.nodes c.args.stirred.now c.loop-asker.cells.nodes c.loop-asker.stirred)
+    (take_all c.loop-asker.asker-index asking (omega (arith, c.loop-asker-test.false))) (c.loop-asker.invariant.turns b can))
 
 pub returns-clause-marks : goal.returns-clause-marks
 returns-clause-marks c b can =
     let asking = c.args.asking.now in
     marks-all b asking c.args.woken.now c.loop-asker.woken c.loop-asker.fresh c.args.cells.now c.count.new.self
     (subst (λ l. AddsEach b l c.args.woken.now c.loop-asker.woken c.loop-asker.fresh) (take_all c.loop-asker.asker-index asking (omega (arith, c.loop-asker-test.false))) (c.loop-asker.invariant.adds b can))
-    c.count.ensures.slots c.count.ensures.visits
+    (c.count.ensures.slots ∙ c.loop-asker.invariant.slots) (c.count.ensures.owners ∙ c.loop-asker.invariant.owners)
+    (c.count.ensures.visits ∙ ap (λ n. min (n + c.loop-asker.fresh) (2 ^ 64 - 1)) c.loop-asker.invariant.visits)

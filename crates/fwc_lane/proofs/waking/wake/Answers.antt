@@ -17,9 +17,9 @@ pub returns-then-other-clause-wakes : goal.returns-then-other-clause-wakes
 returns-then-other-clause-wakes c =
     let b = the_book c.args.book.now in
     let old = c.args.terms.now in
-    let new : Terms = record old { woken = c.turn_each.new.woken; stirred = c.turn_each.new.stirred; nodes = c.turn_each.new.nodes; cells = c.turn_each.new.cells } in
+    let new : Terms = record old { woken = c.turn_each.new.woken; stirred = c.turn_each.new.stirred; cells = c.turn_each.new.cells } in
     let only = c.asking.ensures.only b c.requires.fits.askers (omega (arith, c.requires.operand)) in
-    let can : CanTurn b c.asking.result.now c.table.result.now old.nodes old.woken old.stirred = rw c.table.ensures (can-turn b old c.args.operand c.asking.result.now c.requires.fits only) in
+    let can : CanTurn b c.asking.result.now c.table.result.now old.cells.nodes old.woken old.stirred = rw c.table.ensures (can-turn b old c.args.operand c.asking.result.now c.requires.fits only) in
     awake-listed b c.args.operand c.args.reading c.asking.result.now old new c.args.other c.if-other.true refl
     (c.asking.ensures.each b c.requires.fits.askers (omega (arith, c.requires.operand))) only
     (c.turn_each.ensures.turns b can) (c.turn_each.ensures.marks b can) c.turn_each.ensures.stirs
@@ -29,7 +29,7 @@ returns-then-other-clause-fits c =
     let b = the_book c.args.book.now in
     let only = c.asking.ensures.only b c.requires.fits.askers (omega (arith, c.requires.operand)) in
     let old = c.args.terms.now in
-    let can : CanTurn b c.asking.result.now c.table.result.now old.nodes old.woken old.stirred = rw c.table.ensures (can-turn b old c.args.operand c.asking.result.now c.requires.fits only) in
+    let can : CanTurn b c.asking.result.now c.table.result.now old.cells.nodes old.woken old.stirred = rw c.table.ensures (can-turn b old c.args.operand c.asking.result.now c.requires.fits only) in
     let marks = c.turn_each.ensures.marks b can in
     fits-woken b (λ o. c.args.other && (o == c.args.operand)) (λ o. c.args.reading) c.args.terms.now _ c.requires.fits (returns-then-other-clause-wakes c) (marks.most c.requires.fits.visits)
 

@@ -13,6 +13,8 @@ invariant-loop-term l = record {
   same : (j : ℕ) → is_marked l.stirred j ≡ is_marked l.woken j;
   marks : (j : ℕ) → j < l.term → is_marked l.woken j ≡ true;
   slots : l.cells.slots ≡ l.fn.cells.slots;
+  nodes : l.cells.nodes ≡ l.fn.cells.nodes;
+  owners : l.cells.owners ≡ l.fn.cells.owners;
   most : l.fn.cells.visits ≤ 2 ^ 64 - 1 → l.cells.visits ≤ 2 ^ 64 - 1;
   counts : (b : plain.Book) (visited : ℕ) → IsCodes b l.codes → l.count ≡ length (places b) → IsCounted (places b) visited l.fn.woken l.fn.cells.visits
       → IsCounted (places b) visited l.woken l.cells.visits;

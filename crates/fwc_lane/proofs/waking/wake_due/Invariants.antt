@@ -16,6 +16,8 @@ invariant-loop-next l = record {
   due : (j : ℕ) → is_marked l.woken j ≡ true → slice_index l.fn.dues j ≤ l.now;
   kept : (j : ℕ) → is_marked l.woken j ≡ false → slice_index l.dues j ≡ slice_index l.fn.dues j;
   slots : l.cells.slots ≡ l.fn.cells.slots;
+  nodes : l.cells.nodes ≡ l.fn.cells.nodes;
+  owners : l.cells.owners ≡ l.fn.cells.owners;
   most : l.fn.cells.visits ≤ 2 ^ 64 - 1 → l.cells.visits ≤ 2 ^ 64 - 1;
   counts : (b : plain.Book) (visited : ℕ) → IsCodes b l.codes → length l.fn.dues ≡ length (places b) → IsCounted (places b) visited l.fn.woken l.fn.cells.visits
       → IsCounted (places b) visited l.woken l.cells.visits;

@@ -6,6 +6,7 @@ use Rattle.term_eval.specs.declared.nodes.NodeState.{NodeState}
 use Rattle.term_eval.specs.declared.link.Link.{Link}
 use Rattle.term_eval.specs.declared.link.Gate.{Gate}
 use Rattle.term_eval.specs.declared.link.Gate.TheVariants.{Temporal, Top}
+use Rattle.term_eval.specs.Slots.{wakes_of}
 use Rattle.term_eval.specs.Climb.{Climbed, climb, count_with, gate_says, is_top, go_on, link_at, told_as, counted, CanClimb}
 use Rattle.term_eval.specs.NodeState.{state_at}
 use Rattle.term_eval.specs.Woken.{differ}
@@ -71,9 +72,9 @@ module _ (fuel : ℕ) (links : List Link) (first i : ℕ) (holds : Bool) (states
         ∙ sym (fueled ∙ climb-above (fuel - 1) links first i above holds states wakes turns
         (sym (ap (λ (l : Link). is_top l.gate) is) ∙ no-top link.gate below) (omega arith))
 
-pub returns-then-states-first : goal.returns-then-states-first
-returns-then-states-first c =
-    ends-same (c.args.node + 1) c.args.links.now c.args.first c.args.node c.args.holds c.args.states.now c.args.wakes.now
+pub returns-then-states-first-clause-climbs : goal.returns-then-states-first-clause-climbs
+returns-then-states-first-clause-climbs c =
+    ends-same (c.args.node + 1) c.args.links.now c.args.first c.args.node c.args.holds c.args.states.now (wakes_of c.args.slots.now)
     (omega arith)
     (turns-by (state_at c.args.states.now (c.args.first + c.args.node)).told c.args.holds true c.if-states-first.true)
 
@@ -83,15 +84,15 @@ up-init c = record {
   link = c.requires.link;
   turns = turns-by (state_at c.args.states.now (c.args.first + c.args.node)).told c.args.holds false c.if-states-first.false;
   nodes = refl;
-  slots = refl;
+  kept = refl;
   rest = (c.args.node + 1, (omega arith), refl);
 }
 
-pub returns-then-eq : goal.returns-then-eq
-returns-then-eq c =
+pub returns-then-eq-clause-climbs : goal.returns-then-eq-clause-climbs
+returns-then-eq-clause-climbs c =
     let l = c.up in
     let top : l.link.gate ≡ Top = search rules in
-    ends-first l.invariant.rest.0 c.args.links.now c.args.first l.node l.holds l.states l.wakes l.invariant.rest.1 l.link l.invariant.link l.invariant.turns top
+    ends-first l.invariant.rest.0 c.args.links.now c.args.first l.node l.holds l.states (wakes_of l.slots) l.invariant.rest.1 l.link l.invariant.link l.invariant.turns top
     ∙ l.invariant.rest.2
 
 pub overflow_sub-node : goal.overflow_sub-node
@@ -110,35 +111,32 @@ up-smaller c =
     let some = up-some c.args.links.now c.args.first _ _ l.node l.link c.requires.can l.invariant.within l.invariant.link below in
     omega arith
 
-pub bounds-wakes-link : goal.bounds-wakes-link
-bounds-wakes-link c =
+pub keep_wake-requires : goal.keep_wake-requires
+keep_wake-requires c =
     let l = c.up in
     let temporal : l.link.gate ≡ Temporal = search rules in
     let slot = slot-within c.args.links.now c.args.first _ _ l.node l.link c.requires.can l.invariant.within l.invariant.link temporal in
-    let long = l.invariant.slots in
+    let long = ap length l.invariant.kept in
     omega arith
 
-pub overflow_cast-wakes : goal.overflow_cast-wakes
-overflow_cast-wakes c = let within : c.up.link.number < length c.up.wakes = bounds-wakes-link c in search rules
-
-pub offset_bounds-wakes-link : goal.offset_bounds-wakes-link
-offset_bounds-wakes-link c = let within : c.up.link.number < length c.up.wakes = bounds-wakes-link c in search rules
-
-pub returns-then-eq-2 : goal.returns-then-eq-2
-returns-then-eq-2 c =
+pub returns-then-eq-2-clause-climbs : goal.returns-then-eq-2-clause-climbs
+returns-then-eq-2-clause-climbs c =
     let l = c.up in
     let temporal : l.link.gate ≡ Temporal = search rules in
     let below : l.link.gate ≢ Top = search rules in
     let far = c.from-node.ensures in
     let up = up-within c.args.links.now c.args.first _ _ l.node l.link c.requires.can l.invariant.within l.invariant.link in
     let above : ℕ = l.node - c.from-node.result in
-    goes-on l.invariant.rest.0 c.args.links.now c.args.first l.node l.holds l.states l.wakes l.invariant.rest.1 l.link l.invariant.link l.invariant.turns above
+    let told = told_in c.args.first l.node l.holds l.states in
+    let after = slice_set told (c.args.first + above) (counted c.count_with-count.result (state_at told (c.args.first + above))) in
+    ap (λ wakes. record { states = after; wakes = wakes; stirs = true }) c.keep_wake.ensures.wakes
+    ∙ goes-on l.invariant.rest.0 c.args.links.now c.args.first l.node l.holds l.states (wakes_of l.slots) l.invariant.rest.1 l.link l.invariant.link l.invariant.turns above
     c.count_with-count.result (Err l.link.number) below (omega arith) c.count_with-count.ensures
     (ap (λ (g : Gate). gate_says g l.link.number c.count_with-count.result) temporal)
     ∙ l.invariant.rest.2
 
-pub returns-then-states-first-2 : goal.returns-then-states-first-2
-returns-then-states-first-2 c =
+pub returns-then-states-first-2-clause-climbs : goal.returns-then-states-first-2-clause-climbs
+returns-then-states-first-2-clause-climbs c =
     let l = c.up in
     let below : l.link.gate ≢ Top = search rules in
     let far = c.from-node.ensures in
@@ -147,11 +145,11 @@ returns-then-states-first-2 c =
     let some = up-some links c.args.first _ _ l.node l.link c.requires.can l.invariant.within l.invariant.link below in
     let above : ℕ = l.node - c.from-node.result in
     let fuel = l.invariant.rest.0 in
-    let after = counting fuel links c.args.first l.node l.holds l.states l.wakes l.invariant.rest.1 l.link l.invariant.link l.invariant.turns above c.count_with-count.result in
-    ends-same (fuel - 1) links c.args.first above c.gate_says-holds.result after l.wakes
+    let after = counting fuel links c.args.first l.node l.holds l.states (wakes_of l.slots) l.invariant.rest.1 l.link l.invariant.link l.invariant.turns above c.count_with-count.result in
+    ends-same (fuel - 1) links c.args.first above c.gate_says-holds.result after (wakes_of l.slots)
     (let more = l.invariant.rest.1 in omega arith)
     (turns-by (state_at after (c.args.first + above)).told c.gate_says-holds.result true c.if-states-first-2.true)
-    ∙ goes-on fuel links c.args.first l.node l.holds l.states l.wakes l.invariant.rest.1 l.link l.invariant.link l.invariant.turns above
+    ∙ goes-on fuel links c.args.first l.node l.holds l.states (wakes_of l.slots) l.invariant.rest.1 l.link l.invariant.link l.invariant.turns above
     c.count_with-count.result (Ok c.gate_says-holds.result) below
     (omega arith) c.count_with-count.ensures c.gate_says-holds.ensures
     ∙ l.invariant.rest.2
@@ -169,18 +167,18 @@ up-preserved c =
     let fuel = l.invariant.rest.0 in
     let more = l.invariant.rest.1 in
     let told = told_in c.args.first l.node l.holds l.states in
-    let after = counting fuel links c.args.first l.node l.holds l.states l.wakes l.invariant.rest.1 l.link l.invariant.link l.invariant.turns above c.count_with-count.result in
+    let after = counting fuel links c.args.first l.node l.holds l.states (wakes_of l.slots) l.invariant.rest.1 l.link l.invariant.link l.invariant.turns above c.count_with-count.result in
     record {
       within = (let e : above < length links = omega arith in e);
       link = refl;
       turns = turns-by (state_at after (c.args.first + above)).told c.gate_says-holds.result false c.if-states-first-2.false;
       nodes = length-set told (c.args.first + above) (counted c.count_with-count.result (state_at told (c.args.first + above)))
           ∙ length-set l.states (c.args.first + l.node) (told_as l.holds (state_at l.states (c.args.first + l.node))) ∙ l.invariant.nodes;
-      slots = l.invariant.slots;
+      kept = l.invariant.kept;
       rest = (
         fuel - 1,
         (let e : above < fuel - 1 = omega arith in e),
-        goes-on fuel links c.args.first l.node l.holds l.states l.wakes l.invariant.rest.1 l.link l.invariant.link l.invariant.turns above
+        goes-on fuel links c.args.first l.node l.holds l.states (wakes_of l.slots) l.invariant.rest.1 l.link l.invariant.link l.invariant.turns above
             c.count_with-count.result (Ok c.gate_says-holds.result) below
             (omega arith) c.count_with-count.ensures c.gate_says-holds.ensures
             ∙ l.invariant.rest.2,

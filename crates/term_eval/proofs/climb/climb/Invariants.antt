@@ -1,4 +1,5 @@
 use Rattle.std.proofs.Common.{◌≡◌, ◌+◌, ◌<◌, ℕ, true, length}
+use Rattle.term_eval.specs.Slots.{wakes_of}
 use Rattle.term_eval.specs.Climb.{climb, link_at}
 use Rattle.term_eval.specs.NodeState.{state_at}
 use Rattle.term_eval.specs.Woken.{differ}
@@ -11,9 +12,9 @@ invariant-up l = record {
   link : l.link ≡ link_at l.links l.node;
   turns : differ (state_at l.states (l.first + l.node)).told l.holds ≡ true;
   nodes : length l.states ≡ length l.initial.states;
-  slots : length l.wakes ≡ length l.initial.wakes;
-  rest : (fuel : ℕ) × (l.node < fuel) × (climb fuel l.links l.first l.node l.holds l.states l.wakes
-      ≡ climb (l.fn.node + 1) l.links l.first l.fn.node l.fn.holds l.initial.states l.initial.wakes);
+  kept : l.slots ≡ l.initial.slots;
+  rest : (fuel : ℕ) × (l.node < fuel) × (climb fuel l.links l.first l.node l.holds l.states (wakes_of l.slots)
+      ≡ climb (l.fn.node + 1) l.links l.first l.fn.node l.fn.holds l.initial.states (wakes_of l.initial.slots));
 }
 
 abbrev pub decreases-up : goal.decreases-up

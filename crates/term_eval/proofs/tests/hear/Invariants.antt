@@ -3,6 +3,8 @@ use Rattle.term_eval.proofs.tests.hear.Given as goal
 
 abbrev pub invariant-loop-node : goal.invariant-loop-node
 invariant-loop-node l = record {
-  states : length l.nodes.states ≡ length l.fn.nodes.states;
-  wakes : length l.nodes.wakes ≡ length l.fn.nodes.wakes;
+  states : length l.cells.nodes.states ≡ length l.fn.cells.nodes.states;
+  wakes : length l.cells.nodes.wakes ≡ length l.fn.cells.nodes.wakes;
+  slots : l.cells.slots ≡ l.fn.cells.slots;
+  owners : l.cells.owners ≡ l.fn.cells.owners;
 }
