@@ -25,7 +25,7 @@ use Rattle.param_table.specs.Asked.{is_asked_at}
 use Rattle.param_table.specs.Rules.{RuleIs, slot_of}
 use Rattle.param_table.specs.Routes.{listener_of, IsListener, AreListeners, Tells, AreRouted}
 use Rattle.param_table.specs.HeldValues.{unused, at_start, given, renewed, held_for, received_at, all_fresh, hearers_of, delivered, says_same, keeps_saying, due_at}
-use Rattle.param_table.specs.HeldState.{CameTo, IsDue, Renews}
+use Rattle.param_table.specs.HeldState.{AreSummed, CameTo, IsDue, Renews}
 use Rattle.param_table.specs.TableState.{HeldFits}
 use Rattle.param_table.proofs.Masks.{reading-same, says-nothing}
 use Rattle.param_table.proofs.Listeners.{fresh_for}
@@ -111,7 +111,8 @@ module _ (b : Book) (routing : Routing) (clock m bits : ℕ) (old new : Held) (s
 
   module _ (written : new.mailboxes.items.items ≡ set boxes m (delivered clock bits before)) (same_room : room new.changed ≡ room old.changed)
       (marks : (p : ℕ) → is_marked new.changed p ≡ (list_any (λ (l : Listener). p == l.param && not (keeps_saying clock bits before l)) hearers || is_marked old.changed p))
-      (dues : new.dues ≡ cond (all_fresh clock before) old.dues (set old.dues m (clock + 1 + before.hearers.soonest))) where
+      (dues : new.dues ≡ cond (all_fresh clock before) old.dues (set old.dues m (clock + 1 + before.hearers.soonest)))
+      (summed : AreSummed old.changed old.busy → AreSummed new.changed new.busy) where
     abbrev now : ℕ → Mailbox
     now i = get_or new.mailboxes.items.items i unused
 
@@ -162,6 +163,7 @@ module _ (b : Book) (routing : Routing) (clock m bits : ℕ) (old new : Held) (s
       within = λ p past.
           delivered_others p (λ q r row is own. none-some r (sym (no_rule_past params rules routed.rules q p row past) ∙ is))
           ∙ fits.within p past;
+      busy = summed fits.busy;
       dues = ap length dues ∙ dues_long (all_fresh clock before) ∙ fits.dues ∙ sym boxes_long;
       early = λ i. elim (cases_eq i m) [
         | inl e ↦ subst (λ j. (now j).after ≤ clock + 1) (sym e) (omega (arith, ap (λ (b : Mailbox). b.after) now-own))

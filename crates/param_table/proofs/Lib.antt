@@ -12,6 +12,7 @@ pub mod NumberingSteps
 pub mod RoutingListeners
 pub mod RoutingTells
 pub mod Values
+pub mod Summed
 pub mod Steps
 pub mod Listeners
 pub mod Hearers

@@ -29,7 +29,7 @@ use Rattle.param_table.specs.Rules.{IsRule, AreRules, slot_of}
 use Rattle.param_table.specs.Asked.{is_asked_at}
 use Rattle.param_table.specs.Routes.{AreRouted}
 use Rattle.param_table.specs.HeldValues.{unused, at_start, given, renewed, held_for, received_at, mailbox_at, due_at, emptied, is_ending, set_back}
-use Rattle.param_table.specs.HeldState.{CopiedWords, IsDue, AreDue, Renews, WillLook}
+use Rattle.param_table.specs.HeldState.{AreSummed, CopiedWords, IsDue, AreDue, Renews, WillLook}
 use Rattle.param_table.specs.TableState.{SourceStands, ParamsFit, ParamsStand, IsStill, received_before, received_by}
 use Rattle.param_table.proofs.Chains.{is_past, past_fails}
 use Rattle.param_table.proofs.Sources.{not_even, takes_listens}
@@ -267,8 +267,8 @@ unheard_word b before after k w p on none stands = word_of_none b before after k
 
 -- the table fits when the clock is set back
 pub back_fits : (b : Book) (old new : Params) → old.clock ≡ 2 ^ 32 - 1 → new.clock ≡ 2 ^ 31 - 1 → new.routing ≡ old.routing → new.held.mailboxes.items.items ≡ map set_back old.held.mailboxes.items.items
-    → new.held.changed ≡ old.held.changed → length new.held.dues ≡ length old.held.dues → ParamsFit b old → ParamsFit b new
-back_fits b old new full half routing same marks dues fits = record {
+    → new.held.changed ≡ old.held.changed → new.held.busy ≡ old.held.busy → length new.held.dues ≡ length old.held.dues → ParamsFit b old → ParamsFit b new
+back_fits b old new full half routing same marks busy dues fits = record {
   sound = fits.sound;
   routed = subst (λ t. AreRouted b t new.held.mailboxes.items.items) (sym routing)
       (routed_same b old.routing old.held.mailboxes.items.items new.held.mailboxes.items.items (ap length same ∙ length-map old.held.mailboxes.items.items set_back)
@@ -276,6 +276,7 @@ back_fits b old new full half routing same marks dues fits = record {
   held = record {
     room = ap room marks ∙ fits.held.room;
     within = λ p past. ap (λ s. is_marked s p) marks ∙ fits.held.within p past;
+    busy = subst (AreSummed new.held.changed) (sym busy) (subst (λ s. AreSummed s old.held.busy) (sym marks) fits.held.busy);
     dues = dues ∙ fits.held.dues ∙ sym (ap length same ∙ length-map old.held.mailboxes.items.items set_back);
     early = λ m.
         let now : (get_or new.held.mailboxes.items.items m unused).after ≡ (get_or old.held.mailboxes.items.items m unused).after - 2 ^ 31 =
@@ -287,14 +288,15 @@ back_fits b old new full half routing same marks dues fits = record {
 -- the words and the moments of another table are taken over
 pub copied-fits : (b : Book) (was other new : Params) → ParamsFit b was → ParamsFit b other → new.routing ≡ was.routing → new.clock ≡ other.clock
     → CopiedWords was.held.mailboxes.items.items other.held.mailboxes.items.items new.held.mailboxes.items.items
-    → new.held.changed ≡ other.held.changed → new.held.dues ≡ other.held.dues → ParamsFit b new
-copied-fits b was other new fits also routing clock words changed dues = record {
+    → new.held.changed ≡ other.held.changed → new.held.busy ≡ other.held.busy → new.held.dues ≡ other.held.dues → ParamsFit b new
+copied-fits b was other new fits also routing clock words changed busy dues = record {
   sound = fits.sound;
   routed = subst (λ t. AreRouted b t new.held.mailboxes.items.items) (sym routing)
       (routed_same b was.routing was.held.mailboxes.items.items new.held.mailboxes.items.items words.count (λ m less. ap (λ (x : Mailbox). x.hearers) (words.each m less)) fits.routed);
   held = record {
     room = ap room changed ∙ also.held.room;
     within = λ p past. ap (λ s. is_marked s p) changed ∙ also.held.within p past;
+    busy = subst (AreSummed new.held.changed) (sym busy) (subst (λ s. AreSummed s other.held.busy) (sym changed) also.held.busy);
     dues = ap length dues ∙ also.held.dues ∙ also.routed.count ∙ sym fits.routed.count ∙ sym words.count;
     early = λ m. elim (cases_lt m (length was.held.mailboxes.items.items)) [
       | inl within ↦ omega (arith, ap (λ (x : Mailbox). x.after) (words.each m within), also.held.early m)
@@ -305,10 +307,10 @@ copied-fits b was other new fits also routing clock words changed dues = record 
 
 pub copied : (b : Book) (words : ℕ → List BusWord) (k : ℕ) (was other new : Params) → ParamsFit b was → new.routing ≡ was.routing → new.clock ≡ other.clock
     → CopiedWords was.held.mailboxes.items.items other.held.mailboxes.items.items new.held.mailboxes.items.items
-    → new.held.changed ≡ other.held.changed → new.held.dues ≡ other.held.dues
+    → new.held.changed ≡ other.held.changed → new.held.busy ≡ other.held.busy → new.held.dues ≡ other.held.dues
     → ParamsStand b words k other → ParamsStand b words k new
-copied b words k was other new fits routing clock copies changed dues stands = record {
-  fits = copied-fits b was other new fits stands.fits routing clock copies changed dues;
+copied b words k was other new fits routing clock copies changed busy dues stands = record {
+  fits = copied-fits b was other new fits stands.fits routing clock copies changed busy dues;
   sources = λ q s there. subst (λ x. SourceStands (parameter_with b.parameters q).stale s words k new.clock x) (sym (held q)) (rw clock (stands.sources q s there));
   before = λ q s there.
       ap (given (new.clock - 1) (parameter_with b.parameters q).kind s) (held_before q)
@@ -387,6 +389,7 @@ passed-fits b p fits = record {
   held = record {
     room = fits.held.room;
     within = fits.held.within;
+    busy = fits.held.busy;
     dues = fits.held.dues;
     early = λ m. omega (arith, fits.held.early m);
   };

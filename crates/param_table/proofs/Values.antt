@@ -133,8 +133,3 @@ module _ (b : Book) (words : ℕ → List BusWord) (k : ℕ) (t : Params) (p : �
 -- a parameter of a sound book has at most three sources
 pub few_sources : (b : Book) (p : ℕ) → All IsSoundParameter b.parameters → p < length b.parameters → length (parameter_at b p).sources ≤ 3
 few_sources b p sound within = (All-get_or IsSoundParameter b.parameters p no_parameter within sound).source_count
-
--- where no first number is found, none is marked
-pub none-found : (words : List ℕ) (found : Option ℕ) (none : Bool) → Finds words 0 found → is_some found ≡ not none → none ≡ true → (j : ℕ) → is_marked words j ≡ false
-none-found words None none finds is on j = finds j (omega arith)
-none-found words (Some p) none finds is on j = absurd (let w : ⊥ = (let clash : true ≡ false = is ∙ ap not on in cc) in w)

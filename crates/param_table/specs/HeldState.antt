@@ -1,5 +1,6 @@
 -- When each mailbox of a table is looked at, and what words leave.
-use Rattle.std.specs.Prelude.{◌≡◌, ◌≢◌, ℕ, ◌+◌, ◌/◌, ◌<◌, ◌≤◌, Bool, true, false, List, length, map, get_or, Option, Some, None, All}
+use Rattle.std.specs.Prelude.{◌≡◌, ◌≢◌, ℕ, ◌+◌, ◌/◌, ◌%◌, ◌<◌, ◌≤◌, Bool, true, false, List, length, map, get_or, Option, Some, None, All}
+use Rattle.std.specs.Int.{bit_at}
 use Rattle.ecam_spec.specs.Book.{Source, Parameter}
 use Rattle.wakes.specs.Marks.{is_marked}
 use Rattle.book_model.specs.SourcePlaces.{parameter_with, source_at}
@@ -20,6 +21,10 @@ pub record AreListed (listeners : List Listener) (param_count : ℕ) (m : Mailbo
   pub within : m.hearers.end ≤ length listeners
   pub params : All (λ (l : Listener). l.param < param_count) (hearers_of listeners m)
   pub soonest : All (λ (l : Listener). m.hearers.soonest ≤ l.stale) (hearers_of listeners m)
+
+-- each word with a marked parameter has its bit in the summary
+unfoldable pub AreSummed : List ℕ → ℕ → Type 0
+AreSummed marks busy = (p : ℕ) → is_marked marks p ≡ true → bit_at busy (p / 64 % 64) ≡ 1
 
 -- the words of other mailboxes were taken over
 pub record CopiedWords (old others new : List Mailbox) : Type 0 where

@@ -15,7 +15,7 @@ use Rattle.book_model.specs.SourcePlaces.{parameter_with, source_at}
 use Rattle.param_table.specs.Routes.{AreRouted}
 use Rattle.param_table.specs.Asked.{is_asked_at}
 use Rattle.param_table.specs.HeldValues.{given, received_at, due_at, at_start}
-use Rattle.param_table.specs.HeldState.{AreDue, AreEarly}
+use Rattle.param_table.specs.HeldState.{AreDue, AreEarly, AreSummed}
 use Rattle.param_table.specs.declared.received.Received.{Received}
 use Rattle.param_table.specs.declared.held.Held.{Held}
 use Rattle.param_table.specs.declared.table.Params.{Params}
@@ -48,11 +48,12 @@ pub record SourceStands (stale : ℕ) (s : Source) (words : ℕ → List BusWord
   pub says : clock < r.end → word_of s words k ≡ Some r.bits
   pub left : r.end - clock ≡ option_map_or (λ m. m + stale + 1 - k) (last (arrives s words) k) 0
 
--- There is room for each parameter, and nothing else is marked. There is a time at which each mailbox is looked at, and no
--- word came later than now.
+-- There is room for each parameter, nothing else is marked, and the summary tells which words have marks. There is a time at
+-- which each mailbox is looked at, and no word came later than now.
 pub record HeldFits (params : List Parameter) (clock : ℕ) (h : Held) : Type 0 where
   pub room : room h.changed ≡ 64 * (length params / 64 + 1)
   pub within : (p : ℕ) → length params ≤ p → is_marked h.changed p ≡ false
+  pub busy : AreSummed h.changed h.busy
   pub dues : length h.dues ≡ length h.mailboxes.items.items
   pub early : AreEarly clock h.mailboxes.items.items
 

@@ -5,7 +5,7 @@ ghost use Rattle.book_model.specs.Sealed.{the_book};
 ghost use Rattle.wakes.specs.Marks.{is_marked, room};
 ghost use Rattle.param_table.specs.Asked.{is_asked_at};
 ghost use Rattle.param_table.specs.HeldValues.{all_fresh, delivered, due_at, emptied, held_for, hearers_of, is_ending, keeps_saying, received_at, says_same, unused};
-ghost use Rattle.param_table.specs.HeldState.{AreDue, AreEarly, AreListed, CopiedWords, IsNextLook, WillLook};
+ghost use Rattle.param_table.specs.HeldState.{AreDue, AreEarly, AreListed, AreSummed, CopiedWords, IsNextLook, WillLook};
 ghost use Rattle.param_table.specs.Routes.{AreRouted};
 ghost use Rattle.param_table.specs.TableState.{HeldFits};
 
@@ -24,6 +24,8 @@ pub struct Held {
     pub mailboxes: BoxedSlice<Mailbox>,
     /// The parameters of which a listener's source gave something else since the moment before.
     pub changed: Marked,
+    /// Bit `w % 64` is set where a parameter of word w of `changed` is marked, and may be set where none is.
+    pub busy: u64,
     /// By mailbox when it is looked at: no later than when its word is no longer fresh for one for whom it is.
     pub dues: Wakes,
 }
@@ -51,6 +53,8 @@ impl Held {
             (hearers_of listeners.now
             (slice_index_or self.old.mailboxes.items.items mailbox unused))
             || is_marked self.old.changed p) }
+        ensures summed { AreSummed self.old.changed self.old.busy
+            → AreSummed self.new.changed self.new.busy }
         ensures dues { self.new.dues ≡ (if all_fresh clock
             (slice_index_or self.old.mailboxes.items.items mailbox unused)
             then self.old.dues
@@ -74,12 +78,25 @@ impl Held {
                 ..empty(hearers)
             };
             let listening = &listeners[hearers.first..hearers.end];
-            mark_begun(self.changed.words_mut(), listening, before, clock, bits);
+            mark_begun(
+                self.changed.words_mut(),
+                &mut self.busy,
+                listening,
+                before,
+                clock,
+                bits,
+            );
             let end = u64::from(clock) + 1 + u64::from(hearers.soonest);
             self.dues.set(mailbox, end);
         } else if was != bits {
             let listening = &listeners[hearers.first..hearers.end];
-            mark_turned(self.changed.words_mut(), listening, was, bits);
+            mark_turned(
+                self.changed.words_mut(),
+                &mut self.busy,
+                listening,
+                was,
+                bits,
+            );
         }
     }
 
@@ -88,6 +105,7 @@ impl Held {
         ensures mailboxes { self.new.mailboxes.items.items
             ≡ map emptied self.old.mailboxes.items.items }
         ensures changed { self.new.changed ≡ self.old.changed }
+        ensures busy { self.new.busy ≡ self.old.busy }
         ensures dues { self.new.dues ≡ self.old.dues }
     {
         for mailbox in self.mailboxes.iter_mut() {
@@ -101,6 +119,7 @@ impl Held {
         ensures mailboxes { CopiedWords self.old.mailboxes.items.items others.now
             self.new.mailboxes.items.items }
         ensures changed { self.new.changed ≡ self.old.changed }
+        ensures busy { self.new.busy ≡ self.old.busy }
         ensures dues { self.new.dues ≡ self.old.dues }
     {
         for i in 0..others.len() {
@@ -116,12 +135,26 @@ impl Held {
     /// each 64 parameters.
     #[inline(always)]
     pub fn forget_changes(&mut self)
+        requires { AreSummed self.old.changed self.old.busy }
         ensures mailboxes { self.new.mailboxes ≡ self.old.mailboxes }
         ensures room { room self.new.changed ≡ room self.old.changed }
         ensures dues { self.new.dues ≡ self.old.dues }
         ensures none { (p : ℕ) → is_marked self.new.changed p ≡ false }
+        ensures busy { self.new.busy ≡ 0 }
     {
-        self.changed.clear();
+        if self.busy != 0 {
+            self.changed.clear();
+            self.busy = 0;
+        }
+    }
+
+    /// Whether it is known that no parameter is marked. Its cost is one look.
+    #[inline(always)]
+    pub fn unmarked(&self) -> bool
+        requires { AreSummed self.now.changed self.now.busy }
+        ensures { result ≡ true → (p : ℕ) → is_marked self.now.changed p ≡ false }
+    {
+        self.busy == 0
     }
 
     /// Looks at the mailboxes whose words may end to be fresh for one who listens, and marks the parameters where one does.
@@ -151,6 +184,7 @@ impl Held {
             → is_ending clock (received_at routing.now.rules.items.items
             self.old.mailboxes.items.items q) ≡ false)
             → is_marked self.new.changed p ≡ false }
+        ensures summed { AreSummed self.new.changed self.new.busy }
     {
         while let Some(mailbox) = self.dues.take(u64::from(clock)) {
             self.look(&routing.listeners, clock, mailbox);
@@ -176,6 +210,8 @@ impl Held {
             (hearers_of listeners.now
             (slice_index_or self.old.mailboxes.items.items mailbox unused))
             || is_marked self.old.changed p) }
+        ensures summed { AreSummed self.old.changed self.old.busy
+            → AreSummed self.new.changed self.new.busy }
     {
         let looked = self.mailboxes[mailbox];
         if all_fresh(looked, clock) {
@@ -184,7 +220,13 @@ impl Held {
             return;
         }
         let hearers = &listeners[looked.hearers.first..looked.hearers.end];
-        let next = mark_ending(self.changed.words_mut(), hearers, looked, clock);
+        let next = mark_ending(
+            self.changed.words_mut(),
+            &mut self.busy,
+            hearers,
+            looked,
+            clock,
+        );
         self.dues.set(mailbox, next);
     }
 }
@@ -200,44 +242,72 @@ pub fn held_by(rule: &Rule, mailboxes: &[Mailbox], _clock: u32) -> Received
     held_for(mailboxes[usize::from(rule.mailbox)], rule.stale)
 }
 
+// Marks a parameter where `on` is set, and its word in the summary. Its cost is two writes, without a branch.
+#[inline(always)]
+fn mark_summed(changed: &mut [u64], busy: &mut u64, param: usize, on: bool)
+    requires { param < room changed.old }
+    ensures room { room changed.new ≡ room changed.old }
+    ensures marks { (p : ℕ) → is_marked changed.new p
+        ≡ ((p == param && on) || is_marked changed.old p) }
+    ensures summed { AreSummed changed.old busy.old → AreSummed changed.new busy.new }
+{
+    mark_in(changed, param, on);
+    *busy |= u64::from(on) << (param / 64 % 64);
+}
+
 // A word comes that differs from the one before, which is fresh: marks the parameters of those to whom it says something else.
-fn mark_turned(changed: &mut [u64], listeners: &[Listener], old: u32, new: u32)
+fn mark_turned(changed: &mut [u64], busy: &mut u64, listeners: &[Listener], old: u32, new: u32)
     requires { All (λ l. l.param < room changed.old) listeners.now }
     ensures room { room changed.new ≡ room changed.old }
     ensures marks { (p : ℕ) → is_marked changed.new p
         ≡ (list_any (λ l. p == l.param && not (says_same l old new)) listeners.now
         || is_marked changed.old p) }
+    ensures summed { AreSummed changed.old busy.old → AreSummed changed.new busy.new }
 {
     for i in 0..listeners.len() {
         let listener = listeners[i];
         let turns = !says_same(listener, old, new);
-        mark_in(changed, usize::from(listener.param), turns);
+        mark_summed(changed, busy, usize::from(listener.param), turns);
     }
 }
 
 // A word comes where the one before isn't fresh for all: marks the parameters of those for whom it isn't, and of those to
 // whom this one says something else.
 #[inline(never)]
-fn mark_begun(changed: &mut [u64], listeners: &[Listener], before: Mailbox, clock: u32, bits: u32)
+fn mark_begun(
+    changed: &mut [u64],
+    busy: &mut u64,
+    listeners: &[Listener],
+    before: Mailbox,
+    clock: u32,
+    bits: u32,
+)
     requires early { before.after ≤ 2 ^ 32 }
     requires params { All (λ l. l.param < room changed.old) listeners.now }
     ensures room { room changed.new ≡ room changed.old }
     ensures marks { (p : ℕ) → is_marked changed.new p
         ≡ (list_any (λ l. p == l.param && not (keeps_saying clock bits before l)) listeners.now
         || is_marked changed.old p) }
+    ensures summed { AreSummed changed.old busy.old → AreSummed changed.new busy.new }
 {
     for i in 0..listeners.len() {
         let listener = listeners[i];
         let fresh = is_fresh(held_for(before, listener.stale), clock);
         let same = fresh & says_same(listener, before.bits, bits);
-        mark_in(changed, usize::from(listener.param), !same);
+        mark_summed(changed, busy, usize::from(listener.param), !same);
     }
 }
 
 // Marks the parameters of those for whom the word ends to be fresh with this moment, and answers when the mailbox is looked at
 // next: when the word is no longer fresh for the first of those for whom it still is.
 #[inline(never)]
-fn mark_ending(changed: &mut [u64], listeners: &[Listener], mailbox: Mailbox, clock: u32) -> u64
+fn mark_ending(
+    changed: &mut [u64],
+    busy: &mut u64,
+    listeners: &[Listener],
+    mailbox: Mailbox,
+    clock: u32,
+) -> u64
     requires early { mailbox.after ≤ 2 ^ 32 }
     requires params { All (λ l. l.param < room changed.old) listeners.now }
     ensures next { IsNextLook clock mailbox listeners.now result }
@@ -245,13 +315,14 @@ fn mark_ending(changed: &mut [u64], listeners: &[Listener], mailbox: Mailbox, cl
     ensures marks { (p : ℕ) → is_marked changed.new p ≡ (list_any (λ l. p == l.param
         && is_ending clock (held_for mailbox l.stale)) listeners.now
         || is_marked changed.old p) }
+    ensures summed { AreSummed changed.old busy.old → AreSummed changed.new busy.new }
 {
     let mut next = NEVER;
     for i in 0..listeners.len() {
         let listener = listeners[i];
         let received = held_for(mailbox, listener.stale);
         let ends = is_ending(received, clock);
-        mark_in(changed, usize::from(listener.param), ends);
+        mark_summed(changed, busy, usize::from(listener.param), ends);
         next = next.min(next_look(received, clock));
     }
     next

@@ -27,7 +27,7 @@ use arinc_words::Word;
 use book_model::Book;
 use std::alloc::{AllocError, Global};
 use std::boxed::BoxedSlice;
-use wakes::{Marked, Wakes};
+use wakes::{Marked, Wakes, bits_from, lowest};
 use watch_lists::Watch;
 
 /// What the words say that the sources of a book's parameters took last, now and in the last whole moment, how long they are
@@ -110,6 +110,7 @@ impl Params {
             held: Held {
                 mailboxes,
                 changed,
+                busy: 0,
                 dues,
             },
             routing,
@@ -129,6 +130,7 @@ impl Params {
         self.clock = 0;
         self.held.forget_words();
         self.held.changed.clear();
+        self.held.busy = 0;
         self.held.dues.clear();
     }
 
@@ -144,6 +146,7 @@ impl Params {
         self.clock = other.clock;
         self.held.copy_words(&other.held.mailboxes);
         self.held.changed.copy_from(&other.held.changed);
+        self.held.busy = other.held.busy;
         self.held.dues.copy_from(&other.held.dues);
     }
 
@@ -195,7 +198,7 @@ impl Params {
 
     /// The moment ends. What is fresh is told by the clock, so that a Tick costs a look at the mailboxes whose words may end to
     /// be fresh for one who listens, and one at each of its listeners where one does; one at each other mailbox in 63 moments;
-    /// and a write for each 64 parameters; but the first and one in 2^31 cost a few writes a mailbox.
+    /// and, where a parameter was marked, a write for each 64; but the first and one in 2^31 cost a few writes a mailbox.
     #[inline(always)]
     pub fn tick(&mut self, _book: &Book)
         requires { ParamsFit (the_book _book.now) self.old }
@@ -215,8 +218,7 @@ impl Params {
 
     /// Whether it is known that the end of the moment changes nothing but the clock: no parameter that the book asks for may
     /// have another value than in the moment before, and no word of a source of one may end to be fresh with this one. Its
-    /// cost is three looks, and at most one more for each 64 parameters; where mailboxes wait for the moment, also one for
-    /// each 64 and one at each that waits.
+    /// cost is three looks; where mailboxes wait for the moment, also one for each 64 and one at each that waits.
     #[inline(always)]
     pub fn is_still(&self, _book: &Book) -> bool
         requires { ParamsFit (the_book _book.now) self.now }
@@ -230,7 +232,7 @@ impl Params {
     {
         self.clock != u32::MAX
             && self.held.dues.first(u64::from(self.clock) + 1).is_none()
-            && self.held.changed.first_from(0).is_none()
+            && self.held.unmarked()
     }
 
     /// The moment ends like by `tick`, where nothing but the clock changes. Its cost is two writes; where mailboxes wait for
@@ -275,7 +277,7 @@ impl Params {
     }
 
     /// Whether it is known that no parameter that the book asks for has another value than in the moment before. Its cost is
-    /// at most one look for each 64 parameters.
+    /// one look.
     pub fn none_changed(&self, _book: &Book) -> bool
         requires { ParamsFit (the_book _book.now) self.now }
         ensures { result ≡ true → (words : ℕ → List BusWord) (k : ℕ)
@@ -285,7 +287,7 @@ impl Params {
             → value (parameter_at (the_book _book.now) p) words k
             ≡ value_before (parameter_at (the_book _book.now) p) words k }
     {
-        self.held.changed.first_from(0).is_none()
+        self.held.unmarked()
     }
 
     /// The 64 parameters from 64 · `place` on, one bit each. It is set of each that the book asks for and may have another
@@ -312,27 +314,30 @@ impl Params {
         self.held.changed.word(place)
     }
 
-    /// The place of the first word of `changed_word` from `from` on that has a bit set, or, where none has, the number of words
-    /// or `from`, whichever is more. Of the parameters that are passed over none that the book asks for has another value than
-    /// in the moment before. Its cost is one look for each word up to it.
+    /// The place of the first word of `changed_word` from `from` on that has a bit set, or 64 where none of the first 64 words
+    /// has, which are more than a book has parameters for. From 64 on it passes over none. Of the parameters that are passed
+    /// over none that the book asks for has another value than in the moment before. Its cost is one look, however many words
+    /// are passed over.
     #[inline(always)]
-    pub fn next_changed_word(&self, book: &Book, from: usize) -> usize
-        requires fits { ParamsFit (the_book book.now) self.now }
+    pub fn next_changed_word(&self, _book: &Book, from: usize) -> usize
+        requires fits { ParamsFit (the_book _book.now) self.now }
         ensures from { from ≤ result }
         ensures same { (words : ℕ → List BusWord) (k : ℕ)
-            → ParamsStand (the_book book.now) words k self.now
+            → ParamsStand (the_book _book.now) words k self.now
             → (p : ℕ) → 64 * from ≤ p → p < 64 * result
-            → p < length (the_book book.now).parameters
-            → is_asked_for (the_book book.now) p ≡ true
-            → value (parameter_at (the_book book.now) p) words k
-            ≡ value_before (parameter_at (the_book book.now) p) words k }
+            → p < length (the_book _book.now).parameters
+            → is_asked_for (the_book _book.now) p ≡ true
+            → value (parameter_at (the_book _book.now) p) words k
+            ≡ value_before (parameter_at (the_book _book.now) p) words k }
     {
-        let words = book.params().len().div_ceil(64);
-        let mut place = from;
-        while place < words && self.held.changed.word(place) == 0 {
-            place += 1;
+        if from >= 64 {
+            return from;
         }
-        place
+        let later = bits_from(self.held.busy, from);
+        if later == 0 {
+            return 64;
+        }
+        from + lowest(later)
     }
 
     /// The parameters that the book asks for and that may have another value than in the moment before. Of what the book
@@ -438,6 +443,7 @@ impl Params {
         ensures clock { self.new.clock ≡ 2 ^ 31 - 1 }
         ensures routing { self.new.routing ≡ self.old.routing }
         ensures changed { self.new.held.changed ≡ self.old.held.changed }
+        ensures busy { self.new.held.busy ≡ self.old.held.busy }
         ensures mailboxes { self.new.held.mailboxes.items.items
             ≡ map set_back self.old.held.mailboxes.items.items }
         ensures count { length self.new.held.dues ≡ length self.old.held.dues }

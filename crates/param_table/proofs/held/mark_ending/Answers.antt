@@ -22,11 +22,12 @@ loop-i-preserved c =
     let ends : c.is_ending-ends.result ≡ is_ending clock held = c.is_ending-ends.ensures ∙ ap (is_ending clock) c.held_for-received.ensures in
     let next : c.next_look.result ≡ next_look clock held = c.next_look.ensures ∙ ap (next_look clock) c.held_for-received.ensures in
     record {
-      room = c.mark_in.ensures.room ∙ c.loop-i.invariant.room;
+      room = c.mark_summed.ensures.room ∙ c.loop-i.invariant.room;
       marks = λ p.
-          c.mark_in.ensures.marks p
+          c.mark_summed.ensures.marks p
           ∙ any_marked (λ (x : Listener). p == x.param && is_ending clock (held_for c.args.mailbox x.stale)) ls i none (p == c.from.result && c.is_ending-ends.result) (is_marked c.loop-i.changed p) (is_marked c.args.changed.now p) less
           (ap (λ n. p == n && c.is_ending-ends.result) c.from.ensures ∙ ap (λ b. p == l.param && b) ends) (c.loop-i.invariant.marks p);
+      summed = λ was. c.mark_summed.ensures.summed (c.loop-i.invariant.summed was);
       later = omega (arith, c.loop-i.invariant.later, next, next_later clock held c.ranges.clock.fits, c.min-next.ensures);
       due = λ k d below fresh. elim (cases_lt k i) [
         | inl before ↦ omega (arith, c.loop-i.invariant.due k d before fresh, c.min-next.ensures)

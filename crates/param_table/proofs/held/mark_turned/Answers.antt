@@ -14,9 +14,10 @@ loop-i-preserved c =
     let i = c.loop-i.i in
     let less : i < length ls = omega arith in
     record {
-      room = c.mark_in.ensures.room ∙ c.loop-i.invariant.room;
+      room = c.mark_summed.ensures.room ∙ c.loop-i.invariant.room;
       marks = λ p.
-          c.mark_in.ensures.marks p
+          c.mark_summed.ensures.marks p
           ∙ any_marked (λ (x : Listener). p == x.param && not (says_same x c.args.old c.args.new)) ls i none (p == c.from.result && not c.says_same-turns.result) (is_marked c.loop-i.changed p) (is_marked c.args.changed.now p) less
           (ap (λ n. p == n && not c.says_same-turns.result) c.from.ensures ∙ ap (λ b. p == (get_or ls i none).param && not b) c.says_same-turns.ensures) (c.loop-i.invariant.marks p);
+      summed = λ was. c.mark_summed.ensures.summed (c.loop-i.invariant.summed was);
     }

@@ -37,17 +37,17 @@ module _ (c : After-deliver) where
 pub returns-then-mailbox-ne0-clause-fits : goal.returns-then-mailbox-ne0-clause-fits
 returns-then-mailbox-ne0-clause-fits c =
     delivered_fits (book c) c.args.routing.now c.args.clock c.args.mailbox c.args.bits c.args.held.now c.deliver.new.self c.requires.sound c.requires.routed c.requires.fits c.requires.mailbox
-    c.deliver.ensures.mailboxes c.deliver.ensures.room (marks c) c.deliver.ensures.dues
+    c.deliver.ensures.mailboxes c.deliver.ensures.room (marks c) c.deliver.ensures.dues c.deliver.ensures.summed
 
 pub returns-then-mailbox-ne0-clause-renews : goal.returns-then-mailbox-ne0-clause-renews
 returns-then-mailbox-ne0-clause-renews c =
     delivered_renews (book c) c.args.routing.now c.args.clock c.args.mailbox c.args.bits c.args.held.now c.deliver.new.self c.requires.sound c.requires.routed c.requires.fits c.requires.mailbox
-    c.deliver.ensures.mailboxes c.deliver.ensures.room (marks c) c.deliver.ensures.dues
+    c.deliver.ensures.mailboxes c.deliver.ensures.room (marks c) c.deliver.ensures.dues c.deliver.ensures.summed
 
 pub returns-then-mailbox-ne0-clause-came : goal.returns-then-mailbox-ne0-clause-came
 returns-then-mailbox-ne0-clause-came c =
     delivered_came (book c) c.args.routing.now c.args.clock c.args.mailbox c.args.bits c.args.held.now c.deliver.new.self c.requires.sound c.requires.routed c.requires.fits c.requires.mailbox
-    c.deliver.ensures.mailboxes c.deliver.ensures.room (marks c) c.deliver.ensures.dues
+    c.deliver.ensures.mailboxes c.deliver.ensures.room (marks c) c.deliver.ensures.dues c.deliver.ensures.summed
 
 pub returns-else-mailbox-ne0-clause-came : goal.returns-else-mailbox-ne0-clause-came
 returns-else-mailbox-ne0-clause-came c =

@@ -9,5 +9,6 @@ invariant-loop-i l = record {
       ≡ record (get_or l.others m unused) { hearers = (get_or l.initial.self.mailboxes.items.items m unused).hearers };
   left : (m : ℕ) → l.i ≤ m → get_or l.self.mailboxes.items.items m unused ≡ get_or l.initial.self.mailboxes.items.items m unused;
   changed : l.self.changed ≡ l.initial.self.changed;
+  busy : l.self.busy ≡ l.initial.self.busy;
   dues : l.self.dues ≡ l.initial.self.dues;
 }

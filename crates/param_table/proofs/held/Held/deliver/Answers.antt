@@ -8,7 +8,28 @@ use Rattle.param_table.specs.declared.mailbox.Listener.{Listener}
 use Rattle.param_table.specs.declared.mailbox.Mailbox.{Mailbox}
 use Rattle.param_table.specs.HeldValues.{all_fresh, held_for, hearers_of, keeps_saying, says_same, unused}
 use Rattle.param_table.proofs.Listeners.{fresh_marks, same_marks}
+use Rattle.param_table.proofs.Summed.{back-summed}
 use Rattle.param_table.proofs.held.Held.deliver.Goals as goal
+
+pub returns-then-from-end_for-clause-marks : goal.returns-then-from-end_for-clause-marks
+returns-then-from-end_for-clause-marks c = λ p.
+    let boxes = c.args.self.now.mailboxes.items.items in
+    let ls = c.args.listeners.now in
+    let m = get_or boxes c.args.mailbox unused in
+    let bits = c.args.bits in
+    let before = c.index_mut-now.result.now in
+    let is : before ≡ m = c.index_mut-now.ensures.value ∙ get_or_default boxes c.args.mailbox before unused c.requires.mailbox in
+    ap (λ ws. is_marked ws p) (come_back c.args.self.now.changed c.mark_begun.new.changed (c.mark_begun.ensures.room ∙ ap room c.words_mut.ensures.value))
+    ∙ subst (λ (b : Mailbox). is_marked c.mark_begun.new.changed p ≡ (list_any (λ (l : Listener). p == l.param && not (keeps_saying c.args.clock bits b l)) (hearers_of ls b) || is_marked c.words_mut.result.now p)) is (c.mark_begun.ensures.marks p)
+    ∙ ap (λ ws. list_any (λ (l : Listener). p == l.param && not (keeps_saying c.args.clock bits m l)) (hearers_of ls m) || is_marked ws p) c.words_mut.ensures.value
+
+pub returns-then-from-end_for-clause-summed : goal.returns-then-from-end_for-clause-summed
+returns-then-from-end_for-clause-summed c =
+    back-summed c.args.self.now.changed c.words_mut.result.now c.mark_begun.new.changed c.args.self.now.busy c.mark_begun.new.busy c.words_mut.ensures.value c.mark_begun.ensures.room c.mark_begun.ensures.summed
+
+pub returns-then-was-bits-clause-summed : goal.returns-then-was-bits-clause-summed
+returns-then-was-bits-clause-summed c =
+    back-summed c.args.self.now.changed c.words_mut-then-was-bits.result.now c.mark_turned.new.changed c.args.self.now.busy c.mark_turned.new.busy c.words_mut-then-was-bits.ensures.value c.mark_turned.ensures.room c.mark_turned.ensures.summed
 
 pub returns-then-was-bits-clause-marks : goal.returns-then-was-bits-clause-marks
 returns-then-was-bits-clause-marks c = λ p.

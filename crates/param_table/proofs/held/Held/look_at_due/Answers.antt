@@ -97,6 +97,7 @@ loop-mailbox-preserved c =
     record {
       mailboxes = c.look.ensures.mailboxes ∙ inv.mailboxes;
       room = c.look.ensures.room ∙ inv.room;
+      summed = c.look.ensures.summed inv.summed;
       count = ap length (put c) ∙ length-set (dues c) (m c) (due c) ∙ inv.count;
       due = λ will. subst (λ ds. AreDue (is_asked_at (book (d c))) c.args.clock x (due_at (rules c) ds)) (sym (put c))
           (looked_due (book (d c)) c.args.routing.now (boxes (d c)) (m c) c.requires.routed (within (d c)) c.args.clock c.requires.later (dues c) there (due c) (next c) (inv.due will));
@@ -105,6 +106,9 @@ loop-mailbox-preserved c =
       others = λ p off none.
           looked_others (book (d c)) c.args.routing.now (boxes (d c)) (m c) c.requires.routed (within (d c)) c.args.clock c.requires.later (dues c) there (due c) (next c) old new (marks c) p (inv.others p off none) none;
     }
+
+pub returns-clause-summed : goal.returns-clause-summed
+returns-clause-summed c = c.loop-mailbox.invariant.summed
 
 pub returns-clause-marks : goal.returns-clause-marks
 returns-clause-marks c = λ will q asked off.

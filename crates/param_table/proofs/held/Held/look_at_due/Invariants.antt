@@ -3,7 +3,7 @@ use Rattle.wakes.specs.Marks.{is_marked, room}
 use Rattle.book_model.specs.Sealed.{the_book}
 use Rattle.param_table.specs.Asked.{is_asked_at}
 use Rattle.param_table.specs.HeldValues.{due_at, is_ending, received_at}
-use Rattle.param_table.specs.HeldState.{AreDue, WillLook}
+use Rattle.param_table.specs.HeldState.{AreDue, AreSummed, WillLook}
 use Rattle.param_table.proofs.Steps.{come_by}
 use Rattle.param_table.proofs.held.Held.look_at_due.Given as goal
 
@@ -15,6 +15,7 @@ invariant-loop-mailbox l =
     record {
       mailboxes : l.self.mailboxes ≡ l.initial.self.mailboxes;
       room : room l.self.changed ≡ room l.initial.self.changed;
+      summed : AreSummed l.self.changed l.self.busy;
       count : length l.self.dues ≡ length l.initial.self.dues;
       due : WillLook is_asked l.clock x (due_at rules l.initial.self.dues) → AreDue is_asked l.clock x (due_at rules l.self.dues);
       ending : WillLook is_asked l.clock x (due_at rules l.initial.self.dues) → (q : ℕ) → is_asked q ≡ true → is_marked l.self.changed (q / 3) ≡ false

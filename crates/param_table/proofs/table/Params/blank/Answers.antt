@@ -8,6 +8,7 @@ use Rattle.book_model.proofs.BookLimits.{sizes}
 use Rattle.param_table.specs.declared.table.Params.{Params}
 use Rattle.param_table.specs.TableState.{ParamsFit}
 use Rattle.param_table.proofs.Numbers.{openers-few}
+use Rattle.param_table.proofs.Summed.{unmarked-summed}
 use Rattle.param_table.proofs.Tables.{book_sound}
 use Rattle.param_table.proofs.table.Params.blank.Goals as goal
 use Rattle.param_table.proofs.table.Params.blank.Goals.{After-clear}
@@ -30,7 +31,7 @@ many c =
 held : After-clear → Params
 held c = record {
   clock = c.args.clock;
-  held = record { mailboxes = c.args.mailboxes; changed = c.in_ok-changed.changed; dues = c.in_ok-dues.dues };
+  held = record { mailboxes = c.args.mailboxes; changed = c.in_ok-changed.changed; busy = 0; dues = c.in_ok-dues.dues };
   routing = c.args.routing;
 }
 
@@ -42,6 +43,7 @@ fits c = record {
   held = record {
     room = c.in_ok-changed.ensures.size ∙ ap (λ n. 64 * (n / 64 + 1)) (many c);
     within = λ p past. c.in_ok-changed.ensures.none p;
+    busy = unmarked-summed c.in_ok-changed.changed 0 c.in_ok-changed.ensures.none;
     dues = ap length c.in_ok-dues.ensures ∙ length-replicate c.len.result never ∙ (let count : c.len.result ≡ length c.args.mailboxes.items.items = omega (arith, c.len.ensures) in count);
     early = c.requires.early;
   };

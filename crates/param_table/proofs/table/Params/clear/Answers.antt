@@ -7,6 +7,7 @@ use Rattle.param_table.specs.declared.table.Params.{Params}
 use Rattle.param_table.specs.HeldValues.{emptied, unused}
 use Rattle.param_table.specs.TableState.{ParamsFit}
 use Rattle.param_table.proofs.Delivery.{routed_same}
+use Rattle.param_table.proofs.Summed.{unmarked-summed}
 use Rattle.param_table.proofs.Tables.{start, get_or-emptied}
 use Rattle.param_table.proofs.table.Params.clear.Goals as goal
 use Rattle.param_table.proofs.table.Params.clear.Goals.{After-clear-2}
@@ -14,7 +15,7 @@ use Rattle.param_table.proofs.table.Params.clear.Goals.{After-clear-2}
 abbrev cleared : After-clear-2 → Params
 cleared c = record {
   clock = 0;
-  held = record { mailboxes = c.forget_words.new.self.mailboxes; changed = c.clear.new.self; dues = c.clear-2.new.self };
+  held = record { mailboxes = c.forget_words.new.self.mailboxes; changed = c.clear.new.self; busy = 0; dues = c.clear-2.new.self };
   routing = c.args.self.now.routing;
 }
 
@@ -32,6 +33,7 @@ kept c b fits = record {
   held = record {
     room = c.clear.ensures.room ∙ ap room c.forget_words.ensures.changed ∙ fits.held.room;
     within = λ p past. c.clear.ensures.none p;
+    busy = unmarked-summed c.clear.new.self 0 c.clear.ensures.none;
     dues = ap length c.clear-2.ensures ∙ length-replicate _ _ ∙ ap length c.forget_words.ensures.dues ∙ fits.held.dues ∙ sym (many c);
     early = λ m. omega (arith, ap (λ (x : Mailbox). x.after) (empty c m));
   };

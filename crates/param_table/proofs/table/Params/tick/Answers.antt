@@ -7,54 +7,60 @@ use Rattle.param_table.specs.declared.held.Held.{Held}
 use Rattle.param_table.specs.declared.routing.Routing.{Routing}
 use Rattle.param_table.specs.declared.table.Params.{Params}
 use Rattle.param_table.specs.HeldValues.{due_at, is_ending, received_at, unused}
-use Rattle.param_table.specs.HeldState.{IsDue, WillLook}
+use Rattle.param_table.specs.HeldState.{AreSummed, IsDue, WillLook}
 use Rattle.param_table.specs.Asked.{is_asked_at}
 use Rattle.param_table.specs.Routes.{AreRouted}
 use Rattle.param_table.specs.TableState.{HeldFits, ParamsFit, ParamsStand, received_by}
 use Rattle.param_table.proofs.ByRule.{by_none, no_rule_past}
+use Rattle.param_table.proofs.Summed.{unmarked-summed}
 use Rattle.param_table.proofs.Tables.{WordsStand, moment, clock_back, back_fits, will_look, words_stand}
 use Rattle.param_table.proofs.table.Params.tick.Goals as goal
-use Rattle.param_table.proofs.table.Params.tick.Goals.{After-forget_changes, After-look_at_due, then-self, else-self}
+use Rattle.param_table.proofs.table.Params.tick.Goals.{After-forget_changes-arg-1, After-look_at_due, then-self, else-self}
 
 -- the table by a routing, holding this when the clock shows that
 abbrev holding : ℕ → Held → Routing → Params
 holding clock held routing = record { clock = clock; held = held; routing = routing }
 
 -- the table fits once the clock is set back, where it has to be
-mid_fits : (c : After-forget_changes) → ParamsFit (the_book c.args._book.now) c.if-self.self
+mid_fits : (c : After-forget_changes-arg-1) → ParamsFit (the_book c.args._book.now) c.if-self.self
 mid_fits c = elim c.if-self.branch [
   | then-self w ↦
       let set = w.set_clock_back.new.self in
       let was = w.set_clock_back.ensures in
       subst (ParamsFit (the_book c.args._book.now)) (sym w.self-is)
-      (back_fits (the_book c.args._book.now) c.args.self.now set w.if-self.true was.clock was.routing was.mailboxes was.changed was.count c.requires)
+      (back_fits (the_book c.args._book.now) c.args.self.now set w.if-self.true was.clock was.routing was.mailboxes was.changed was.busy was.count c.requires)
   | else-self w ↦ subst (ParamsFit (the_book c.args._book.now)) (sym w.self-is) c.requires
 ]
 
 -- a moment later it still does, where the mailboxes are the same and as many are looked at
 later_fits : (params : List Parameter) (clock : ℕ) (old new : Held) → HeldFits params clock old → new.mailboxes ≡ old.mailboxes → room new.changed ≡ room old.changed
-    → length new.dues ≡ length old.dues → ((p : ℕ) → length params ≤ p → is_marked new.changed p ≡ false) → HeldFits params (clock + 1) new
-later_fits params clock old new fits same marks dues within = record {
+    → length new.dues ≡ length old.dues → ((p : ℕ) → length params ≤ p → is_marked new.changed p ≡ false) → AreSummed new.changed new.busy → HeldFits params (clock + 1) new
+later_fits params clock old new fits same marks dues within summed = record {
   room = marks ∙ fits.room;
   within = within;
+  busy = summed;
   dues = dues ∙ fits.dues ∙ sym (ap (λ v. length v.items.items) same);
   early = λ m. omega (arith, ap (λ v. (get_or v.items.items m unused).after) same, fits.early m);
 }
 
+pub forget_changes-requires : goal.forget_changes-requires
+forget_changes-requires c = (mid_fits c).held.busy
+
 pub look_at_due-requires-clause-routed : goal.look_at_due-requires-clause-routed
 look_at_due-requires-clause-routed c =
     subst (λ r. AreRouted (the_book c.args._book.now) r c.forget_changes.new.self.mailboxes.items.items) (sym c.table.ensures)
-    (subst (λ v. AreRouted (the_book c.args._book.now) c.if-self.self.routing v.items.items) (sym c.forget_changes.ensures.mailboxes) (mid_fits c.before.before.before).routed)
+    (subst (λ v. AreRouted (the_book c.args._book.now) c.if-self.self.routing v.items.items) (sym c.forget_changes.ensures.mailboxes) (mid_fits c.before.before.before.before).routed)
 
 pub look_at_due-requires-clause-fits : goal.look_at_due-requires-clause-fits
 look_at_due-requires-clause-fits c =
-    later_fits (the_book c.args._book.now).parameters c.if-self.self.clock c.if-self.self.held c.forget_changes.new.self (mid_fits c.before.before.before).held
+    later_fits (the_book c.args._book.now).parameters c.if-self.self.clock c.if-self.self.held c.forget_changes.new.self (mid_fits c.before.before.before.before).held
     c.forget_changes.ensures.mailboxes c.forget_changes.ensures.room (ap length c.forget_changes.ensures.dues) (λ p past. c.forget_changes.ensures.none p)
+    (unmarked-summed c.forget_changes.new.self.changed c.forget_changes.new.self.busy c.forget_changes.ensures.none)
 
 fits_after : (c : After-look_at_due)
     → ParamsFit (the_book c.args._book.now) (record { clock = c.if-self.self.clock + 1; held = c.look_at_due.new.self; routing = c.if-self.self.routing })
 fits_after c =
-    let fits = mid_fits c.before.before.before.before in
+    let fits = mid_fits c.before.before.before.before.before in
     let same = c.look_at_due.ensures.mailboxes ∙ c.forget_changes.ensures.mailboxes in
     record {
       sound = fits.sound;
@@ -64,7 +70,8 @@ fits_after c =
           (λ p past. c.look_at_due.ensures.others p (c.forget_changes.ensures.none p) (λ q row.
           ap (is_ending (c.if-self.self.clock + 1)) (by_none c.table.result.now.rules.items.items c.forget_changes.new.self.mailboxes.items.items q
           (ap (λ (r : Routing). get_or r.rules.items.items q None) c.table.ensures ∙ no_rule_past (the_book c.args._book.now).parameters c.if-self.self.routing.rules.items.items fits.routed.rules q p row past))
-          ∙ ne_eqb 0 (c.if-self.self.clock + 1) (λ e. absurd (omega (arith, e)))));
+          ∙ ne_eqb 0 (c.if-self.self.clock + 1) (λ e. absurd (omega (arith, e)))))
+          c.look_at_due.ensures.summed;
     }
 
 pub returns-clause-fits : goal.returns-clause-fits
@@ -80,7 +87,7 @@ returns-clause-stands c = λ words k none stands.
           let set = w.set_clock_back.new.self in
           let was = w.set_clock_back.ensures in
           subst (WordsStand b words k) (sym w.self-is)
-          (clock_back b words k c.args.self.now set (back_fits b c.args.self.now set w.if-self.true was.clock was.routing was.mailboxes was.changed was.count c.requires)
+          (clock_back b words k c.args.self.now set (back_fits b c.args.self.now set w.if-self.true was.clock was.routing was.mailboxes was.changed was.busy was.count c.requires)
           w.if-self.true was.clock was.routing was.mailboxes was.soon stands)
       | else-self w ↦ subst (WordsStand b words k) (sym w.self-is) (words_stand b words k c.args.self.now stands)
     ] in
