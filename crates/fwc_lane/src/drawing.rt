@@ -26,37 +26,31 @@ fn forget(_rows: &[Row], changed: &mut [bool])
 }
 
 /// Mends the picture so that it shows the moment, tells in `changed` exactly the rows that differ from what they were, and
-/// answers what FL tells of. A zone of which nothing turned costs nothing; no picture is made on the way, and of a status
-/// page that isn't shown no row is made or counted.
+/// notes what FL tells of. A zone of which nothing turned costs nothing; no picture is made on the way, and of a status page
+/// that isn't shown no row is made or counted.
 pub fn draw(
     book: &Book,
     scene: &Scene<'_>,
     turned: Turned,
-    was: FlagCounts,
+    counts: &mut FlagCounts,
     picture: &mut Picture,
     changed: &mut [bool; ROWS],
-) -> FlagCounts
+)
     requires { SceneFits (the_book book.now) scene.now }
     ensures drawn { (m : ℕ → Moment) (k : ℕ) → SceneStands (the_book book.now) m k scene.now
         → AreTurned (the_book book.now) m k turned
-        → IsDrawn (the_book book.now) m k (picture_of picture.old) was
-        → IsDrawn (the_book book.now) m (suc k) (picture_of picture.new) result }
+        → IsDrawn (the_book book.now) m k (picture_of picture.old) counts.old
+        → IsDrawn (the_book book.now) m (suc k) (picture_of picture.new) counts.new }
     ensures changed { (m : ℕ → Moment) (k : ℕ) → SceneStands (the_book book.now) m k scene.now
         → AreTurned (the_book book.now) m k turned
-        → IsDrawn (the_book book.now) m k (picture_of picture.old) was
+        → IsDrawn (the_book book.now) m k (picture_of picture.old) counts.old
         → TellsRows (picture_in (the_book book.now) m) (suc k) changed.new }
 {
     forget(&picture.rows, changed);
-    let left = draw_left(book, scene, turned, was.left, picture, changed);
-    let right = draw_right(book, scene, turned, was.right, picture, changed);
-    let status = has_status(book, scene, turned, was.status);
-    let counts = FlagCounts {
-        left,
-        right,
-        status,
-    };
-    draw_flags(turned.first, was, counts, picture, changed);
+    let left = draw_left(book, scene, turned, counts.left, picture, changed);
+    let right = draw_right(book, scene, turned, counts.right, picture, changed);
+    let status = has_status(book, scene, turned, counts.status);
+    draw_flags(turned.first, left, right, status, counts, picture, changed);
     draw_display(book, scene, turned, picture, changed);
     draw_lamps(scene, turned.first, picture, changed);
-    counts
 }

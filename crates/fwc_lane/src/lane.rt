@@ -479,18 +479,18 @@ impl Lane {
             attention: &self.attention,
             selector: &self.selector,
         };
-        self.counts = draw(
+        draw(
             book,
             &scene,
             turned,
-            self.counts,
+            &mut self.counts,
             &mut self.picture,
             &mut self.changed,
         );
         self.phase = stepped.phase;
         self.ticked = true;
         self.moments += 1;
-        self.terms.keys.copy_from(&self.keys);
+        self.terms.keys.follow(&self.keys);
         self.terms.one_up = one_up;
         self.terms.two_up = two_up;
         self.params.tick(book);

@@ -8,6 +8,7 @@
 //! that is asked for may be another, no condition is due, the crew does nothing and the phase stays.
 #![tactic(auto)]
 
+mod alert_turn;
 mod alerts;
 mod begin;
 mod blank;
@@ -16,6 +17,7 @@ mod counts;
 mod crew;
 mod display;
 mod drawing;
+mod first_alerts;
 mod flags;
 mod flight;
 mod lane;

@@ -3,7 +3,7 @@ ghost use Rattle.std.specs.Prelude.{◌≡◌, ℕ, suc, List, [], true, false};
 ghost use Rattle.ecam_spec.specs.History.{Stroke, OneMore};
 ghost use Rattle.ecam_spec.specs.Keys.{IsKey};
 ghost use Rattle.ecam_spec.specs.declared.kinds.Key.TheVariants.{Rcl, All};
-ghost use Rattle.ecam_kinds.specs.KeyState.{KeysStand, is_held};
+ghost use Rattle.ecam_kinds.specs.KeyState.{KeysStand, is_held, is_pressed};
 ghost use Rattle.fwc_lane.specs.Strokes.{NonePressed};
 
 use ecam_kinds::{Key, Keys};
@@ -88,6 +88,16 @@ impl Strokes {
     {
         self.keys = other.keys;
         self.any = other.any;
+    }
+
+    /// Takes over which keys count as pressed in another moment. Where none does in this or in that, it changes nothing.
+    pub fn follow(&mut self, other: &Strokes)
+        ensures { (key : Key) → IsKey key
+            → is_pressed self.new key ≡ is_pressed other.now key }
+    {
+        if self.any || other.any {
+            self.copy_from(other);
+        }
     }
 
     /// The keys themselves.

@@ -42,7 +42,7 @@ pub struct Terms {
     pub watch: Watch,
     /// Per procedure line the alert that has it. Nothing changes it.
     pub line_alerts: Vec<u32>,
-    /// The keys as they were in the last moment.
+    /// The keys, of which is told which counted as pressed in the last moment.
     pub keys: Strokes,
     /// Computer 1 was up in the last moment.
     pub one_up: bool,

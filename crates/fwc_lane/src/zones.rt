@@ -121,38 +121,39 @@ pub fn has_status(book: &Book, scene: &Scene<'_>, turned: Turned, was: bool) -> 
     )
 }
 
-fn is_kept(first: bool, was: FlagCounts, counts: FlagCounts) -> bool
-    ensures { result ≡ true → (first ≡ false) × (counts ≡ was) }
+fn is_kept(first: bool, left: LeftCount, right: u32, status: bool, counts: &FlagCounts) -> bool
+    ensures { result ≡ true → (first ≡ false)
+        × (counts.now ≡ record { left = left; right = right; status = status }) }
 {
-    !first && counts == was
+    !first && left == counts.left && right == counts.right && status == counts.status
 }
 
-/// FL.
+/// FL. Notes what it tells of where that turned.
 pub fn draw_flags(
     first: bool,
-    was: FlagCounts,
-    counts: FlagCounts,
+    left: LeftCount,
+    right: u32,
+    status: bool,
+    counts: &mut FlagCounts,
     picture: &mut Picture,
     changed: &mut [bool; ROWS],
 )
     requires { IsWhole (tracked picture.old.rows changed.old) }
     ensures whole { IsWhole (tracked picture.new.rows changed.new) }
+    ensures counts { counts.new ≡ record { left = left; right = right; status = status } }
     ensures rows { (b : plain.Book) (m : ℕ → Moment) (k : ℕ) → first ≡ (k == 0)
-        → AreCounts b m k counts
-        → ((j : ℕ) → k ≡ suc j → FlagsStand b m j (rows_of picture.old.rows) was)
+        → AreCounts b m k (record { left = left; right = right; status = status })
+        → ((j : ℕ) → k ≡ suc j → FlagsStand b m j (rows_of picture.old.rows) counts.old)
         → Mends 14 (flag_rows_in b m k) (tracked picture.old.rows changed.old)
         (tracked picture.new.rows changed.new) }
 {
-    if is_kept(first, was, counts) {
+    if is_kept(first, left, right, status, counts) {
         return;
     }
-    fill_flags(
-        counts.left,
-        counts.right,
-        u32::from(counts.status),
-        picture,
-        changed,
-    );
+    counts.left = left;
+    counts.right = right;
+    counts.status = status;
+    fill_flags(left, right, u32::from(status), picture, changed);
 }
 
 fn is_dark(first: bool, turned: bool) -> bool

@@ -3,8 +3,6 @@ use Rattle.std.proofs.lemmas.Bool.{lt-ltb}
 use Rattle.ecam_spec.specs.BookTerms.{lines_of}
 use Rattle.ecam_spec.specs.Term.{holds}
 use Rattle.ecam_spec.specs.Situation.{words_in, value_in, phase_in, world}
-use Rattle.ecam_kinds.specs.declared.keys.Keys.{Keys}
-use Rattle.ecam_kinds.specs.KeyState.{is_pressed}
 use Rattle.ecam_spec.specs.Screen.{cockpit, line_stands}
 use Rattle.book_model.specs.Told.{TellsOf}
 use Rattle.book_model.specs.Sealed.{the_book}
@@ -33,7 +31,7 @@ returns-clause-fits c =
       selector = c.step_crew.ensures.selector;
       values = fits.values;
       short = fits.short;
-      terms = terms-with b terms terms.dues c.copy_from.new.self c.args.one_up c.args.two_up c.step_conditions-stepped.ensures.terms refl;
+      terms = terms-with b terms terms.dues c.follow.new.self c.args.one_up c.args.two_up c.step_conditions-stepped.ensures.terms refl;
       lines = c.step_conditions-stepped.ensures.lines ∙ fits.lines;
       memos = c.step_conditions-stepped.ensures.memos ∙ fits.memos;
       status_lines = fits.status_lines;
@@ -84,7 +82,7 @@ returns-clause-whole c = λ m visited begun.
     record {
       counted = add-one k;
       ticked = sym (lt-ltb 0 (suc k) (omega arith));
-      terms = terms-after b m k visited c.step_conditions-stepped.new.terms c.args.self.now.params c.args.self.now.keys c.copy_from.new.self c.args.one_up c.args.two_up (λ x at. ap (λ (q : Keys). is_pressed q x) c.copy_from.ensures) stepped.terms begun.came;
+      terms = terms-after b m k visited c.step_conditions-stepped.new.terms c.args.self.now.params c.args.self.now.keys c.follow.new.self c.args.one_up c.args.two_up c.follow.ensures stepped.terms begun.came;
       phases = stepped.phases;
       truths = stepped.truths;
       marks = crew.marks;
@@ -94,7 +92,7 @@ returns-clause-whole c = λ m visited begun.
       values = values-before b m k c.args.self.now.values.items begun.values;
       lines = of-last (λ j. TellsOf c.step_conditions-stepped.new.lines.items (lines_of b.alerts) (line_stands b m j)) k lines;
       memos = of-last (λ j. TellsOf c.step_conditions-stepped.new.memos.items b.memos (λ x. holds (world b m) x.when j)) k memos;
-      drawn = c.draw-self.ensures.drawn m k (record {
+      drawn = c.draw.ensures.drawn m k (record {
         phase = phase;
         values = λ p lt on. ap (λ vs. get_or vs p None) c.deref-2.ensures.value ∙ begun.values p lt on;
         lines = λ i l is. ap (λ fs. get_or fs i false) c.deref-3.ensures.value ∙ lines i l is;
@@ -105,7 +103,7 @@ returns-clause-whole c = λ m visited begun.
         attention = crew.lights;
         selector = crew.selection;
       }) turned begun.drawn;
-      changed = c.draw-self.ensures.changed m k (record {
+      changed = c.draw.ensures.changed m k (record {
         phase = phase;
         values = λ p lt on. ap (λ vs. get_or vs p None) c.deref-2.ensures.value ∙ begun.values p lt on;
         lines = λ i l is. ap (λ fs. get_or fs i false) c.deref-3.ensures.value ∙ lines i l is;

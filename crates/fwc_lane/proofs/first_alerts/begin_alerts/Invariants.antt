@@ -6,7 +6,7 @@ use Rattle.alert_truth.specs.TruthsState.{TruthsFit}
 use Rattle.fwc_lane.specs.Conditions.{AlertsHalf}
 use Rattle.fwc_lane.specs.Given.{Lends}
 use Rattle.fwc_lane.specs.TermsFit.{TermsFit}
-use Rattle.fwc_lane.proofs.alerts.begin_alerts.Given as goal
+use Rattle.fwc_lane.proofs.first_alerts.begin_alerts.Given as goal
 
 abbrev pub invariant-loop-alert : goal.invariant-loop-alert
 invariant-loop-alert l = record {

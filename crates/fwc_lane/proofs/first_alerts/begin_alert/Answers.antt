@@ -7,7 +7,7 @@ use Rattle.book_model.proofs.BookLimits.{sizes}
 use Rattle.book_model.proofs.ConditionPlaces.{own-place}
 use Rattle.book_model.proofs.ConditionNames.{own-names}
 use Rattle.fwc_lane.proofs.AlertSteps.{own-truth, own-stands, shows-before}
-use Rattle.fwc_lane.proofs.alerts.begin_alert.Goals as goal
+use Rattle.fwc_lane.proofs.first_alerts.begin_alert.Goals as goal
 
 pub slice_bounds-before-end : goal.slice_bounds-before-end
 slice_bounds-before-end c = omega (arith, length-take c.args.alert c.active.result.now, ap length c.active.ensures.value, c.requires.fits.active, many-alerts c.args.book.now, c.requires.alert)

@@ -1,7 +1,7 @@
 use Rattle.std.proofs.Common.{◌≡◌, ◌<◌, ◌≤◌, ◌+◌, length, ap, sym, subst, ◌∙◌, arith, add-one}
 use Rattle.book_model.specs.Sealed.{the_book}
 use Rattle.fwc_lane.specs.Conditions.{AlertsHalf}
-use Rattle.fwc_lane.proofs.alerts.begin_alerts.Goals as goal
+use Rattle.fwc_lane.proofs.first_alerts.begin_alerts.Goals as goal
 
 pub loop-alert-preserved : goal.loop-alert-preserved
 loop-alert-preserved c = record {

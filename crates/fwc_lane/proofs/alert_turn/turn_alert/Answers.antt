@@ -6,7 +6,7 @@ use Rattle.book_model.proofs.BookLists.{many-alerts}
 use Rattle.fwc_lane.proofs.Showing.{active-is}
 use Rattle.fwc_lane.proofs.AlertSteps.{was-active}
 use Rattle.fwc_lane.proofs.Known.{alert-known}
-use Rattle.fwc_lane.proofs.alerts.turn_alert.Goals as goal
+use Rattle.fwc_lane.proofs.alert_turn.turn_alert.Goals as goal
 
 pub bounds-active-alert : goal.bounds-active-alert
 bounds-active-alert c = omega (arith, ap length c.active.ensures.value, c.requires.fits.active, many-alerts c.args.book.now, c.requires.alert)
